@@ -1,8 +1,8 @@
 -- Laws of finite sums.
-use mathlib.Core.Path.{_≡_, refl, ap, sym, _∙_, subst}
+use mathlib.Core.Path.{_≡_, refl, ap, subst}
 use mathlib.Core.Bool.{Bool, true, false, cond}
 use Prim.Native.Nat.{ℕ, zero, suc, _+_, _-_, _*_, _≤_, _<_}
-use native.Mathlib.Nat.{zero-add, suc-add, le-of-suc-le-suc, le-step, le-refl, not-suc-le-zero, mul-le-mul-left, mul-le-mul-right, le-of-mul-le-mul-left}
+use native.Mathlib.Nat.{zero-add, suc-add, le-step, le-refl, not-suc-le-zero, mul-le-mul-left, le-of-mul-le-mul-left}
 use native.Mathlib.Omega.{arith}
 use lib.Dec.{eqb}
 use borrow.Author.Tests.{eqb-true, eqb-false, eq-eqb, ne-eqb}
@@ -90,3 +90,20 @@ unfolding count
 count-below n m p h =
     let q : (m - n) + n ≡ m = omega arith in
     subst (λ j. sum n (λ i. one-if (p i)) ≤ sum j (λ i. one-if (p i))) q (sum-upto (m - n) n (λ i. one-if (p i)))
+
+-- a sum from its first term
+pub sum-front : (k : ℕ) (f : ℕ → ℕ) → sum (suc k) f ≡ f 0 + sum k (λ i. f (suc i))
+unfolding sum
+sum-front zero f = omega arith
+sum-front (suc k) f = omega (arith, sum-front k f)
+
+-- indices past n that fail the test add nothing
+pub count-skip : (j n : ℕ) (p : ℕ → Bool) → ((i : ℕ) → n ≤ i → i < j + n → p i ≡ false) → count (j + n) p ≡ count n p
+unfolding count
+count-skip zero n p h = rw zero-add
+count-skip (suc j) n p h =
+    rw suc-add (omega (arith, sum-suc (j + n) (λ i. one-if (p i)), count-skip j n p (λ i l m. h i l (omega (arith, suc-add j n))), ap one-if (h (j + n) (omega arith) (omega (arith, suc-add j n)))))
+
+pub count-suc : (n : ℕ) (p : ℕ → Bool) → count (suc n) p ≡ count n p + one-if (p n)
+unfolding count
+count-suc n p = sum-suc n (λ i. one-if (p i))
