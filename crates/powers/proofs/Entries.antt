@@ -1,0 +1,57 @@
+-- What the table's entries say of powers.
+use mathlib.Core.Path.{_≡_, refl, ap, ap₂, _∙_, subst}
+use mathlib.Core.Bool.{Bool, true, false, cond}
+use mathlib.Core.List.{List, []}
+use Prim.Native.Nat.{ℕ, _+_, _-_, _*_, _^_, _≤_}
+use native.Mathlib.Nat.{le-trans, one-le-pow, lt-irrefl, pow-le-pow-left, pow-le-pow-right, sub-le}
+use native.Mathlib.Omega.{arith}
+use lib.Dec.{leb}
+use lib.ListN.{getD}
+use borrow.Author.Tests.{le-leb}
+use Rattle.finite.proofs.Tables.{getD-table}
+use Rattle.powers.specs.Power.{entry, row-of, grid, weight}
+
+-- a column of a row, and a place of the table
+pub row-at : (b e : ℕ) → e ≤ 32 → getD (row-of b) e 0 ≡ entry b e
+unfolding row-of
+row-at b e h = getD-table 33 (entry b) 0 e (omega arith)
+
+pub grid-at : (b e : ℕ) → 1 ≤ b → b ≤ 16 → e ≤ 32 → getD (getD grid (b - 1) []) e 0 ≡ entry b e
+unfolding grid
+grid-at b e p q h =
+    let s : b - 1 + 1 ≡ b = omega arith in
+    ap (λ (l : List ℕ). getD l e 0) (getD-table 16 (λ i. row-of (i + 1)) [] (b - 1) (omega arith) ∙ ap row-of s) ∙ row-at b e h
+
+-- an entry that is not above the limit is the power
+pub entry-is : (b e : ℕ) → b ^ e ≤ 4_294_967_296 → entry b e ≡ b ^ e
+unfolding entry
+entry-is b e h = rw (le-leb (b ^ e) 4_294_967_296 h)
+
+-- no true entry is 0, so an entry of 0 is above the limit
+pub entry-over : (b e : ℕ) → 1 ≤ b → entry b e ≡ 0 → leb (b ^ e) 4_294_967_296 ≡ false
+unfolding entry
+entry-over b e p h = go (leb (b ^ e) 4_294_967_296) h
+  where
+    go : (t : Bool) → cond t (b ^ e) 0 ≡ 0 → t ≡ false
+    go true z = absurd (lt-irrefl 0 (subst (λ (n : ℕ). 1 ≤ n) z (one-le-pow e b p)))
+    go false z = refl
+
+pub entry-under : (b e : ℕ) → (entry b e ≡ 0 → ⊥) → leb (b ^ e) 4_294_967_296 ≡ true
+unfolding entry
+entry-under b e h = go (leb (b ^ e) 4_294_967_296) h
+  where
+    go : (t : Bool) → (cond t (b ^ e) 0 ≡ 0 → ⊥) → t ≡ true
+    go true z = refl
+    go false z = absurd (z refl)
+
+module _ (k d a : ℕ) (wide : 1 ≤ d) (h : a ≤ k) (top : d ^ k ≤ 4_294_967_296) where
+  -- the two entries of which W(a) is the product
+  pub entry-up : entry d a ≡ d ^ a
+  entry-up = entry-is d a (le-trans (pow-le-pow-right wide h) top)
+
+  pub entry-down : entry (d - 1) (k - a) ≡ (d - 1) ^ (k - a)
+  entry-down = entry-is (d - 1) (k - a) (le-trans (pow-le-pow-left (sub-le d 1) (k - a)) (le-trans (pow-le-pow-right wide (sub-le k a)) top))
+
+  pub entry-weight : entry d a * entry (d - 1) (k - a) ≡ weight k d a
+  unfolding weight
+  entry-weight = ap₂ (λ (x y : ℕ). x * y) entry-up entry-down

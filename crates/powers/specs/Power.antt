@@ -1,0 +1,30 @@
+-- Powers as the table holds them, and the weights made of them, at depth k and width d.
+use mathlib.Core.Bool.{cond, _&&_}
+use mathlib.Core.List.{List}
+use Prim.Native.Nat.{ℕ, _+_, _-_, _*_, _^_}
+use lib.Dec.{leb}
+use Rattle.finite.specs.Finite.{table}
+
+-- an entry: the power, or 0 where the power is above 4,294,967,296
+unfoldable pub entry : ℕ → ℕ → ℕ
+entry base exponent = cond (leb (base ^ exponent) 4_294_967_296) (base ^ exponent) 0
+
+-- one column for each exponent from 0 to 32
+unfoldable pub row-of : ℕ → List ℕ
+row-of base = table 33 (entry base)
+
+-- one row for each width from 1 to 16
+unfoldable pub grid : List (List ℕ)
+grid = table 16 (λ i. row-of (i + 1))
+
+-- the entry for a width and an exponent, or 0 where the table has none
+unfoldable pub listed : ℕ → ℕ → ℕ
+listed width exponent = cond (leb 1 width && leb width 16 && leb exponent 32) (entry width exponent) 0
+
+-- W(a) = d^a × (d − 1)^(k − a); (d − 1)^0 is 1 also for d = 1
+unfoldable pub weight : (k d : ℕ) → ℕ → ℕ
+weight k d a = d ^ a * (d - 1) ^ (k - a)
+
+-- d^k − (d − 1)^k: what a finished turn claims for each cent of the price
+unfoldable pub share : (k d : ℕ) → ℕ
+share k d = d ^ k - (d - 1) ^ k
