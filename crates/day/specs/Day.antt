@@ -1,0 +1,95 @@
+-- The state: how its arrays hold the campaigns, and the states that the operations hand back. Only this file knows the layout.
+use mathlib.Core.Bool.{Bool, true, false, cond}
+use mathlib.Core.List.{List}
+use Prim.Native.Nat.{ℕ, _+_, _*_, _^_}
+use lib.Dec.{eqb}
+use lib.ListN.{getD}
+use Rattle.finite.specs.Finite.{sum, table}
+use Rattle.day.specs.declared.Campaign.{Campaign}
+use Rattle.day.specs.declared.Day.{Day}
+use Rattle.day.specs.declared.Phase.{Phase}
+use Rattle.day.specs.declared.Phase.the-variants.{Filling, Running, Closed}
+use Rattle.day.specs.declared.Plan.{Plan}
+use Rattle.day.specs.declared.Terms.{Terms}
+use Rattle.day.specs.Campaign.{fresh}
+use Rattle.day.specs.View.{takings, claims}
+
+-- campaign i of six arrays
+abbrev pub campaign-at : (prices budgets plays turns ages named : List ℕ) → ℕ → Campaign
+campaign-at p b l t a m i = record { price = getD p i 0; budget = getD b i 0; plays = getD l i 0; turns = getD t i 0; age = getD a i 0; named = getD m i 0 }
+
+abbrev pub campaign : Day → ℕ → Campaign
+campaign s i = campaign-at (s .prices) (s .budgets) (s .plays) (s .turns) (s .ages) (s .named) i
+
+-- the state that holds n campaigns, f i at entry i
+abbrev pub holding : Phase → Plan → (count accepted : ℕ) → (ℕ → Campaign) → Day
+holding p pl n a f = record {
+  phase = p;
+  plan = pl;
+  count = n;
+  accepted = a;
+  prices = table 64 (λ i. f i .price);
+  budgets = table 64 (λ i. f i .budget);
+  plays = table 64 (λ i. f i .plays);
+  turns = table 64 (λ i. f i .turns);
+  ages = table 64 (λ i. f i .age);
+  named = table 64 (λ i. f i .named);
+}
+
+-- the state s in another phase
+abbrev pub in-phase : Day → Phase → Day
+in-phase s p = record {
+  phase = p;
+  plan = s .plan;
+  count = s .count;
+  accepted = s .accepted;
+  prices = s .prices;
+  budgets = s .budgets;
+  plays = s .plays;
+  turns = s .turns;
+  ages = s .ages;
+  named = s .named;
+}
+
+-- an entry past the last is all zero
+abbrev pub no-terms : Terms
+no-terms = record { price = 0; budget = 0 }
+
+-- a plan with no campaigns and zero counts
+abbrev pub planned : Phase → Plan → Day
+planned p pl = holding p pl 0 0 (λ i. fresh no-terms)
+
+-- the blank state: Closed, depth 1, width 1, no campaigns, zero accepted views and zero takings
+abbrev pub blank-plan : Plan
+blank-plan = record { depth = 1; width = 1 }
+
+unfoldable pub blank : Day
+blank = planned (Closed 0) blank-plan
+
+-- d^k × an amount; full is d^k × takings
+abbrev pub full : Plan → ℕ → ℕ
+full pl t = pl .width ^ pl .depth * t
+
+unfoldable pub taken : Day → ℕ
+taken s = takings (s .plan) (s .count) (campaign s)
+
+unfoldable pub claimed : Day → ℕ
+claimed s = claims (s .plan) (s .count) (campaign s)
+
+unfoldable pub budgeted : Day → ℕ
+budgeted s = sum (s .count) (λ i. campaign s i .budget)
+
+abbrev pub is-filling : Phase → Bool
+is-filling Filling = true
+is-filling Running = false
+is-filling (Closed t) = false
+
+abbrev pub is-running : Phase → Bool
+is-running Filling = false
+is-running Running = true
+is-running (Closed t) = false
+
+abbrev pub is-closed : Phase → Bool
+is-closed Filling = false
+is-closed Running = false
+is-closed (Closed t) = true

@@ -1,0 +1,6 @@
+pub mod Choice
+pub mod Campaign
+pub mod View
+pub mod Day
+pub mod Sound
+pub mod Calls
