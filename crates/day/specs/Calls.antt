@@ -6,17 +6,17 @@ use lib.Dec.{leb, ltb, eqb}
 use Rattle.sets.specs.Set.{size, within}
 use Rattle.day.specs.declared.Answer.{Answer}
 use Rattle.day.specs.declared.Answer.the-variants.{Refused, Done, Played, Nobody, Tallied, Closing}
-use Rattle.day.specs.declared.Campaign.{Campaign}
+use Rattle.campaigns.specs.declared.Campaign.{Campaign}
 use Rattle.day.specs.declared.Day.{Day}
 use Rattle.day.specs.declared.Outcome.{Outcome}
-use Rattle.day.specs.declared.Phase.the-variants.{Filling, Running, Closed}
-use Rattle.day.specs.declared.Plan.{Plan}
-use Rattle.day.specs.declared.Terms.{Terms}
-use Rattle.day.specs.declared.View.{View}
-use Rattle.day.specs.Choice.{Choice}
-use Rattle.day.specs.Choice.Choice.{nobody, plays}
-use Rattle.day.specs.Campaign.{fresh}
-use Rattle.day.specs.View.{offer, chosen-of, viewed}
+use Rattle.campaigns.specs.declared.Phase.the-variants.{Filling, Running, Closed}
+use Rattle.campaigns.specs.declared.Plan.{Plan}
+use Rattle.campaigns.specs.declared.Terms.{Terms}
+use Rattle.campaigns.specs.declared.View.{View}
+use Rattle.campaigns.specs.Choice.{Choice}
+use Rattle.campaigns.specs.Choice.Choice.{nobody, plays}
+use Rattle.campaigns.specs.Campaign.{fresh}
+use Rattle.campaigns.specs.View.{offer, chosen-of, viewed}
 use Rattle.day.specs.Day.{campaign, holding, in-phase, planned, full, taken, claimed, budgeted, is-filling, is-running, is-closed}
 use Rattle.day.specs.Sound.{depth-fits, width-fits, power-fits, price-fits, budget-fits, sound}
 

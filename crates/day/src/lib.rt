@@ -1,38 +1,7 @@
 // The day's record: its state, and what is handed to and answered by the six operations.
 
-// What is handed to an opening.
-pub struct Plan {
-    pub depth: u64,
-    pub width: u64,
-}
-
-// What is handed to an adding.
-pub struct Terms {
-    pub price: u64,
-    pub budget: u64,
-}
-
-// What is handed to a view: bit i of the set stands for campaign i.
-pub struct View {
-    pub set: u64,
-}
-
-pub enum Phase {
-    Filling,
-    Running,
-    // with the final takings
-    Closed(u64),
-}
-
-// One campaign of the record, read out of the arrays.
-pub struct Campaign {
-    pub price: u64,
-    pub budget: u64,
-    pub plays: u64,
-    pub turns: u64,
-    pub age: u64,
-    pub named: u64,
-}
+use campaigns::Phase;
+use campaigns::Plan;
 
 // The state. Its campaigns stand in parallel arrays of small integers, lent one by one to the loops that read them.
 pub struct Day {

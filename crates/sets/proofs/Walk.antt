@@ -153,3 +153,7 @@ steps-count {set} {a} (step {r = r} {rs = rs} h l s) =
 pub members-count : (set : ℕ) → length (members set) ≡ size set
 unfolding count
 members-count set = omega (arith, steps-count (members-steps set), sum-zero (λ i. one-if (member set i)))
+
+-- what `next_from` answers
+pub next-at : (set a r : ℕ) → a ≤ 64 → r ≡ next set a → Next set a r
+next-at set a r h e = subst (λ (x : ℕ). Next set a x) (sym e) (next-is set a h)

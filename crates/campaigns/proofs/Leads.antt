@@ -1,0 +1,59 @@
+-- The choice as a walk: what one named campaign, and a stretch of unnamed ones, does to the leader.
+use mathlib.Core.Path.{_≡_, refl, ap, sym, _∙_}
+use mathlib.Core.Bool.{Bool, true, false, cond, not, _&&_, _||_}
+use Prim.Native.Nat.{ℕ, zero, suc, _+_, _≤_, _<_}
+use native.Mathlib.Numerals.{add-one}
+use native.Mathlib.Omega.{arith}
+use lib.Dec.{ltb}
+use borrow.Author.Tests.{ltb-true}
+use Rattle.finite.proofs.Tests.{stands, every-at}
+use Rattle.sets.specs.Set.{member, within}
+use Rattle.sets.proofs.Walk.{Next}
+use Rattle.campaigns.specs.declared.Campaign.{Campaign}
+use Rattle.campaigns.specs.declared.Plan.{Plan}
+use Rattle.campaigns.specs.declared.View.{View}
+use Rattle.campaigns.specs.declared.pass.Leader.{Leader}
+use Rattle.campaigns.specs.Choice.{Choice, best, against, ahead, choice}
+use Rattle.campaigns.specs.Choice.Choice.{nobody, plays}
+use Rattle.campaigns.specs.Campaign.{can-pay, score}
+use Rattle.campaigns.specs.View.{names, able, figure, chosen-of}
+use Rattle.campaigns.specs.Inner.{led, challenged, leader-of}
+
+-- an unnamed campaign changes no choice
+pub choice-unnamed : (pl : Plan) (w : View) (f : ℕ → Campaign) (j : ℕ) → names w j ≡ false → chosen-of (suc j) pl w f ≡ chosen-of j pl w f
+unfolding choice best
+choice-unnamed pl w f j e = rw e
+
+pub leader-gap : (pl : Plan) (w : View) (f : ℕ → Campaign) (a r : ℕ) → Next (w .set) a r → leader-of pl w f r ≡ leader-of pl w f a
+unfolding leader-of
+leader-gap pl w f a r n = stands (leader-of pl w f) a r (n .low) (λ j p q. ap (led (λ i. figure pl w i (f i))) (choice-unnamed pl w f j (n .gap j p q)))
+
+-- a named campaign challenges the leader
+meets : (x : ℕ → ℕ) (ch : Choice) (i : ℕ) → led x (against (ahead x) ch i) ≡ cond (not (led x ch .found) || ltb (led x ch .score) (x i)) (record { found = true; campaign = i; score = x i }) (led x ch)
+meets x nobody i = refl
+meets x (plays m) i = go (ltb (x m) (x i))
+  where
+    go : (b : Bool) → led x (cond b (plays i) (plays m)) ≡ cond b (record { found = true; campaign = i; score = x i }) (led x (plays m))
+    go true = refl
+    go false = refl
+
+tries : (x : ℕ → ℕ) (ch : Choice) (i : ℕ) (b : Bool) → led x (cond b (against (ahead x) ch i) ch) ≡ cond b (cond (not (led x ch .found) || ltb (led x ch .score) (x i)) (record { found = true; campaign = i; score = x i }) (led x ch)) (led x ch)
+tries x ch i true = meets x ch i
+tries x ch i false = refl
+
+leader-named : (pl : Plan) (w : View) (f : ℕ → Campaign) (i : ℕ) → names w i ≡ true → leader-of pl w f (suc i) ≡ challenged pl (leader-of pl w f i) i (f i)
+unfolding leader-of challenged choice best
+leader-named pl w f i e = rw e (tries (λ j. figure pl w j (f j)) (chosen-of i pl w f) i (can-pay (f i)))
+
+-- from one named campaign to the next
+pub leader-next : (pl : Plan) (w : View) (f : ℕ → Campaign) (i r : ℕ) → names w i ≡ true → Next (w .set) (i + 1) r → leader-of pl w f r ≡ challenged pl (leader-of pl w f i) i (f i)
+leader-next pl w f i r e n = leader-gap pl w f (i + 1) r n ∙ ap (leader-of pl w f) (add-one i) ∙ leader-named pl w f i e
+
+-- with every name below n, the choice among all 64 places is that among the first n
+pub choice-within : (pl : Plan) (w : View) (f : ℕ → Campaign) (n : ℕ) → n ≤ 64 → within n (w .set) ≡ true → chosen-of 64 pl w f ≡ chosen-of n pl w f
+unfolding within
+choice-within pl w f n h e = stands (λ m. chosen-of m pl w f) n 64 h (λ j p q. choice-unnamed pl w f j (outside j p (member (w .set) j) refl (every-at 64 (λ i. cond (member (w .set) i) (ltb i n) true) e j q)))
+  where
+    outside : (j : ℕ) → n ≤ j → (b : Bool) → member (w .set) j ≡ b → cond b (ltb j n) true ≡ true → b ≡ false
+    outside j p false t z = refl
+    outside j p true t z = absurd (omega (arith, ltb-true j n z))
