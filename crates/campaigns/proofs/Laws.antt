@@ -15,7 +15,7 @@ use Rattle.powers.proofs.Weight.{weight-most}
 use Rattle.campaigns.specs.declared.Campaign.{Campaign}
 use Rattle.campaigns.specs.declared.Phase.{Phase}
 use Rattle.campaigns.specs.declared.Plan.{Plan}
-use Rattle.campaigns.specs.Campaign.{whole, depth-fits, width-fits, power-fits, price-fits, budget-fits, sound-plan, priced, counted, untouched, sound-campaign}
+use Rattle.campaigns.specs.Campaign.{whole, spending, depth-fits, width-fits, power-fits, price-fits, budget-fits, sound-plan, priced, counted, untouched, sound-campaign}
 use Rattle.campaigns.specs.Inner.{Rows}
 
 -- n ≤ budget / price is price × n ≤ budget
@@ -81,3 +81,7 @@ price-least c e = leb-true 1 (c .price) (both-left (leb 1 (c .price)) (leb (c .p
 pub price-most : (c : Campaign) → priced c ≡ true → c .price ≤ 1_000_000
 unfolding priced
 price-most c e = leb-true (c .price) 1_000_000 (both-right (leb 1 (c .price)) (leb (c .price) 1_000_000) (both-left (price-fits (c .price)) (budget-fits (c .price) (c .budget)) e))
+
+pub spending-within : (c : Campaign) → 1 ≤ c .price → c .plays ≤ whole c → spending c ≤ c .budget
+unfolding whole
+spending-within c h l = whole-at-least (c .price) (c .budget) (c .plays) h .1 l

@@ -15,8 +15,8 @@ use Rattle.campaigns.specs.declared.View.{View}
 use Rattle.campaigns.specs.declared.pass.Leader.{Leader}
 use Rattle.campaigns.specs.Choice.{Choice, best, against, ahead, choice}
 use Rattle.campaigns.specs.Choice.Choice.{nobody, plays}
-use Rattle.campaigns.specs.Campaign.{can-pay, score}
-use Rattle.campaigns.specs.View.{names, able, figure, chosen-of}
+use Rattle.campaigns.specs.Campaign.{can-pay}
+use Rattle.campaigns.specs.View.{names, offer, figure, chosen-of}
 use Rattle.campaigns.specs.Inner.{led, challenged, leader-of}
 
 -- an unnamed campaign changes no choice
@@ -26,24 +26,28 @@ choice-unnamed pl w f j e = rw e
 
 pub leader-gap : (pl : Plan) (w : View) (f : ℕ → Campaign) (a r : ℕ) → Next (w .set) a r → leader-of pl w f r ≡ leader-of pl w f a
 unfolding leader-of
-leader-gap pl w f a r n = stands (leader-of pl w f) a r (n .low) (λ j p q. ap (led (λ i. figure pl w i (f i))) (choice-unnamed pl w f j (n .gap j p q)))
+leader-gap pl w f a r n = stands (leader-of pl w f) a r (n .low) (λ j p q. ap (led (λ i. figure pl w i (f i)) (λ i. offer pl w i (f i))) (choice-unnamed pl w f j (n .gap j p q)))
 
 -- a named campaign challenges the leader
-meets : (x : ℕ → ℕ) (ch : Choice) (i : ℕ) → led x (against (ahead x) ch i) ≡ cond (not (led x ch .found) || ltb (led x ch .score) (x i)) (record { found = true; campaign = i; score = x i }) (led x ch)
-meets x nobody i = refl
-meets x (plays m) i = go (ltb (x m) (x i))
-  where
-    go : (b : Bool) → led x (cond b (plays i) (plays m)) ≡ cond b (record { found = true; campaign = i; score = x i }) (led x (plays m))
-    go true = refl
-    go false = refl
+module _ (x o : ℕ → ℕ) (i : ℕ) where
+  abbrev lead : Leader
+  lead = record { found = true; campaign = i; paid = o i; score = x i }
 
-tries : (x : ℕ → ℕ) (ch : Choice) (i : ℕ) (b : Bool) → led x (cond b (against (ahead x) ch i) ch) ≡ cond b (cond (not (led x ch .found) || ltb (led x ch .score) (x i)) (record { found = true; campaign = i; score = x i }) (led x ch)) (led x ch)
-tries x ch i true = meets x ch i
-tries x ch i false = refl
+  meets : (ch : Choice) → led x o (against (ahead x) ch i) ≡ cond (not (led x o ch .found) || ltb (led x o ch .score) (x i)) lead (led x o ch)
+  meets nobody = refl
+  meets (plays m) = go (ltb (x m) (x i))
+    where
+      go : (b : Bool) → led x o (cond b (plays i) (plays m)) ≡ cond b lead (led x o (plays m))
+      go true = refl
+      go false = refl
+
+  tries : (ch : Choice) (b : Bool) → led x o (cond b (against (ahead x) ch i) ch) ≡ cond b (cond (not (led x o ch .found) || ltb (led x o ch .score) (x i)) lead (led x o ch)) (led x o ch)
+  tries ch true = meets ch
+  tries ch false = refl
 
 leader-named : (pl : Plan) (w : View) (f : ℕ → Campaign) (i : ℕ) → names w i ≡ true → leader-of pl w f (suc i) ≡ challenged pl (leader-of pl w f i) i (f i)
 unfolding leader-of challenged choice best
-leader-named pl w f i e = rw e (tries (λ j. figure pl w j (f j)) (chosen-of i pl w f) i (can-pay (f i)))
+leader-named pl w f i e = rw e (tries (λ j. figure pl w j (f j)) (λ j. offer pl w j (f j)) i (chosen-of i pl w f) (can-pay (f i)))
 
 -- from one named campaign to the next
 pub leader-next : (pl : Plan) (w : View) (f : ℕ → Campaign) (i r : ℕ) → names w i ≡ true → Next (w .set) (i + 1) r → leader-of pl w f r ≡ challenged pl (leader-of pl w f i) i (f i)

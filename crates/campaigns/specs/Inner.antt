@@ -16,7 +16,7 @@ use Rattle.campaigns.specs.declared.pass.Sums.{Sums}
 use Rattle.campaigns.specs.Choice.{Choice}
 use Rattle.campaigns.specs.Choice.Choice.{nobody, plays}
 use Rattle.campaigns.specs.Campaign.{can-pay, score, spending, sound-plan, priced, empty, sound-campaign}
-use Rattle.campaigns.specs.View.{names, figure, chosen-of}
+use Rattle.campaigns.specs.View.{names, offer, figure, chosen-of}
 
 -- campaign i of six arrays
 abbrev pub campaign-at : (prices budgets plays turns ages named : List ℕ) → ℕ → Campaign
@@ -90,17 +90,17 @@ unfoldable pub empty-from : ℕ → (ℕ → Campaign) → Bool
 empty-from n f = every 64 (λ i. cond (ltb i n) true (empty (f i)))
 
 -- a choice so far as a leader
-abbrev pub led : (ℕ → ℕ) → Choice → Leader
-led x nobody = record { found = false; campaign = 64; score = 0 }
-led x (plays m) = record { found = true; campaign = m; score = x m }
+abbrev pub led : (figure offer : ℕ → ℕ) → Choice → Leader
+led x o nobody = record { found = false; campaign = 64; paid = 0; score = 0 }
+led x o (plays m) = record { found = true; campaign = m; paid = o m; score = x m }
 
 unfoldable pub challenged : Plan → Leader → ℕ → Campaign → Leader
 challenged pl l i c =
-    cond (can-pay c) (cond (not (l .found) || ltb (l .score) (score (pl .depth) (pl .width) c)) (record { found = true; campaign = i; score = score (pl .depth) (pl .width) c }) l) l
+    cond (can-pay c) (cond (not (l .found) || ltb (l .score) (score (pl .depth) (pl .width) c)) (record { found = true; campaign = i; paid = c .price; score = score (pl .depth) (pl .width) c }) l) l
 
 -- the leader of the choice among the first n campaigns
 unfoldable pub leader-of : Plan → View → (ℕ → Campaign) → ℕ → Leader
-leader-of pl w f n = led (λ i. figure pl w i (f i)) (chosen-of n pl w f)
+leader-of pl w f n = led (λ i. figure pl w i (f i)) (λ i. offer pl w i (f i)) (chosen-of n pl w f)
 
 -- the named campaigns are priced and not past the depth
 pub record Ready (pl : Plan) (w : View) (f : ℕ → Campaign) : Type 0 where

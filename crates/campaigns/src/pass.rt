@@ -132,10 +132,12 @@ pub fn empty_from<'a>(
     no_terms_from(n, prices, budgets) & no_counts_from(n, plays, turns, ages, named)
 }
 
-// The campaign that leads a choice, with its score. A score of 0 can lead, so that nobody is told apart by a mark.
+// The campaign that leads a choice, what it would pay, and its score. A score of 0 can lead, so that nobody is told
+// apart by a mark.
 pub struct Leader {
     pub found: bool,
     pub campaign: u64,
+    pub paid: u64,
     pub score: u64,
 }
 
@@ -162,6 +164,7 @@ fn challenge<'a>(
         return Leader {
             found: true,
             campaign: at,
+            paid: c.price,
             score: score,
         };
     }
@@ -189,6 +192,7 @@ pub fn choose<'a>(
     let mut leader = Leader {
         found: false,
         campaign: 64,
+        paid: 0,
         score: 0,
     };
     let mut i = sets::next_from(set, 0);

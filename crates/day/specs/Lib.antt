@@ -1,3 +1,4 @@
 pub mod Day
 pub mod Sound
 pub mod Calls
+pub mod Inner

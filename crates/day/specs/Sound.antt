@@ -9,7 +9,7 @@ use Rattle.day.specs.declared.Day.{Day}
 use Rattle.campaigns.specs.declared.Phase.{Phase}
 use Rattle.campaigns.specs.declared.Phase.the-variants.{Filling, Running, Closed}
 use Rattle.campaigns.specs.declared.Plan.{Plan}
-use Rattle.campaigns.specs.Campaign.{whole}
+use Rattle.campaigns.specs.Campaign.{sound-plan, empty, sound-campaign}
 use Rattle.day.specs.Day.{campaign, full, taken, claimed, budgeted}
 
 -- an entry of the record: a sound campaign, or past the last all zero
