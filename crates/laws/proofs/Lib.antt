@@ -1,0 +1,5 @@
+pub mod Choice
+pub mod Potential
+pub mod OnePrice
+pub mod Laws
+pub mod Step
