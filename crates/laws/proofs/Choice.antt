@@ -2,7 +2,7 @@
 use mathlib.Core.Path.{_≡_, refl, ap, sym, _∙_, subst⁻¹}
 use mathlib.Core.Bool.{Bool, true, false, cond}
 use Prim.Native.Nat.{ℕ, zero, suc, _≤_, _<_}
-use native.Mathlib.Nat.{le-refl, le-step, not-suc-le-zero}
+use native.Mathlib.Nat.{le-refl, not-suc-le-zero}
 use native.Mathlib.Omega.{arith}
 use lib.Dec.{ltb, eqb}
 use borrow.Author.Tests.{ltb-true, ltb-false, lt-ltb, eqb-true, eqb-false}
@@ -14,7 +14,7 @@ use Rattle.day.specs.Choice.Choice.{nobody, plays}
 use Rattle.day.specs.View.{able, figure}
 use Rattle.day.specs.Day.{campaign}
 use Rattle.day.specs.Calls.{player}
-use Rattle.laws.specs.Choice.{Best, Right}
+use Rattle.laws.specs.Choice.{Right}
 
 -- a law on both sides of m and at m
 by-order : (P : ℕ → Type 0) (m i : ℕ) → (i < m → P i) → P m → (m < i → P i) → P i

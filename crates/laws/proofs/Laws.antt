@@ -1,9 +1,8 @@
 -- The laws of a campaign in a view on which soundness and the floor rest: they ask nothing else of a campaign.
-use mathlib.Core.Path.{_≡_, refl}
+use mathlib.Core.Path.{_≡_}
 use mathlib.Core.Bool.{Bool, cond, _&&_, true}
-use Prim.Native.Nat.{ℕ, _+_, _*_, _^_, _≤_, _<_}
+use Prim.Native.Nat.{ℕ, _+_, _^_, _<_}
 use native.Mathlib.Omega.{arith}
-use Rattle.powers.specs.Power.{share}
 use Rattle.day.specs.declared.Campaign.{Campaign}
 use Rattle.day.specs.declared.Plan.{Plan}
 use Rattle.day.specs.declared.Terms.{Terms}
