@@ -6,3 +6,4 @@ pub mod Step
 pub mod Holding
 pub mod SoundCampaign
 pub mod Sound
+pub mod Refusals
