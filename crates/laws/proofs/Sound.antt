@@ -4,13 +4,12 @@ use mathlib.Core.Bool.{Bool, true, false, cond}
 use mathlib.Core.List.{[], _∷_}
 use Prim.Native.Nat.{ℕ, suc, _+_, _≤_, _<_}
 use native.Mathlib.Nat.{le-trans, lt-of-lt-of-le, not-suc-le-zero}
-use native.Mathlib.Numerals.{add-one}
 use native.Mathlib.Omega.{arith}
 use lib.Dec.{leb, ltb, eqb}
-use borrow.Author.Tests.{eq-eqb, ne-eqb, ltb-true, ltb-false, lt-ltb, le-ltb, leb-true, le-leb}
+use borrow.Author.Tests.{eq-eqb, ltb-true, ltb-false, lt-ltb, le-ltb, leb-true, le-leb}
 use Rattle.finite.specs.Finite.{sum, count}
 use Rattle.finite.proofs.Tests.{never, both-left, both-right, all-parts, all-of, every-at, every-of, joint-parts, joint-of, one-more}
-use Rattle.finite.proofs.Sums.{sum-eq, sum-suc, sum-zero, count-below}
+use Rattle.finite.proofs.Sums.{sum-eq, sum-zero, count-below}
 use Rattle.sets.specs.Set.{member, size, within}
 use Rattle.day.specs.declared.Campaign.{Campaign}
 use Rattle.day.specs.declared.Day.{Day}
@@ -28,9 +27,9 @@ use Rattle.day.specs.Sound.{depth-fits, width-fits, power-fits, sound-plan, unc
 use Rattle.day.specs.Calls.{number, Call, width-holds, questions, result, joined, player, shown, call}
 use Rattle.day.specs.Calls.Call.{open-plan, add-campaign, start-day, show-view, ask-tally, close-day}
 use Rattle.day.proofs.Questions.{Yes, call-elim}
-use Rattle.laws.proofs.Laws.{Sized, claim-of, claim-fresh, spending-fresh}
+use Rattle.laws.proofs.Laws.{Sized, claim-of, claim-fresh}
 use Rattle.laws.proofs.Step.{able-few, takings-step, claims-step}
-use Rattle.laws.proofs.Holding.{campaign-holding, sum-holding}
+use Rattle.laws.proofs.Holding.{campaign-holding, sum-holding, joined-old, joined-new, sum-joined, takings-joined}
 use Rattle.laws.proofs.SoundCampaign.{Orderly, orderly, orderly-sound, becomes-sound, fresh-sound}
 
 -- soundness, taken apart
@@ -169,19 +168,6 @@ module _ (s : Day) (h : Sound-day s) where
   })
 
   module _ (t : Terms) where
-    joined-old : (i : ℕ) → (i ≡ s .count → ⊥) → joined s t i ≡ campaign s i
-    joined-old i e = rw (ne-eqb i (s .count) e)
-
-    joined-new : joined s t (s .count) ≡ fresh t
-    joined-new = rw (eq-eqb (s .count) (s .count) refl)
-
-    sum-joined : (g : Campaign → ℕ) → sum (s .count + 1) (λ i. g (joined s t i)) ≡ sum (s .count) (λ i. g (campaign s i)) + g (fresh t)
-    sum-joined g =
-        rw add-one (omega (arith, sum-suc (s .count) (λ i. g (joined s t i)), sum-eq (s .count) (λ i. g (joined s t i)) (λ i. g (campaign s i)) (λ i l. ap g (joined-old i (λ e. omega arith))), ap g joined-new))
-
-    takings-joined : takings (s .plan) (s .count + 1) (joined s t) ≡ takings (s .plan) (s .count) (campaign s)
-    takings-joined = omega (arith, sum-joined spending, spending-fresh t)
-
     sound-joined : Yes (questions s (add-campaign t)) → sound (holding Filling (s .plan) (s .count + 1) (s .accepted) (joined s t)) ≡ true
     unfolding budgeted
     sound-joined (e1, (e6, (e7, (e8, (e9, (e10, _)))))) =
@@ -193,13 +179,13 @@ module _ (s : Day) (h : Sound-day s) where
           few = omega arith;
           views = h .views;
           entry = λ i l. one-more (λ j. sound-campaign Filling (s .plan) (s .accepted) (joined s t j) ≡ true) (s .count)
-              (λ j m. rw (joined-old j (λ e. omega arith), ← f) (h .entry j m))
-              (rw joined-new (fresh-sound Filling (s .plan) (s .accepted) t (sized .deep) e8 e9))
+              (λ j m. rw (joined-old s t j (λ e. omega arith), ← f) (h .entry j m))
+              (rw (joined-new s t) (fresh-sound Filling (s .plan) (s .accepted) t (sized .deep) e8 e9))
               i (omega arith);
-          past = λ i l m. rw (joined-old i (λ e. omega arith)) (h .past i (omega arith) m);
-          budgets = omega (arith, sum-joined (λ c. c .budget), leb-true (sum (s .count) (λ i. campaign s i .budget) + t .budget) 2_000_000_000 e10);
+          past = λ i l m. rw (joined-old s t i (λ e. omega arith)) (h .past i (omega arith) m);
+          budgets = omega (arith, sum-joined s t (λ c. c .budget), leb-true (sum (s .count) (λ i. campaign s i .budget) + t .budget) 2_000_000_000 e10);
           phase-is = subst (λ (p : Phase). phase-holds p (s .accepted) (takings (s .plan) (s .count) (campaign s)) ≡ true) f (h .phase-is);
-          covered = omega (arith, h .covered, sum-joined (claim-of (s .plan)), claim-fresh (s .plan) sized t, ap (full (s .plan)) takings-joined);
+          covered = omega (arith, h .covered, sum-joined s t (claim-of (s .plan)), claim-fresh (s .plan) sized t, ap (full (s .plan)) (takings-joined s t));
         })
 
   module _ (w : View) where
