@@ -150,7 +150,7 @@ module _ (s : Day) (h : Sound-day s) where
   sized : Sized (s .plan)
   sized = sized-of (s .plan) (h .plan-sound)
 
-  campaign-orderly : (i : ℕ) → i < s .count → Orderly (s .phase) (s .plan) (s .accepted) (campaign s i)
+  pub campaign-orderly : (i : ℕ) → i < s .count → Orderly (s .phase) (s .plan) (s .accepted) (campaign s i)
   campaign-orderly i l = orderly (s .phase) (s .plan) (s .accepted) (campaign s i) (h .entry i l)
 
   -- another phase than Filling

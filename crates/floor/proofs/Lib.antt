@@ -1,0 +1,4 @@
+pub mod Trace
+pub mod Reach
+pub mod Allotment
+pub mod Floor
