@@ -28,13 +28,10 @@ use Rattle.laws.proofs.Sound.{Sound, Sound-day, sound-parts, sized-of, campaign
 use Rattle.floor.specs.History.{History, Starts, transcript, final, history}
 use Rattle.floor.specs.Allotment.{Allotment, takings-of, times}
 use Rattle.floor.specs.Floor.{trace, price-of, whole-of, falls-short, unstruck, Allotted, Covered, Floor, Demand-3}
+use Rattle.floor.specs.Due.{due, Dues, At-every-moment}
 use Rattle.floor.proofs.Trace.{Follows, turns-reach}
 use Rattle.floor.proofs.Reach.{Holds, Reached, reached}
 use Rattle.floor.proofs.Allotment.{double-count}
-
--- the plays that the day owes campaign i: its whole plays, or the full depths of the views that named it
-abbrev pub due : History → ℕ → ℕ
-due h i = min (whole-of h i) (trace h i .named / h .plan .depth)
 
 -- past the last campaign there is no price
 price-past : (h : History) (i : ℕ) → length (h .terms) ≤ i → price-of h i ≡ 0
@@ -122,5 +119,16 @@ module _ (s : Day) (h : History) (r : Reached s h) where
     held = λ x e. eqb-true x (taken s) (subst (λ (q : Phase). phase-holds q (s .accepted) (taken s) ≡ true) e (p .phase-is)) ∙ r .holds .paid-is;
   }
 
+  pub dues-of : Dues h s
+  dues-of = record {
+    named-is = λ i l. r .holds .follows i (omega (arith, r .holds .many)) .named-is;
+    turns-enough = λ i l. turns-of i (omega (arith, r .holds .many));
+    claims-enough = subst (λ (pl : Plan). share (pl .depth) (pl .width) * sum (length (h .terms)) (λ i. price-of h i * due h i) ≤ claimed s) (r .holds .plan-is) (rw (r .holds .many) claims-due);
+    claims-most = subst (λ (pl : Plan). claimed s ≤ full pl (h .paid)) (r .holds .plan-is) claims-full;
+  }
+
 pub demand-3 : Demand-3
 demand-3 s cs st = floor-of (final s cs) (history (transcript s cs)) (reached s cs st)
+
+pub at-every-moment : At-every-moment
+at-every-moment s cs st = dues-of (final s cs) (history (transcript s cs)) (reached s cs st)

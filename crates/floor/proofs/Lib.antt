@@ -2,3 +2,4 @@ pub mod Trace
 pub mod Reach
 pub mod Allotment
 pub mod Floor
+pub mod Tight

@@ -1,0 +1,48 @@
+-- The floor is met exactly, so no greater share holds of every day.
+use mathlib.Core.Path.{_≡_, refl, subst⁻¹}
+use mathlib.Core.Bool.{false, true}
+use mathlib.Core.List.{[], _∷_}
+use mathlib.Core.Logic.{_⊎_, inr}
+use Prim.Native.Nat.{ℕ, _≤_, _<_}
+use native.Mathlib.Nat.{le-refl, not-suc-le-zero}
+use native.Mathlib.Omega.{arith}
+use Rattle.finite.specs.Finite.{sum, count, every, table, total}
+use Rattle.finite.proofs.Tests.{one-more}
+use Rattle.sets.specs.Set.{member, size, within}
+use Rattle.powers.specs.Power.{weight, share}
+use Rattle.day.specs.Choice.{best, choice}
+use Rattle.day.specs.Campaign.{whole, claim}
+use Rattle.day.specs.View.{names}
+use Rattle.day.specs.Day.{blank, taken, claimed, budgeted}
+use Rattle.day.specs.Sound.{sound-plan, priced, counted, uncounted, empty, sound-campaign, sound}
+use Rattle.day.specs.Calls.{first-no, width-holds, call}
+use Rattle.floor.specs.History.{History, transcript, continued, history}
+use Rattle.floor.specs.Allotment.{times, view-at}
+use Rattle.floor.specs.Floor.{falls-short, whole-of}
+use Rattle.floor.specs.Tight.{Tight, tight-plan, tight-terms, tight-view, tight-calls, tight-allotment}
+
+abbrev day : History
+day = record { plan = tight-plan; terms = tight-terms ∷ tight-terms ∷ []; views = tight-view 3 ∷ tight-view 1 ∷ []; paid = 1 }
+
+day-is : history (transcript blank tight-calls) ≡ day
+unfolding transcript continued call first-no sound blank sum count every table within size member width-holds weight share whole claim taken claimed budgeted sound-plan priced counted uncounted empty sound-campaign best choice
+day-is = refl
+
+-- a fact at 0 and at 1 holds below 2
+below-two : (P : ℕ → Type 0) → P 0 → P 1 → (i : ℕ) → i < 2 → P i
+below-two P a b i l = one-more P 1 (one-more P 0 (λ j m. absurd (not-suc-le-zero m)) a) b i l
+
+day-tight : Tight day tight-allotment
+unfolding total whole member sum count share
+day-tight = record {
+  none-short = below-two (λ i. falls-short day i ≡ false) refl refl;
+  paying = le-refl 1;
+  allotted = record {
+    given = below-two (λ j. (tight-allotment j ≡ 64) ⊎ (names (view-at (day .views) j) (tight-allotment j) ≡ true)) (inr refl) (inr refl);
+    bought = below-two (λ i. times 2 tight-allotment i ≤ whole-of day i) (le-refl 1) (le-refl 1);
+  };
+  met = refl;
+}
+
+pub tight : Tight (history (transcript blank tight-calls)) tight-allotment
+tight = subst⁻¹ (λ (h : History). Tight h tight-allotment) day-is day-tight
