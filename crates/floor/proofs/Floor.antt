@@ -1,8 +1,7 @@
 -- Demand 3.
 use mathlib.Core.Path.{_≡_, refl, ap, sym, _∙_, subst}
 use mathlib.Core.Bool.{Bool, true, false, cond}
-use mathlib.Core.List.{List}
-use Prim.Native.Nat.{ℕ, _+_, _*_, _/_, min, _≤_, _<_}
+use Prim.Native.Nat.{ℕ, _*_, _/_, min, _≤_, _<_}
 use native.Mathlib.Nat.{le-trans, mul-le-mul-left, le-div-iff-mul-le}
 use native.Mathlib.Omega.{arith}
 use lib.Dec.{ltb}
@@ -11,26 +10,23 @@ use borrow.Author.Tests.{eqb-true, ltb-true, ltb-false}
 use Rattle.finite.specs.Finite.{sum}
 use Rattle.finite.proofs.Sums.{sum-le, sum-eq, sum-mul}
 use Rattle.powers.specs.Power.{share}
-use Rattle.day.specs.declared.Campaign.{Campaign}
 use Rattle.day.specs.declared.Day.{Day}
 use Rattle.day.specs.declared.Phase.{Phase}
-use Rattle.day.specs.declared.Phase.the-variants.{Closed}
 use Rattle.day.specs.declared.Plan.{Plan}
 use Rattle.day.specs.declared.Terms.{Terms}
-use Rattle.day.specs.Campaign.{whole, claim, fresh}
+use Rattle.day.specs.Campaign.{whole}
 use Rattle.day.specs.Day.{campaign, no-terms, full, taken, claimed}
-use Rattle.day.specs.Sound.{sound, phase-holds}
-use Rattle.day.specs.Calls.{Call}
+use Rattle.day.specs.Sound.{phase-holds}
 use Rattle.laws.proofs.OnePrice.{claim-turns}
 use Rattle.laws.proofs.Laws.{Sized, claim-of}
-use Rattle.laws.proofs.SoundCampaign.{Orderly}
-use Rattle.laws.proofs.Sound.{Sound, Sound-day, sound-parts, sized-of, campaign-orderly}
-use Rattle.floor.specs.History.{History, Starts, transcript, final, history}
-use Rattle.floor.specs.Allotment.{Allotment, takings-of, times}
+use Rattle.laws.proofs.Sound.{Sound-day, sound-parts, sized-of, campaign-orderly}
+use Rattle.laws.specs.Transcript.{transcript, final}
+use Rattle.floor.specs.History.{History, history}
+use Rattle.floor.specs.Allotment.{takings-of, times}
 use Rattle.floor.specs.Floor.{trace, price-of, whole-of, falls-short, unstruck, Allotted, Covered, Floor, Demand-3}
 use Rattle.floor.specs.Due.{due, Dues, At-every-moment}
-use Rattle.floor.proofs.Trace.{Follows, turns-reach}
-use Rattle.floor.proofs.Reach.{Holds, Reached, reached}
+use Rattle.floor.proofs.Trace.{turns-reach}
+use Rattle.floor.proofs.Reach.{Reached, reached}
 use Rattle.floor.proofs.Allotment.{double-count}
 
 -- past the last campaign there is no price

@@ -1,11 +1,10 @@
 -- What every list of calls keeps between its day and the state at its end.
-use mathlib.Core.Path.{_≡_, refl, ap, sym, _∙_, subst, subst⁻¹}
-use mathlib.Core.Bool.{Bool, true, false, cond}
+use mathlib.Core.Path.{_≡_, refl, ap, _∙_, subst}
+use mathlib.Core.Bool.{true, false}
 use mathlib.Core.List.{List, [], _∷_, _++_}
 use Prim.Native.Nat.{ℕ, suc, _+_, _≤_, _<_}
 use native.Mathlib.Nat.{lt-of-lt-of-le, not-suc-le-zero}
 use native.Mathlib.Omega.{arith}
-use lib.Dec.{eqb}
 use lib.ListN.{getD, length, length-append, List·getD-append}
 use lib.Seq.{getD-append-seam}
 use borrow.Author.Tests.{eqb-true, eq-eqb, ne-eqb, ltb-true}
@@ -15,7 +14,6 @@ use Rattle.finite.proofs.Sums.{sum-zero}
 use Rattle.finite.proofs.Tables.{total-snoc}
 use Rattle.day.specs.declared.Answer.{Answer}
 use Rattle.day.specs.declared.Answer.the-variants.{Done}
-use Rattle.day.specs.declared.Campaign.{Campaign}
 use Rattle.day.specs.declared.Day.{Day}
 use Rattle.day.specs.declared.Outcome.{Outcome}
 use Rattle.day.specs.declared.Phase.{Phase}
@@ -25,22 +23,22 @@ use Rattle.day.specs.declared.Terms.{Terms}
 use Rattle.day.specs.declared.View.{View}
 use Rattle.day.specs.Choice.{Choice, is, paid}
 use Rattle.day.specs.Choice.Choice.{nobody, plays}
-use Rattle.day.specs.Campaign.{spending, fresh}
+use Rattle.day.specs.Campaign.{spending}
 use Rattle.day.specs.View.{names}
-use Rattle.day.specs.Day.{campaign, holding, no-terms, planned, blank-plan, blank, taken, is-filling}
+use Rattle.day.specs.Day.{campaign, no-terms, planned, blank-plan, blank, taken, is-filling}
 use Rattle.day.specs.Sound.{sound}
 use Rattle.day.specs.Calls.{number, Call, questions, joined, player, offers, shown, told, result, call}
 use Rattle.day.specs.Calls.Call.{open-plan, add-campaign, start-day, show-view, ask-tally, close-day}
 use Rattle.day.proofs.Questions.{Yes, call-elim}
 use Rattle.laws.proofs.Step.{takings-step}
 use Rattle.laws.proofs.Holding.{campaign-holding, sum-holding, joined-old, joined-new, takings-joined}
-use Rattle.laws.proofs.SoundCampaign.{Orderly}
-use Rattle.laws.proofs.Sound.{Sound, Sound-day, sound-parts, campaign-orderly, blank-sound, sound-kept, opening-sound}
+use Rattle.laws.proofs.Sound.{Sound-day, sound-parts, campaign-orderly, blank-sound, sound-kept, opening-sound}
 use Rattle.laws.proofs.Refusals.{result-number}
-use Rattle.floor.specs.History.{Exchange, transcript, final, accepted, Starts, History, opening, paid-in, with-call, entered, continued, history}
+use Rattle.laws.specs.Transcript.{transcript, final}
+use Rattle.floor.specs.History.{accepted, Starts, History, opening, paid-in, with-call, entered, continued, history}
 use Rattle.floor.specs.History.Starts.{from-blank, from-opening}
 use Rattle.floor.specs.Floor.{trace}
-use Rattle.floor.proofs.Trace.{Follows, follows-fresh, noted, follows-view}
+use Rattle.floor.proofs.Trace.{Follows, follows-fresh, follows-view}
 
 -- the state s holds the day h
 pub record Holds (s : Day) (h : History) : Type 0 where

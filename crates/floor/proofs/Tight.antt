@@ -1,11 +1,10 @@
--- The floor is met exactly, so no greater share holds of every day.
+-- The floor is met exactly, so that at this depth and width no greater share holds of every day.
 use mathlib.Core.Path.{_≡_, refl, subst⁻¹}
 use mathlib.Core.Bool.{false, true}
 use mathlib.Core.List.{[], _∷_}
 use mathlib.Core.Logic.{_⊎_, inr}
 use Prim.Native.Nat.{ℕ, _≤_, _<_}
 use native.Mathlib.Nat.{le-refl, not-suc-le-zero}
-use native.Mathlib.Omega.{arith}
 use Rattle.finite.specs.Finite.{sum, count, every, table, total}
 use Rattle.finite.proofs.Tests.{one-more}
 use Rattle.sets.specs.Set.{member, size, within}
@@ -16,13 +15,14 @@ use Rattle.day.specs.View.{names}
 use Rattle.day.specs.Day.{blank, taken, claimed, budgeted}
 use Rattle.day.specs.Sound.{sound-plan, priced, counted, uncounted, empty, sound-campaign, sound}
 use Rattle.day.specs.Calls.{first-no, width-holds, call}
-use Rattle.floor.specs.History.{History, transcript, continued, history}
+use Rattle.laws.specs.Transcript.{transcript}
+use Rattle.floor.specs.History.{History, continued, history}
 use Rattle.floor.specs.Allotment.{times, view-at}
 use Rattle.floor.specs.Floor.{falls-short, whole-of}
-use Rattle.floor.specs.Tight.{Tight, tight-plan, tight-terms, tight-view, tight-calls, tight-allotment}
+use Rattle.floor.specs.Tight.{Tight, tight-calls, tight-allotment}
 
 abbrev day : History
-day = record { plan = tight-plan; terms = tight-terms ∷ tight-terms ∷ []; views = tight-view 3 ∷ tight-view 1 ∷ []; paid = 1 }
+day = record { plan = record { depth = 1; width = 2 }; terms = record { price = 1; budget = 1 } ∷ record { price = 1; budget = 1 } ∷ []; views = record { set = 3 } ∷ record { set = 1 } ∷ []; paid = 1 }
 
 day-is : history (transcript blank tight-calls) ≡ day
 unfolding transcript continued call first-no sound blank sum count every table within size member width-holds weight share whole claim taken claimed budgeted sound-plan priced counted uncounted empty sound-campaign best choice

@@ -1,5 +1,5 @@
 -- What a day keeps between a campaign and its trace, which soundness alone does not give.
-use mathlib.Core.Path.{_≡_, refl, ap, sym, _∙_}
+use mathlib.Core.Path.{_≡_, refl}
 use mathlib.Core.Bool.{Bool, true, false}
 use Prim.Native.Nat.{ℕ, _+_, _*_, _/_, min, _≤_, _<_}
 use native.Mathlib.Nat.{div-lt-iff-lt-mul}

@@ -8,7 +8,8 @@ use Rattle.powers.specs.Power.{share}
 use Rattle.day.specs.declared.Day.{Day}
 use Rattle.day.specs.Day.{campaign, full, claimed}
 use Rattle.day.specs.Calls.{Call}
-use Rattle.floor.specs.History.{History, Starts, transcript, final, history}
+use Rattle.laws.specs.Transcript.{transcript, final}
+use Rattle.floor.specs.History.{History, Starts, history}
 use Rattle.floor.specs.Floor.{trace, price-of, whole-of}
 
 -- the smaller of whole plays and named / depth, rounded down

@@ -1,6 +1,6 @@
 -- Demand 3: the floor under the takings of the day that any list of calls makes.
 use mathlib.Core.Path.{_≡_}
-use mathlib.Core.Bool.{Bool, true, false, cond}
+use mathlib.Core.Bool.{Bool, false, cond}
 use mathlib.Core.List.{List}
 use Prim.Native.Nat.{ℕ, _*_, _≤_, _<_}
 use lib.Dec.{ltb}
@@ -14,7 +14,8 @@ use Rattle.day.specs.Campaign.{whole, fresh}
 use Rattle.day.specs.View.{names}
 use Rattle.day.specs.Day.{no-terms, full, taken}
 use Rattle.day.specs.Calls.{Call}
-use Rattle.floor.specs.History.{History, Starts, transcript, final, history}
+use Rattle.laws.specs.Transcript.{transcript, final}
+use Rattle.floor.specs.History.{History, Starts, history}
 use Rattle.floor.specs.Allotment.{Allotment, takings-of}
 
 -- what was handed in about campaign i: its price and budget, and how many of the day's views named it, also after it is spent

@@ -12,22 +12,8 @@ use Rattle.day.specs.declared.Terms.{Terms}
 use Rattle.day.specs.declared.View.{View}
 use Rattle.day.specs.Day.{blank-plan, blank}
 use Rattle.day.specs.Calls.{number, Call, call}
+use Rattle.laws.specs.Transcript.{Exchange}
 use Rattle.day.specs.Calls.Call.{open-plan, add-campaign, start-day, show-view, ask-tally, close-day}
-
--- a call of the list and the answer to it
-pub record Exchange : Type 0 where
-  pub made : Call
-  pub answer : Answer
-
--- the list's exchanges: each call after the first is given the state that the call before handed back
-unfoldable pub transcript : Day → List Call → List Exchange
-transcript s [] = []
-transcript s (c ∷ cs) = record { made = c; answer = call s c .answer } ∷ transcript (call s c .day) cs
-
--- the state at the list's end
-unfoldable pub final : Day → List Call → Day
-final s [] = s
-final s (c ∷ cs) = final (call s c .day) cs
 
 -- a call is accepted when it isn't refused
 abbrev pub accepted : Answer → Bool

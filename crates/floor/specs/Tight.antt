@@ -6,12 +6,10 @@ use Prim.Native.Nat.{ℕ, _*_, _<_}
 use lib.Dec.{eqb}
 use lib.ListN.{length}
 use Rattle.powers.specs.Power.{share}
-use Rattle.day.specs.declared.Plan.{Plan}
-use Rattle.day.specs.declared.Terms.{Terms}
-use Rattle.day.specs.declared.View.{View}
 use Rattle.day.specs.Day.{full}
 use Rattle.day.specs.Calls.{Call}
-use Rattle.day.specs.Calls.Call.{open-plan, add-campaign, start-day, show-view}
+use Rattle.day.specs.Calls.Call.{start-day}
+use Rattle.laws.specs.Cases.{plan, campaign-of, view}
 use Rattle.floor.specs.History.{History}
 use Rattle.floor.specs.Allotment.{takings-of}
 use Rattle.floor.specs.Floor.{price-of, falls-short, Allotted}
@@ -23,17 +21,8 @@ pub record Tight (h : History) (to : ℕ → ℕ) : Type 0 where
   pub allotted : Allotted h to
   pub met : share (h .plan .depth) (h .plan .width) * takings-of (price-of h) (h .views) to ≡ full (h .plan) (h .paid)
 
-abbrev pub tight-plan : Plan
-tight-plan = record { depth = 1; width = 2 }
-
-abbrev pub tight-terms : Terms
-tight-terms = record { price = 1; budget = 1 }
-
-abbrev pub tight-view : ℕ → View
-tight-view set = record { set = set }
-
 abbrev pub tight-calls : List Call
-tight-calls = open-plan tight-plan ∷ add-campaign tight-terms ∷ add-campaign tight-terms ∷ start-day ∷ show-view (tight-view 3) ∷ show-view (tight-view 1) ∷ []
+tight-calls = plan 1 2 ∷ campaign-of 1 1 ∷ campaign-of 1 1 ∷ start-day ∷ view 3 ∷ view 1 ∷ []
 
 -- campaign 1 is given the first view, campaign 0 the second
 abbrev pub tight-allotment : ℕ → ℕ

@@ -7,3 +7,4 @@ pub mod Holding
 pub mod SoundCampaign
 pub mod Sound
 pub mod Refusals
+pub mod Cases
