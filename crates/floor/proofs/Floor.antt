@@ -1,6 +1,7 @@
 -- Demand 3.
 use mathlib.Core.Path.{_≡_, refl, ap, sym, _∙_, subst}
 use mathlib.Core.Bool.{Bool, true, false, cond}
+use mathlib.Core.List.{List}
 use Prim.Native.Nat.{ℕ, _*_, _/_, min, _≤_, _<_}
 use native.Mathlib.Nat.{le-trans, mul-le-mul-left, le-div-iff-mul-le}
 use native.Mathlib.Omega.{arith}
@@ -16,12 +17,12 @@ use Rattle.day.specs.declared.Plan.{Plan}
 use Rattle.day.specs.declared.Terms.{Terms}
 use Rattle.day.specs.Campaign.{whole}
 use Rattle.day.specs.Day.{campaign, no-terms, full, taken, claimed}
-use Rattle.day.specs.Sound.{phase-holds}
-use Rattle.laws.proofs.OnePrice.{claim-turns}
-use Rattle.laws.proofs.Laws.{Sized, claim-of}
+use Rattle.day.specs.Sound.{sound, phase-holds}
+use Rattle.day.specs.Calls.{Call}
+use Rattle.laws.proofs.Laws.{Sized, claim-of, claim-turns}
 use Rattle.laws.proofs.Sound.{Sound-day, sound-parts, sized-of, campaign-orderly}
 use Rattle.laws.specs.Transcript.{transcript, final}
-use Rattle.floor.specs.History.{History, history}
+use Rattle.floor.specs.History.{Starts, History, history}
 use Rattle.floor.specs.Allotment.{takings-of, times}
 use Rattle.floor.specs.Floor.{trace, price-of, whole-of, falls-short, unstruck, Allotted, Covered, Floor, Demand-3}
 use Rattle.floor.specs.Due.{due, Dues, At-every-moment}
@@ -88,7 +89,7 @@ module _ (s : Day) (h : History) (r : Reached s h) where
   claim-due i l =
       le-trans (mul-le-mul-left (share (s .plan .depth) (s .plan .width)) (mul-le-mul-left (price-of h i) (turns-of i l)))
       (subst (λ (x : ℕ). share (s .plan .depth) (s .plan .width) * (x * campaign s i .turns) ≤ claim-of (s .plan) (campaign s i)) (r .holds .follows i l .price-is)
-      (claim-turns (s .plan .depth) (s .plan .width) (sized .wide) (campaign s i) (omega (arith, campaign-orderly s p i l .young))))
+      (claim-turns (s .plan) sized (campaign s i) (campaign-orderly s p i l .young)))
 
   -- the total claim lies between the share of what is due and full
   claims-due : share (s .plan .depth) (s .plan .width) * sum (s .count) (λ i. price-of h i * due h i) ≤ claimed s
@@ -128,3 +129,7 @@ demand-3 s cs st = floor-of (final s cs) (history (transcript s cs)) (reached s 
 
 pub at-every-moment : At-every-moment
 at-every-moment s cs st = dues-of (final s cs) (history (transcript s cs)) (reached s cs st)
+
+-- the state at the end of a list is sound, so that no later call is refused with 1
+pub always-sound : (s : Day) (cs : List Call) → Starts s cs → sound (final s cs) ≡ true
+always-sound s cs st = reached s cs st .is-sound

@@ -2,6 +2,7 @@
 use mathlib.Core.Path.{_≡_, refl, ap, sym, _∙_}
 use mathlib.Core.Bool.{Bool, true, false, cond, _&&_}
 use Prim.Native.Nat.{ℕ, _+_, _-_, _*_, _^_, _≤_, _<_}
+use native.Mathlib.Nat.{mul-le-mul-left}
 use native.Mathlib.Omega.{arith}
 use lib.Dec.{eqb}
 use borrow.Author.Tests.{eqb-true}
@@ -32,10 +33,7 @@ module _ (k d : ℕ) (pos : 0 < d) where
 
   -- it is no less than what the finished turns claim
   pub claim-turns : (c : Campaign) → c .age ≤ k → share k d * (c .price * c .turns) ≤ claim k d c
-  claim-turns c h = omega (arith, claim-lifted c h, ap (λ x. c .price * x) (weight-rest c h))
-    where
-      weight-rest : (c : Campaign) → c .age ≤ k → weight k d (c .age) ≡ weight k d 0 + (weight k d (c .age) - weight k d 0)
-      weight-rest c h = omega (arith, weight-mono k d pos (c .age) h)
+  claim-turns c h = omega (arith, claim-lifted c h, mul-le-mul-left (c .price) (weight-mono k d pos (c .age) h))
 
   low : (c : Campaign) → c .age < k → weight k d (c .age) ≤ d ^ k
   low c h = weight-most k d pos (c .age) (omega arith)

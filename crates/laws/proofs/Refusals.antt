@@ -1,5 +1,5 @@
 -- A refusal gives the number of the first question that fails, and the unchanged state.
-use mathlib.Core.Path.{_≡_, refl}
+use mathlib.Core.Path.{_≡_, refl, sym, _∙_}
 use Prim.Native.Nat.{ℕ, zero, suc}
 use Rattle.day.specs.declared.Day.{Day}
 use Rattle.day.specs.declared.Answer.the-variants.{Refused}
@@ -37,3 +37,8 @@ refused-unchanged s c = go (first-no (questions s c))
     go : (n : ℕ) → (number (answered n s (result s c) .answer) ≡ 0 → ⊥) → (answered n s (result s c) .day ≡ s) × (answered n s (result s c) .answer ≡ Refused n)
     go zero r = absurd (r (result-number s c))
     go (suc n) r = (refl, refl)
+
+-- an accepted call hands back its result
+pub accepted-result : (s : Day) (c : Call) → number (call s c .answer) ≡ 0 → call s c ≡ result s c
+unfolding call
+accepted-result s c e = rw (sym (call-number s c) ∙ e)

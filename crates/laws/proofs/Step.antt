@@ -51,11 +51,11 @@ module _ (n : ℕ) (pl : Plan) (w : View) (f : ℕ → Campaign) where
   pub claims-step : Sized pl → ((i : ℕ) → i < n → Steady pl (f i)) → count n (able pl w f) ≤ pl .width → claims pl n (viewed n pl w f) ≤ claims pl n f + full pl (paid (λ i. offer pl w i (f i)) (chosen-of n pl w f))
   claims-step z steady few =
       let g : ℕ → ℕ = λ i. gain-of pl w i (role-in n pl w f i) (f i) in
-      let a : claims pl n (viewed n pl w f) ≡ claims pl n f + sum n g = sum-eq n (λ i. claim-of pl (viewed n pl w f i)) (λ i. claim-of pl (f i) + g i) (λ i l. claim-after pl z w i (f i) (steady i l) (role-in n pl w f i))
+      let a : claims pl n (viewed n pl w f) ≡ claims pl n f + sum n g = sum-eq n (λ i. claim-of pl (viewed n pl w f i)) (λ i. claim-of pl (f i) + g i) (λ i l. claim-after pl z (f i) (steady i l) w i (role-in n pl w f i))
       ∙ sum-add n (λ i. claim-of pl (f i)) g in
       omega (
         arith,
         a,
         gains (pl .width) (pl .width ^ pl .depth) n (able pl w f) (λ i. figure pl w i (f i)) (λ i. offer pl w i (f i)) g (z .wide) few (chosen-of n pl w f) right
-            (λ i l. gain-is pl z w i (f i) (steady i l) (names w i) (pays pl w i (f i)) (is (chosen-of n pl w f) i)),
+            (λ i l. gain-is pl z (f i) (steady i l) w i (names w i) (pays pl w i (f i)) (is (chosen-of n pl w f) i)),
       )
