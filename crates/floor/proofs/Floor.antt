@@ -72,23 +72,23 @@ module _ (s : Day) (h : History) (r : Reached s h) where
   sized = sized-of (s .plan) (p .plan-sound)
 
   depth-is : s .plan .depth ≡ h .plan .depth
-  depth-is = ap (λ (pl : Plan). pl .depth) (r .holds .plan-is)
+  depth-is = ap (λ (pl : Plan). pl .depth) (r .agrees .plan-is)
 
   whole-is : (i : ℕ) → i < s .count → whole (campaign s i) ≡ whole-of h i
   unfolding whole
-  whole-is i l = cc (r .holds .follows i l .price-is, r .holds .follows i l .budget-is)
+  whole-is i l = cc (r .agrees .follows i l .price-is, r .agrees .follows i l .budget-is)
 
   -- the turns of campaign i are no fewer than the plays due
   turns-of : (i : ℕ) → i < s .count → due h i ≤ campaign s i .turns
   turns-of i l =
       subst (λ (k : ℕ). min (whole-of h i) (trace h i .named / k) ≤ campaign s i .turns) depth-is
       (subst (λ (x : ℕ). min x (trace h i .named / s .plan .depth) ≤ campaign s i .turns) (whole-is i l)
-      (turns-reach (s .phase) (s .plan) (s .accepted) (trace h i) (campaign s i) (campaign-orderly s p i l) (r .holds .follows i l)))
+      (turns-reach (s .phase) (s .plan) (s .accepted) (trace h i) (campaign s i) (campaign-orderly s p i l) (r .agrees .follows i l)))
 
   claim-due : (i : ℕ) → i < s .count → share (s .plan .depth) (s .plan .width) * (price-of h i * due h i) ≤ claim-of (s .plan) (campaign s i)
   claim-due i l =
       le-trans (mul-le-mul-left (share (s .plan .depth) (s .plan .width)) (mul-le-mul-left (price-of h i) (turns-of i l)))
-      (subst (λ (x : ℕ). share (s .plan .depth) (s .plan .width) * (x * campaign s i .turns) ≤ claim-of (s .plan) (campaign s i)) (r .holds .follows i l .price-is)
+      (subst (λ (x : ℕ). share (s .plan .depth) (s .plan .width) * (x * campaign s i .turns) ≤ claim-of (s .plan) (campaign s i)) (r .agrees .follows i l .price-is)
       (claim-turns (s .plan) sized (campaign s i) (campaign-orderly s p i l .young)))
 
   -- the total claim lies between the share of what is due and full
@@ -99,12 +99,12 @@ module _ (s : Day) (h : History) (r : Reached s h) where
 
   claims-full : claimed s ≤ full (s .plan) (h .paid)
   unfolding claimed taken
-  claims-full = subst (λ (x : ℕ). claimed s ≤ full (s .plan) x) (r .holds .paid-is) (p .covered)
+  claims-full = subst (λ (x : ℕ). claimed s ≤ full (s .plan) x) (r .agrees .paid-is) (p .covered)
 
   covers : (to : ℕ → ℕ) → Allotted h to → Covered h (takings-of (unstruck h) (h .views) to)
   covers to al =
-      subst (λ (pl : Plan). share (pl .depth) (pl .width) * takings-of (unstruck h) (h .views) to ≤ full pl (h .paid)) (r .holds .plan-is)
-      (le-trans (mul-le-mul-left (share (s .plan .depth) (s .plan .width)) (subst (λ (n : ℕ). takings-of (unstruck h) (h .views) to ≤ sum n (λ i. price-of h i * due h i)) (r .holds .many) (due-enough h (omega (arith, sized .deep, depth-is)) to al)))
+      subst (λ (pl : Plan). share (pl .depth) (pl .width) * takings-of (unstruck h) (h .views) to ≤ full pl (h .paid)) (r .agrees .plan-is)
+      (le-trans (mul-le-mul-left (share (s .plan .depth) (s .plan .width)) (subst (λ (n : ℕ). takings-of (unstruck h) (h .views) to ≤ sum n (λ i. price-of h i * due h i)) (r .agrees .many) (due-enough h (omega (arith, sized .deep, depth-is)) to al)))
       (le-trans claims-due claims-full))
 
   pub floor-of : Floor h s
@@ -112,16 +112,16 @@ module _ (s : Day) (h : History) (r : Reached s h) where
   floor-of = record {
     floor = λ none to al. subst (λ (x : ℕ). Covered h x) (sum-eq (length (h .views)) (λ j. unstruck h (to j)) (λ j. price-of h (to j)) (λ j l. none-struck h none (to j))) (covers to al);
     struck = covers;
-    shown = r .holds .paid-is;
-    held = λ x e. eqb-true x (taken s) (subst (λ (q : Phase). phase-holds q (s .accepted) (taken s) ≡ true) e (p .phase-is)) ∙ r .holds .paid-is;
+    shown = r .agrees .paid-is;
+    held = λ x e. eqb-true x (taken s) (subst (λ (q : Phase). phase-holds q (s .accepted) (taken s) ≡ true) e (p .phase-is)) ∙ r .agrees .paid-is;
   }
 
   pub dues-of : Dues h s
   dues-of = record {
-    named-is = λ i l. r .holds .follows i (omega (arith, r .holds .many)) .named-is;
-    turns-enough = λ i l. turns-of i (omega (arith, r .holds .many));
-    claims-enough = subst (λ (pl : Plan). share (pl .depth) (pl .width) * sum (length (h .terms)) (λ i. price-of h i * due h i) ≤ claimed s) (r .holds .plan-is) (rw (r .holds .many) claims-due);
-    claims-most = subst (λ (pl : Plan). claimed s ≤ full pl (h .paid)) (r .holds .plan-is) claims-full;
+    named-is = λ i l. r .agrees .follows i (omega (arith, r .agrees .many)) .named-is;
+    turns-enough = λ i l. turns-of i (omega (arith, r .agrees .many));
+    claims-enough = subst (λ (pl : Plan). share (pl .depth) (pl .width) * sum (length (h .terms)) (λ i. price-of h i * due h i) ≤ claimed s) (r .agrees .plan-is) (rw (r .agrees .many) claims-due);
+    claims-most = subst (λ (pl : Plan). claimed s ≤ full pl (h .paid)) (r .agrees .plan-is) claims-full;
   }
 
 pub demand-3 : Demand-3

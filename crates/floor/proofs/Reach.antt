@@ -40,21 +40,21 @@ use Rattle.floor.specs.History.Starts.{from-blank, from-opening}
 use Rattle.floor.specs.Floor.{trace}
 use Rattle.floor.proofs.Trace.{Follows, follows-fresh, follows-view}
 
--- the state s holds the day h
-pub record Holds (s : Day) (h : History) : Type 0 where
+-- the state s agrees with the day h
+pub record Agrees (s : Day) (h : History) : Type 0 where
   pub plan-is : s .plan ≡ h .plan
   pub many : length (h .terms) ≡ s .count
   pub follows : (i : ℕ) → i < s .count → Follows (s .plan) (trace h i) (campaign s i)
   pub paid-is : taken s ≡ h .paid
   pub unviewed : is-filling (s .phase) ≡ true → h .views ≡ []
 
-holds-opening : (p : Phase) (pl : Plan) → Holds (planned p pl) (opening pl)
+agrees-opening : (p : Phase) (pl : Plan) → Agrees (planned p pl) (opening pl)
 unfolding taken
-holds-opening p pl = record { plan-is = refl; many = refl; follows = λ i l. absurd (not-suc-le-zero l); paid-is = sum-zero _; unviewed = λ _. refl }
+agrees-opening p pl = record { plan-is = refl; many = refl; follows = λ i l. absurd (not-suc-le-zero l); paid-is = sum-zero _; unviewed = λ _. refl }
 
-holds-blank : Holds blank (opening blank-plan)
+agrees-blank : Agrees blank (opening blank-plan)
 unfolding blank
-holds-blank = holds-opening (Closed 0) blank-plan
+agrees-blank = agrees-opening (Closed 0) blank-plan
 
 -- a list one longer
 snoc-last : (xs : List Terms) (x : Terms) (n : ℕ) → length xs ≡ n → getD (xs ++ (x ∷ [])) n no-terms ≡ x
@@ -62,13 +62,13 @@ snoc-last xs x n e = subst (λ (m : ℕ). getD (xs ++ (x ∷ [])) m no-terms ≡
 
 -- what the day becomes by an outcome
 abbrev Keeps : History → Call → Outcome → Type 0
-Keeps h c o = Holds (o .day) (entered h (record { made = c; answer = o .answer }))
+Keeps h c o = Agrees (o .day) (entered h (record { made = c; answer = o .answer }))
 
 told-paid : (x : ℕ → ℕ) (ch : Choice) → paid-in (told x ch) ≡ paid x ch
 told-paid x nobody = refl
 told-paid x (plays m) = refl
 
-module _ (s : Day) (h : History) (e : sound s ≡ true) (k : Holds s h) where
+module _ (s : Day) (h : History) (e : sound s ≡ true) (k : Agrees s h) where
   p : Sound-day s
   p = sound-parts s e
 
@@ -76,9 +76,9 @@ module _ (s : Day) (h : History) (e : sound s ≡ true) (k : Holds s h) where
     more : History
     more = with-call h (add-campaign t) Done
 
-    holds-add : Holds (result s (add-campaign t) .day) more
+    agrees-add : Agrees (result s (add-campaign t) .day) more
     unfolding more taken total
-    holds-add =
+    agrees-add =
         let room : s .count < 64 = ltb-true (s .count) 64 (y .1 .1 .0) in
         let few : s .count + 1 ≤ 64 = omega arith in
         record {
@@ -96,9 +96,9 @@ module _ (s : Day) (h : History) (e : sound s ≡ true) (k : Holds s h) where
         new = rw (snoc-last (h .terms) t (s .count) (k .many), joined-new s t, k .unviewed (y .1 .0)) (follows-fresh (s .plan) t)
 
   module _ (w : View) where
-    holds-view : (a : Answer) → paid-in a ≡ paid (offers s w) (player s w) → Holds (result s (show-view w) .day) (with-call h (show-view w) a)
+    agrees-view : (a : Answer) → paid-in a ≡ paid (offers s w) (player s w) → Agrees (result s (show-view w) .day) (with-call h (show-view w) a)
     unfolding taken
-    holds-view a q = record {
+    agrees-view a q = record {
       plan-is = k .plan-is;
       many = k .many;
       follows = λ i l. rw (campaign-holding Running (s .plan) (s .count) (s .accepted + 1) (shown s w) i (lt-of-lt-of-le l (p .few)), total-snoc (λ (v : View). one-if (names v i)) (h .views) w)
@@ -107,12 +107,12 @@ module _ (s : Day) (h : History) (e : sound s ≡ true) (k : Holds s h) where
       unviewed = λ z. absurd (never false refl z);
     }
 
-  keeps-result : (c : Call) → Yes (questions s c) → Holds (result s c .day) (with-call h c (result s c .answer))
+  keeps-result : (c : Call) → Yes (questions s c) → Agrees (result s c .day) (with-call h c (result s c .answer))
   unfolding more taken
-  keeps-result (open-plan pl) y = holds-opening Filling pl
-  keeps-result (add-campaign t) y = holds-add t y
+  keeps-result (open-plan pl) y = agrees-opening Filling pl
+  keeps-result (add-campaign t) y = agrees-add t y
   keeps-result start-day y = record { plan-is = k .plan-is; many = k .many; follows = k .follows; paid-is = k .paid-is; unviewed = λ z. absurd (never false refl z) }
-  keeps-result (show-view w) y = holds-view w (told (offers s w) (player s w)) (told-paid (offers s w) (player s w))
+  keeps-result (show-view w) y = agrees-view w (told (offers s w) (player s w)) (told-paid (offers s w) (player s w))
   keeps-result (ask-tally i) y = k
   keeps-result close-day y = record { plan-is = k .plan-is; many = k .many; follows = k .follows; paid-is = k .paid-is; unviewed = λ z. absurd (never false refl z) }
 
@@ -121,22 +121,22 @@ module _ (s : Day) (h : History) (e : sound s ≡ true) (k : Holds s h) where
 
 pub record Reached (s : Day) (h : History) : Type 0 where
   pub is-sound : sound s ≡ true
-  pub holds : Holds s h
+  pub agrees : Agrees s h
 
 reach : (cs : List Call) (s : Day) (h : History) → Reached s h → Reached (final s cs) (continued h (transcript s cs))
 unfolding final transcript continued
 reach [] s h r = r
-reach (c ∷ cs) s h r = reach cs (call s c .day) (entered h (record { made = c; answer = call s c .answer })) (record { is-sound = sound-kept s c (r .is-sound); holds = keeps s h (r .is-sound) (r .holds) c })
+reach (c ∷ cs) s h r = reach cs (call s c .day) (entered h (record { made = c; answer = call s c .answer })) (record { is-sound = sound-kept s c (r .is-sound); agrees = keeps s h (r .is-sound) (r .agrees) c })
 
 -- an accepted opening, from any state
 reach-opening : (s : Day) (pl : Plan) → accepted (call s (open-plan pl) .answer) ≡ true → Reached (call s (open-plan pl) .day) (entered (opening blank-plan) (record { made = open-plan pl; answer = call s (open-plan pl) .answer }))
 reach-opening s pl e = record {
   is-sound = opening-sound s pl (eqb-true (number (call s (open-plan pl) .answer)) 0 e);
-  holds = call-elim (λ (o : Outcome). accepted (o .answer) ≡ true → Keeps (opening blank-plan) (open-plan pl) o) s (open-plan pl) (λ q z. absurd (omega (arith, eqb-true (suc q) 0 z))) (λ y z. holds-opening Filling pl) e;
+  agrees = call-elim (λ (o : Outcome). accepted (o .answer) ≡ true → Keeps (opening blank-plan) (open-plan pl) o) s (open-plan pl) (λ q z. absurd (omega (arith, eqb-true (suc q) 0 z))) (λ y z. agrees-opening Filling pl) e;
 }
 
 -- what holds at the end of every list
 pub reached : (s : Day) (cs : List Call) → Starts s cs → Reached (final s cs) (history (transcript s cs))
 unfolding final transcript continued
-reached _ _ (from-blank cs) = reach cs blank (opening blank-plan) (record { is-sound = blank-sound; holds = holds-blank })
+reached _ _ (from-blank cs) = reach cs blank (opening blank-plan) (record { is-sound = blank-sound; agrees = agrees-blank })
 reached _ _ (from-opening s pl cs e) = reach cs (call s (open-plan pl) .day) (entered (opening blank-plan) (record { made = open-plan pl; answer = call s (open-plan pl) .answer })) (reach-opening s pl e)

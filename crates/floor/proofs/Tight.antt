@@ -17,9 +17,10 @@ use Rattle.day.specs.Sound.{sound-plan, priced, counted, uncounted, empty, soun
 use Rattle.day.specs.Calls.{first-no, width-holds, call}
 use Rattle.laws.specs.Transcript.{transcript}
 use Rattle.floor.specs.History.{History, continued, history}
+use Rattle.floor.specs.History.Starts.{from-blank}
 use Rattle.floor.specs.Allotment.{times, view-at}
 use Rattle.floor.specs.Floor.{falls-short, whole-of}
-use Rattle.floor.specs.Tight.{Tight, tight-calls, tight-allotment}
+use Rattle.floor.specs.Tight.{Met, Tight, tight-calls, tight-allotment}
 
 abbrev day : History
 day = record { plan = record { depth = 1; width = 2 }; terms = record { price = 1; budget = 1 } ∷ record { price = 1; budget = 1 } ∷ []; views = record { set = 3 } ∷ record { set = 1 } ∷ []; paid = 1 }
@@ -32,17 +33,17 @@ day-is = refl
 below-two : (P : ℕ → Type 0) → P 0 → P 1 → (i : ℕ) → i < 2 → P i
 below-two P a b i l = one-more P 1 (one-more P 0 (λ j m. absurd (not-suc-le-zero m)) a) b i l
 
-day-tight : Tight day tight-allotment
+day-met : Met day tight-allotment
 unfolding total whole member sum count share
-day-tight = record {
+day-met = record {
   none-short = below-two (λ i. falls-short day i ≡ false) refl refl;
   paying = le-refl 1;
   allotted = record {
     given = below-two (λ j. (tight-allotment j ≡ 64) ⊎ (names (view-at (day .views) j) (tight-allotment j) ≡ true)) (inr refl) (inr refl);
     bought = below-two (λ i. times 2 tight-allotment i ≤ whole-of day i) (le-refl 1) (le-refl 1);
   };
-  met = refl;
+  equal = refl;
 }
 
-pub tight : Tight (history (transcript blank tight-calls)) tight-allotment
-tight = subst⁻¹ (λ (h : History). Tight h tight-allotment) day-is day-tight
+pub tight : Tight
+tight = (from-blank tight-calls, subst⁻¹ (λ (h : History). Met h tight-allotment) day-is day-met)

@@ -26,6 +26,6 @@ pub record Allotment (n : ℕ) (whole : ℕ → ℕ) (vs : List View) (to : ℕ 
   pub given : (j : ℕ) → j < length vs → (to j ≡ 64) ⊎ (names (view-at vs j) (to j) ≡ true)
   pub bought : (i : ℕ) → i < n → times (length vs) to i ≤ whole i
 
--- its takings: the prices so given
+-- its takings: the prices so given. There are at most 64 campaigns, so that nobody, 64, has no price
 abbrev pub takings-of : (price : ℕ → ℕ) → List View → (ℕ → ℕ) → ℕ
 takings-of price vs to = sum (length vs) (λ j. price (to j))

@@ -15,7 +15,7 @@ use Rattle.day.specs.Calls.{number, Call, call}
 use Rattle.laws.specs.Transcript.{Exchange}
 use Rattle.day.specs.Calls.Call.{open-plan, add-campaign, start-day, show-view, ask-tally, close-day}
 
--- a call is accepted when it isn't refused
+-- a call is accepted when it isn't refused: its answer has no question's number
 abbrev pub accepted : Answer → Bool
 accepted a = eqb (number a) 0
 
