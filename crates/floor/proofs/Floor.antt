@@ -57,7 +57,7 @@ module _ (h : History) (deep : 0 < h .plan .depth) (to : ℕ → ℕ) (al : Allo
       go : (b : Bool) → falls-short h i ≡ b → cond b 0 (price-of h i) * times (length (h .views)) to i ≤ price-of h i * due h i
       go true e = omega arith
       go false e =
-          let w : whole-of h i * h .plan .depth ≤ trace h i .named = omega (arith, ltb-false (trace h i .named) (h .plan .depth * whole-of h i) e) in
+          let w : whole-of h i * h .plan .depth ≤ trace h i .named = omega (arith, ltb-false) in
           mul-le-mul-left (price-of h i) (omega (arith, le-div-iff-mul-le deep .1 w, al .bought i l))
 
   due-enough : takings-of (unstruck h) (h .views) to ≤ sum (length (h .terms)) (λ i. price-of h i * due h i)

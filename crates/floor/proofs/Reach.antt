@@ -13,7 +13,7 @@ use Rattle.finite.proofs.Tests.{never, one-more}
 use Rattle.finite.proofs.Sums.{sum-zero}
 use Rattle.finite.proofs.Tables.{total-snoc}
 use Rattle.day.specs.declared.Answer.{Answer}
-use Rattle.day.specs.declared.Answer.the-variants.{Done}
+use Rattle.day.specs.declared.Answer.the-variants.{Refused, Done}
 use Rattle.day.specs.declared.Day.{Day}
 use Rattle.day.specs.declared.Outcome.{Outcome}
 use Rattle.day.specs.declared.Phase.{Phase}
@@ -63,6 +63,9 @@ snoc-last xs x n e = subst (λ (m : ℕ). getD (xs ++ (x ∷ [])) m no-terms ≡
 -- what the day becomes by an outcome
 abbrev Keeps : History → Call → Outcome → Type 0
 Keeps h c o = Agrees (o .day) (entered h (record { made = c; answer = o .answer }))
+
+refused-not : (q : ℕ) → accepted (Refused (suc q)) ≡ false
+refused-not q = ne-eqb (suc q) 0 (λ z. omega arith)
 
 told-paid : (x : ℕ → ℕ) (ch : Choice) → paid-in (told x ch) ≡ paid x ch
 told-paid x nobody = refl
@@ -117,7 +120,7 @@ module _ (s : Day) (h : History) (e : sound s ≡ true) (k : Agrees s h) where
   keeps-result close-day y = record { plan-is = k .plan-is; many = k .many; follows = k .follows; paid-is = k .paid-is; unviewed = λ z. absurd (never false refl z) }
 
   keeps : (c : Call) → Keeps h c (call s c)
-  keeps c = call-elim (Keeps h c) s c (λ q. rw (ne-eqb (suc q) 0 (λ z. omega arith)) k) (λ y. rw (eq-eqb (number (result s c .answer)) 0 (result-number s c)) (keeps-result c y))
+  keeps c = call-elim (Keeps h c) s c (λ q. rw (refused-not q) k) (λ y. rw (eq-eqb (number (result s c .answer)) 0 (result-number s c)) (keeps-result c y))
 
 pub record Reached (s : Day) (h : History) : Type 0 where
   pub is-sound : sound s ≡ true
@@ -132,7 +135,7 @@ reach (c ∷ cs) s h r = reach cs (call s c .day) (entered h (record { made = c;
 reach-opening : (s : Day) (pl : Plan) → accepted (call s (open-plan pl) .answer) ≡ true → Reached (call s (open-plan pl) .day) (entered (opening blank-plan) (record { made = open-plan pl; answer = call s (open-plan pl) .answer }))
 reach-opening s pl e = record {
   is-sound = opening-sound s pl (eqb-true (number (call s (open-plan pl) .answer)) 0 e);
-  agrees = call-elim (λ (o : Outcome). accepted (o .answer) ≡ true → Keeps (opening blank-plan) (open-plan pl) o) s (open-plan pl) (λ q z. absurd (omega (arith, eqb-true (suc q) 0 z))) (λ y z. agrees-opening Filling pl) e;
+  agrees = call-elim (λ (o : Outcome). accepted (o .answer) ≡ true → Keeps (opening blank-plan) (open-plan pl) o) s (open-plan pl) (λ q z. absurd (never (accepted (Refused (suc q))) (refused-not q) z)) (λ y z. agrees-opening Filling pl) e;
 }
 
 -- what holds at the end of every list
