@@ -109,3 +109,16 @@ stands F a (suc b) h g = go (λ l. stands F a b l (λ j p q. g j p (le-step q)))
     go : (a ≤ b → F b ≡ F a) → (c : Bool) → eqb a (suc b) ≡ c → F (suc b) ≡ F a
     go ih true e = ap F (sym (eqb-true a (suc b) e))
     go ih false e = let l : a ≤ b = omega (arith, eqb-false a (suc b) e) in g b l (le-refl (suc b)) ∙ ih l
+
+-- tests joined one after the other
+abbrev pub joint : Bool → List Bool → Bool
+joint b [] = b
+joint b (c ∷ cs) = joint (b && c) cs
+
+pub joint-parts : (b : Bool) (cs : List Bool) → joint b cs ≡ true → Every (b ∷ cs)
+joint-parts b [] e = (e, tt)
+joint-parts b (c ∷ cs) e = let h = joint-parts (b && c) cs e in (both-left b c (h .0), (both-right b c (h .0), h .1))
+
+pub joint-of : (b : Bool) (cs : List Bool) → Every (b ∷ cs) → joint b cs ≡ true
+joint-of b [] h = h .0
+joint-of b (c ∷ cs) h = joint-of (b && c) cs (both-join b c (h .0) (h .1 .0), h .1 .1)
