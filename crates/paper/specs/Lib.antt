@@ -1,0 +1,3 @@
+pub mod Fraction
+pub mod Algorithm4
+pub mod Standing
