@@ -7,7 +7,7 @@ use lib.Dec.{leb, eqb}
 use Rattle.finite.specs.Finite.{sum}
 use Rattle.day.specs.Choice.{Choice, best}
 use Rattle.day.specs.Choice.Choice.{nobody, plays}
-use Rattle.paper.specs.Fraction.{Fraction, _÷_, whole, _⊕_, _⊖_, _⊗_, power, inverse, less, equal, lesser}
+use Rattle.paper.specs.Fraction.{Fraction, _÷_, integer, _⊕_, _⊖_, _⊗_, power, inverse, less, equal, lesser}
 
 -- What is given up-front: the k and d of a (k, d)-graph, and the advertisers i ∈ L, numbered below n, each with a bid b_i, "the same value
 -- for all neighboring ad slots", and a budget B_i.
@@ -30,7 +30,7 @@ pub record Variables : Type 0 where
 
 -- "Theorem 5.1. Algorithm 4 with C = 1/((d/(d−1))^k − 1)"
 unfoldable pub C : Instance → Fraction
-C I = inverse (power (I .d ÷ (I .d - 1)) (I .k) ⊖ whole 1)
+C I = inverse (power (I .d ÷ (I .d - 1)) (I .k) ⊖ integer 1)
 
 -- b_i/B_i, what one copy contributes of i's budget
 abbrev pub part : Instance → ℕ → Fraction
@@ -47,11 +47,11 @@ open-to I v j N i = N i && feasible I v j i
 
 -- "z_i^c · B_i + C · b_i"
 abbrev pub quantity : Instance → Variables → ℕ → Fraction
-quantity I v i = v .zᶜ i ⊗ whole (I .B i) ⊕ C I ⊗ whole (I .b i)
+quantity I v i = v .zᶜ i ⊗ integer (I .B i) ⊕ C I ⊗ integer (I .b i)
 
 -- "1: Init: set z_i ← 0, z_i^c ← 0 for all i ∈ L"
 abbrev pub line-1 : Variables
-line-1 = record { z = λ i. whole 0; zᶜ = λ i. whole 0; x = λ i j. 0 }
+line-1 = record { z = λ i. integer 0; zᶜ = λ i. integer 0; x = λ i j. 0 }
 
 -- "4: match j to feasible neighbor i maximizing z_i^c · B_i + C · b_i.": each in turn displaces the last that it exceeds, so that equal
 -- quantities go to the lower number (document 01)
@@ -89,7 +89,7 @@ line-10 v i′ = v .z i′ ⊕ v .zᶜ i′
 
 -- "11: set z_{i'}^c ← 0."
 abbrev pub line-11 : Fraction
-line-11 = whole 0
+line-11 = integer 0
 
 abbrev pub lines-9-to-11 : Instance → Neighbours → Variables → Variables
 lines-9-to-11 I N v = record {

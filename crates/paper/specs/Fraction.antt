@@ -12,14 +12,13 @@ infix 4 _≈_
 infixl 65 _⊕_ _⊖_
 infixl 70 _⊗_
 infix 75 _÷_
-
 -- n/m
 abbrev pub _÷_ : ℕ → ℕ → Fraction
 n ÷ m = record { numerator = n; denominator = m }
 
 -- a whole number
-abbrev pub whole : ℕ → Fraction
-whole n = n ÷ 1
+abbrev pub integer : ℕ → Fraction
+integer n = n ÷ 1
 
 -- n/m + n′/m′ = (n m′ + n′ m)/(m m′)
 abbrev pub _⊕_ : Fraction → Fraction → Fraction

@@ -1,21 +1,30 @@
 -- The day beside Algorithm 4: the paper's instance for a plan and its campaigns' terms, what a campaign's counts stand for among the paper's
--- variables, and the days of calls that the theorem speaks of.
+-- variables, and the claim that our rule chooses as the algorithm does.
 use mathlib.Core.Path.{_≡_}
+use mathlib.Core.Bool.{true, false}
 use mathlib.Core.List.{List, [], _∷_, map}
-use Prim.Native.Nat.{ℕ, _-_}
+use Prim.Native.Nat.{ℕ, _-_, _/_, _≤_, _<_}
+use lib.ListN.{length}
 use Rattle.finite.specs.Finite.{sum}
 use Rattle.day.specs.declared.Campaign.{Campaign}
 use Rattle.day.specs.declared.Plan.{Plan}
 use Rattle.day.specs.declared.Terms.{Terms}
 use Rattle.day.specs.declared.View.{View}
 use Rattle.day.specs.Choice.{Choice}
+use Rattle.day.specs.Choice.Choice.{nobody, plays}
+use Rattle.day.specs.Campaign.{fresh}
 use Rattle.day.specs.View.{names, chosen-of, viewed}
-use Rattle.paper.specs.Fraction.{Fraction, _÷_, whole, _⊖_, _⊗_, power, _≈_}
-use Rattle.paper.specs.Algorithm4.{Instance, Neighbours, Variables, C, part}
+use Rattle.paper.specs.Fraction.{Fraction, _÷_, integer, _⊖_, _⊗_, power, less, _≈_}
+use Rattle.paper.specs.Algorithm4.{Instance, Neighbours, Variables, C, part, open-to, quantity, line-4, algorithm-4, matches}
 
--- k is the depth, d the width, and the bid of campaign i its price; B_i stays open here
-abbrev pub instance : Plan → (n : ℕ) → (ℕ → Terms) → (B : ℕ → ℕ) → Instance
-instance pl n t B = record { k = pl .depth; d = pl .width; n = n; b = λ i. t i .price; B = B }
+-- B_i: "Without loss of generality, B_i/b_i is integral". The budget that was handed in, the budget without the cents left over, and any other
+-- amount that buys as many whole plays will do.
+abbrev pub Buys-alike : (Terms → ℕ) → Type 0
+Buys-alike B = (t : Terms) → B t / t .price ≡ t .budget / t .price
+
+-- k is the depth, d the width, the advertisers are n campaigns, and b_i is the price of campaign i
+abbrev pub instance : (Terms → ℕ) → Plan → (n : ℕ) → (ℕ → Terms) → Instance
+instance B pl n t = record { k = pl .depth; d = pl .width; n = n; b = λ i. t i .price; B = λ i. B (t i) }
 
 -- the ad slots are the views, and their neighbours the campaigns that they name
 abbrev pub slots : List View → List Neighbours
@@ -24,14 +33,22 @@ slots ws = map names ws
 -- "z_i^c = C · b_i/B_i · ((d/(d−1))^{d^c(i)} − 1), where d^c(i) is the degree of i's current copy, or equivalently, the number of i's edges
 -- since z_i^c was last nullified" (the proof of Theorem 5.1)
 abbrev pub copy : Instance → ℕ → (degree : ℕ) → Fraction
-copy I i degree = C I ⊗ part I i ⊗ (power (I .d ÷ (I .d - 1)) degree ⊖ whole 1)
+copy I i degree = C I ⊗ part I i ⊗ (power (I .d ÷ (I .d - 1)) degree ⊖ integer 1)
 
 -- a campaign's counts stand for the variables of advertiser i before slot j: its age is the degree of the current copy; each of its turns is
 -- a finished copy, which has added b_i/B_i to z_i; its plays are the slots matched to i
 pub record Stands (I : Instance) (j : ℕ) (v : Variables) (i : ℕ) (c : Campaign) : Type 0 where
   pub age-stands : v .zᶜ i ≈ copy I i (c .age)
-  pub turns-stand : v .z i ≈ whole (c .turns) ⊗ part I i
+  pub turns-stand : v .z i ≈ integer (c .turns) ⊗ part I i
   pub plays-stand : sum j (v .x i) ≡ c .plays
+
+-- lines 3 and 4 in their words: a feasible neighbour is matched, none has a greater quantity, and none of a lower number an equal one; or
+-- there is no feasible neighbour
+abbrev pub Maximizes : Instance → (j : ℕ) → Neighbours → Variables → Choice → Type 0
+Maximizes I j N v nobody = (i : ℕ) → i < I .n → open-to I v j N i ≡ false
+Maximizes I j N v (plays m) =
+    (m < I .n) × (open-to I v j N m ≡ true) ×
+    ((i : ℕ) → i < I .n → open-to I v j N i ≡ true → (less (quantity I v m) (quantity I v i) ≡ false) × (i < m → less (quantity I v i) (quantity I v m) ≡ true))
 
 -- our rule over a list of views: who plays each, and the campaigns after it
 unfoldable pub choices : (n : ℕ) → Plan → List View → (ℕ → Campaign) → List Choice
@@ -41,3 +58,19 @@ choices n pl (w ∷ ws) f = chosen-of n pl w f ∷ choices n pl ws (viewed n pl 
 unfoldable pub campaigns-after : (n : ℕ) → Plan → List View → (ℕ → Campaign) → ℕ → Campaign
 campaigns-after n pl [] f = f
 campaigns-after n pl (w ∷ ws) f = campaigns-after n pl ws (viewed n pl w f)
+
+-- a plan of width above 1, and terms that are taken (questions 3, 8 and 9)
+pub record Posed (pl : Plan) (n : ℕ) (t : ℕ → Terms) : Type 0 where
+  pub deep : 1 ≤ pl .depth
+  pub wide : 1 < pl .width
+  pub priced : (i : ℕ) → i < n → 1 ≤ t i .price
+  pub funded : (i : ℕ) → i < n → t i .price ≤ t i .budget
+
+-- from fresh campaigns and through the views ws: the matches are our choices, each by the words of line 4, and our counts stand for its variables
+pub record Alike (I : Instance) (pl : Plan) (t : ℕ → Terms) (ws : List View) : Type 0 where
+  pub same-choices : matches I (slots ws) ≡ choices (I .n) pl ws (λ i. fresh (t i))
+  pub same-counts : (i : ℕ) → i < I .n → Stands I (length ws) (algorithm-4 I (slots ws)) i (campaigns-after (I .n) pl ws (λ i′. fresh (t i′)) i)
+  pub next-match : (w : View) → Maximizes I (length ws) (names w) (algorithm-4 I (slots ws)) (line-4 I (length ws) (names w) (algorithm-4 I (slots ws)))
+
+abbrev pub As-Algorithm-4 : Type 0
+As-Algorithm-4 = (B : Terms → ℕ) → Buys-alike B → (pl : Plan) (n : ℕ) (t : ℕ → Terms) → Posed pl n t → (ws : List View) → Alike (instance B pl n t) pl t ws
