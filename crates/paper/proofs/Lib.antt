@@ -1,5 +1,7 @@
-pub mod Listing
 pub mod Copies
 pub mod Choices
 pub mod Slots
 pub mod Simulation
+pub mod Holding
+pub mod Days
+pub mod Listing
