@@ -11,7 +11,7 @@ use Rattle.powers.specs.Power.{weight, share}
 use Rattle.powers.proofs.Weight.{slope, weight-top, weight-zero, share-weight, weight-slope, weight-up, weight-next, weight-most}
 use Rattle.paper.specs.Fraction.{Fraction, _÷_, integer, _⊕_, _⊖_, _⊗_, power, less, equal, lesser, _≈_}
 use Rattle.paper.specs.Algorithm4.{Instance, C, part}
-use Rattle.paper.specs.Standing.{copy}
+use Rattle.paper.specs.Standing.{copy, compared-quantity}
 
 pub ltb-scale : (p x y : ℕ) → 0 < p → ltb (x * p) (y * p) ≡ ltb x y
 ltb-scale p x y pos = go (ltb x y) refl
@@ -51,7 +51,7 @@ module _ (I : Instance) (deep : 0 < I .k) (wide : 1 < I .d) where
       rw (weight-up (I .k) (I .d) (omega arith) a h, weight-slope (I .k) (I .d) (omega arith) a h) (omega arith)
 
   -- W(a) (d−1)^a = d^a W(0)
-  weight-split : (a : ℕ) → a < I .k → weight (I .k) (I .d) a * (I .d - 1) ^ a ≡ I .d ^ a * C I .numerator
+  weight-split : (a : ℕ) → a ≤ I .k → weight (I .k) (I .d) a * (I .d - 1) ^ a ≡ I .d ^ a * C I .numerator
   unfolding weight
   weight-split a h =
       let q : (I .d - 1) ^ (I .k - a) * (I .d - 1) ^ a ≡ (I .d - 1) ^ I .k = sym (pow-add (I .d - 1) (I .k - a) a) ∙ ap (λ x. (I .d - 1) ^ x) (omega arith) in
@@ -107,10 +107,14 @@ module _ (I : Instance) (i : ℕ) (deep : 0 < I .k) (wide : 1 < I .d) (bid : 0 <
         left = v .positive;
         right = mul-pos (mul-pos (C-positive I deep wide) budget) e;
         cross = copy-cross (q .numerator) (q .denominator) (I .b i) (I .B i) (C I .denominator) (C I .numerator) (weight (I .k) (I .d) a) (I .d ^ a) ((I .d - 1) ^ a) (I .d ^ a * 1 - 1 * (I .d - 1) ^ a)
-            (v .value) (weight-split I deep wide a h) (omega (arith, pow-le-pow-left {n = I .d - 1} {m = I .d} (omega arith) a));
+            (v .value) (weight-split I deep wide a (omega arith)) (omega (arith, pow-le-pow-left {n = I .d - 1} {m = I .d} (omega arith) a));
       }
 
 -- what line 4 compares is b_i · w / (d^k − (d−1)^k)
+quantity-cross : (n m b B S u w p e : ℕ) → n * (B * S) + b * u * m ≡ b * w * m → w * e ≡ p * u
+    → ((n * B) * (S * 1) + (u * b) * (m * 1)) * ((S * 1) * e) ≡ ((u * b) * p) * ((m * 1) * (S * 1))
+quantity-cross n m b B S u w p e q r = omega (arith, ap (λ x. x * (S * e)) q, ap (λ x. x * (b * (m * S))) r)
+
 module _ (I : Instance) (deep : 0 < I .k) (wide : 1 < I .d) where
   quantity-scaled : (i w : ℕ) (q : Fraction) → Value I i w q → (m s : ℕ) → s ≡ q .denominator * m * C I .denominator
       → (q ⊗ integer (I .B i) ⊕ C I ⊗ integer (I .b i)) .numerator * (m * 1 * (C I .denominator * 1)) ≡ I .b i * w * s
@@ -122,3 +126,12 @@ module _ (I : Instance) (deep : 0 < I .k) (wide : 1 < I .d) where
       let s : ℕ = p .denominator * q .denominator * C I .denominator in
       ap₂ ltb (quantity-scaled i w p v (q .denominator) s refl) (quantity-scaled j w′ q v′ (p .denominator) s (omega arith))
       ∙ ltb-scale s (I .b i * w) (I .b j * w′) (mul-pos (mul-pos (v .positive) (v′ .positive)) (C-positive I deep wide))
+
+  pub value-quantity : (i : ℕ) (q : Fraction) (a : ℕ) → a ≤ I .k → Value I i (weight (I .k) (I .d) a) q → q ⊗ integer (I .B i) ⊕ C I ⊗ integer (I .b i) ≈ compared-quantity I i a
+  value-quantity i q a h v =
+      let S : 0 < C I .denominator * 1 = omega (arith, C-positive I deep wide) in
+      record {
+        left = mul-pos (omega (arith, v .positive)) S;
+        right = mul-pos S (one-le-pow a (I .d - 1) (omega arith));
+        cross = quantity-cross (q .numerator) (q .denominator) (I .b i) (I .B i) (C I .denominator) (C I .numerator) (weight (I .k) (I .d) a) (I .d ^ a) ((I .d - 1) ^ a) (v .value) (weight-split I deep wide a h);
+      }

@@ -23,7 +23,7 @@ use Rattle.day.specs.Choice.{Choice}
 use Rattle.day.specs.Choice.Choice.{nobody, plays}
 use Rattle.day.specs.Campaign.{fresh}
 use Rattle.day.specs.View.{names, chosen-of, viewed}
-use Rattle.day.specs.Day.{campaign, holding, planned, no-terms, blank-plan, blank, is-filling}
+use Rattle.day.specs.Day.{campaign, in-phase, planned, no-terms, blank-plan, blank, taken, is-filling}
 use Rattle.day.specs.Sound.{sound-tests, sound}
 use Rattle.day.specs.Calls.{number, Call, questions, joined, player, offers, shown, told, result, call}
 use Rattle.day.specs.Calls.Call.{open-plan, add-campaign, start-day, show-view, ask-tally, close-day}
@@ -187,41 +187,41 @@ module _ (B : Terms → ℕ) (buys : Buys-alike B) where
         unviewed = λ e. absurd (never false refl e);
         unplayed = λ e. absurd (never false refl e);
         beside = λ wide i l.
-          rw (length-append (h .views) (w ∷ []), add-one, slots-snoc, line-2-snoc I (slots (h .views)) (names w) 0 line-1, slots-many,
-            campaign-holding Running (s .plan) (s .count) (s .accepted + 1) (shown s w) i (omega (arith, few-campaigns s (y .0), k .many)))
-          (view-follows wide i l);
+            rw (
+              length-append (h .views) (w ∷ []),
+              add-one,
+              slots-snoc,
+              line-2-snoc I (slots (h .views)) (names w) 0 line-1,
+              slots-many,
+              campaign-holding Running (s .plan) (s .count) (s .accepted + 1) (shown s w) i (omega (arith, few-campaigns s (y .0), k .many)),
+            )
+            (view-follows wide i l);
         answered = λ wide.
-          rw (slots-snoc, matches-snoc I (slots (h .views)) (names w) 0 line-1, slots-many, map-append, k .answered wide, view-told wide);
+            rw (slots-snoc, matches-snoc I (slots (h .views)) (names w) 0 line-1, slots-many, map-append, k .answered wide, view-told wide);
       }
+
+    -- a phase that is not Filling
+    kept-phase : (p : Phase) → is-filling p ≡ false → Kept (in-phase s p) h
+    kept-phase p e = record {
+      plan-is = k .plan-is;
+      many = k .many;
+      deep = k .deep;
+      priced = k .priced;
+      funded = k .funded;
+      unviewed = λ f. absurd (never (is-filling p) e f);
+      unplayed = λ f. absurd (never (is-filling p) e f);
+      beside = k .beside;
+      answered = k .answered;
+    }
 
     kept-result : (c : Call) → Yes (questions s c) → Kept (result s c .day) (with-call h c (result s c .answer))
     unfolding more
     kept-result (open-plan pl) y = kept-opening Filling pl (leb-true 1 (pl .depth) (both-left _ _ (y .1 .1 .0)))
     kept-result (add-campaign t) y = kept-add t y
-    kept-result start-day y = record {
-      plan-is = k .plan-is;
-      many = k .many;
-      deep = k .deep;
-      priced = k .priced;
-      funded = k .funded;
-      unviewed = λ e. absurd (never false refl e);
-      unplayed = λ e. absurd (never false refl e);
-      beside = k .beside;
-      answered = k .answered;
-    }
+    kept-result start-day y = kept-phase Running refl
     kept-result (show-view w) y = kept-view w y
     kept-result (ask-tally i) y = k
-    kept-result close-day y = record {
-      plan-is = k .plan-is;
-      many = k .many;
-      deep = k .deep;
-      priced = k .priced;
-      funded = k .funded;
-      unviewed = λ e. absurd (never false refl e);
-      unplayed = λ e. absurd (never false refl e);
-      beside = k .beside;
-      answered = k .answered;
-    }
+    kept-result close-day y = kept-phase (Closed (taken s)) refl
 
     kept-call : (c : Call) → Kept (call s c .day) (entered h (record { made = c; answer = call s c .answer }))
     kept-call c =
@@ -252,7 +252,7 @@ module _ (B : Terms → ℕ) (buys : Buys-alike B) where
   alike-of s h k wide = record {
     same-answers = k .answered wide;
     same-tallies = λ i l.
-      follows-stands (instance-of B h) (proper B buys (h .plan) (length (h .terms)) (terms-of h) (posed-of s h k wide)) (length (h .views)) (algorithm-4 (instance-of B h) (slots (h .views))) i (campaign s i) l (k .beside wide i l);
+        follows-stands (instance-of B h) (proper B buys (h .plan) (length (h .terms)) (terms-of h) (posed-of s h k wide)) (length (h .views)) (algorithm-4 (instance-of B h) (slots (h .views))) i (campaign s i) l (k .beside wide i l);
   }
 
 pub days-as-algorithm-4 : Days-as-Algorithm-4

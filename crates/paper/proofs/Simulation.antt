@@ -7,7 +7,8 @@ use native.Mathlib.Nat.{le-div-iff-mul-le, pos-of-div-pos}
 use native.Mathlib.Omega.{arith}
 use lib.Dec.{ltb}
 use lib.ListN.{length}
-use borrow.Author.Tests.{lt-ltb, le-ltb}
+use borrow.Author.Tests.{ltb-true, ltb-false, lt-ltb, le-ltb}
+use Rattle.finite.proofs.Tests.{never}
 use Rattle.finite.proofs.Sums.{sum-zero}
 use Rattle.powers.specs.Power.{weight}
 use Rattle.day.specs.declared.Campaign.{Campaign}
@@ -19,11 +20,23 @@ use Rattle.day.specs.Choice.Choice.{nobody, plays}
 use Rattle.day.specs.Campaign.{whole, can-pay, after, fresh}
 use Rattle.day.specs.View.{names, figure, able, chosen-of, viewed}
 use Rattle.paper.specs.Fraction.{less}
-use Rattle.paper.specs.Algorithm4.{Instance, Variables, open-to, quantity, line-1, line-2, line-3, line-4, lines-9-to-11, lines-3-to-11, matches-from, algorithm-4}
-use Rattle.paper.specs.Standing.{Buys-alike, instance, slots, Stands, Maximizes, choices, campaigns-after, Posed, Alike, As-Algorithm-4}
+use Rattle.paper.specs.Algorithm4.{Instance, Neighbours, Variables, open-to, quantity, line-1, line-2, line-3, line-4, lines-9-to-11, lines-3-to-11, matches-from, algorithm-4}
+use Rattle.paper.specs.Standing.{Buys-alike, instance, slots, Stands, Maximizes, Next, choices, campaigns-after, Posed, Alike, As-Algorithm-4}
 use Rattle.paper.proofs.Choices.{Fits, best-fits, best-eq, Most, choice-most}
-use Rattle.paper.proofs.Copies.{starts, value-copy, compared}
-use Rattle.paper.proofs.Slots.{Follows, able-alike, after-slot}
+use Rattle.paper.proofs.Copies.{starts, value-copy, compared, value-quantity}
+use Rattle.paper.proofs.Slots.{Follows, unfinished, able-alike, after-slot}
+
+-- line 4's words pick out one match at most
+one-maximizes : (I : Instance) (j : ℕ) (N : Neighbours) (v : Variables) (a b : Choice) → Maximizes I j N v a → Maximizes I j N v b → a ≡ b
+one-maximizes I j N v nobody nobody p q = refl
+one-maximizes I j N v nobody (plays n) p q = absurd (never (open-to I v j N n) (p n (q .0)) (q .1))
+one-maximizes I j N v (plays m) nobody p q = absurd (never (open-to I v j N m) (q m (p .0)) (p .1))
+one-maximizes I j N v (plays m) (plays n) p q = go (ltb m n) refl (ltb n m) refl
+  where
+    go : (t : Bool) → ltb m n ≡ t → (u : Bool) → ltb n m ≡ u → plays m ≡ plays n
+    go true e u e′ = absurd (never (less (quantity I v m) (quantity I v n)) (p .2 n (q .0) (q .1) .0) (q .2 m (p .0) (p .1) .1 (ltb-true m n e)))
+    go false e true e′ = absurd (never (less (quantity I v n) (quantity I v m)) (q .2 m (p .0) (p .1) .0) (p .2 n (q .0) (q .1) .1 (ltb-true n m e′)))
+    go false e false e′ = let same : m ≡ n = omega (arith, ltb-false m n e, ltb-false n m e′) in ap plays same
 
 -- an instance on which the paper's fractions are proper
 pub record Proper (I : Instance) : Type 0 where
@@ -44,6 +57,7 @@ module _ (I : Instance) (ok : Proper I) where
     age-stands = value-copy I i (ok .deep) (ok .wide) (ok .bids i l) (ok .budgets i l) (v .zᶜ i) (c .age) (h .young) (h .current);
     turns-stand = h .accounts .finished;
     plays-stand = h .accounts .matched;
+    quantity-stands = value-quantity I (ok .deep) (ok .wide) i (v .zᶜ i) (c .age) (omega (arith, h .young)) (h .current);
   }
 
   module _ (j : ℕ) (w : View) (v : Variables) (f : ℕ → Campaign) (h : All j v f) where
@@ -59,7 +73,7 @@ module _ (I : Instance) (ok : Proper I) where
     unfolding line-4 choice
     same-choice = best-eq (I .n) _ _ _ _ ables compares
 
-    pub maximizes : Maximizes I j (names w) v (line-4 I j (names w) v)
+    maximizes : Maximizes I j (names w) v (line-4 I j (names w) v)
     unfolding line-4
     maximizes = go (line-4 I j (names w) v) (best-fits (I .n) _ _) (subst (Most (I .n) (able (plan-of I) w f) (λ i. figure (plan-of I) w i (f i))) (sym same-choice) (choice-most (I .n) _ _))
       where
@@ -72,6 +86,13 @@ module _ (I : Instance) (ok : Proper I) where
               let q : (figure (plan-of I) w i (f i) ≤ figure (plan-of I) w m (f m)) × (i < m → figure (plan-of I) w i (f i) < figure (plan-of I) w m (f m)) = most i l (sym (ables i l) ∙ a) in
               (compares m i (one .0) l ∙ le-ltb _ _ (q .0), λ b. compares i m l (one .0) ∙ lt-ltb _ _ (q .1 b)),
         )
+
+    pub next-slot : Next I j (names w) v
+    next-slot = record {
+      maximizing = maximizes;
+      only-one = λ m h′. one-maximizes I j (names w) v m (line-4 I j (names w) v) h′ maximizes;
+      none-waits = λ i l. unfinished I (ok .deep) (ok .wide) i (ok .bids i l) (ok .budgets i l) (names w) v (f i .age) (h i l .young) (h i l .current);
+    }
 
     pub same-step : All (suc j) (lines-3-to-11 I j (names w) v) (viewed (I .n) (plan-of I) w f)
     unfolding lines-3-to-11 line-4
@@ -127,7 +148,7 @@ module _ (B : Terms → ℕ) (buys : Buys-alike B) (pl : Plan) (n : ℕ) (t : �
       record {
         same-choices = run-choices I proper ws 0 line-1 (λ i. fresh (t i)) follows-fresh;
         same-counts = λ i l. follows-stands I proper (length ws) (algorithm-4 I (slots ws)) i (campaigns-after n pl ws (λ i′. fresh (t i′)) i) l (h i l);
-        next-match = λ w. maximizes I proper (length ws) w (algorithm-4 I (slots ws)) (campaigns-after n pl ws (λ i. fresh (t i))) h;
+        next = λ w. next-slot I proper (length ws) w (algorithm-4 I (slots ws)) (campaigns-after n pl ws (λ i. fresh (t i))) h;
       }
 
 pub as-algorithm-4 : As-Algorithm-4

@@ -80,20 +80,25 @@ add-part : (z t y z′ b B y′ : ℕ) → z * (1 * B) ≡ t * b * z′ → y * 
 add-part z t y z′ b B y′ p q = omega (arith, ap (λ x. x * y′) p, ap (λ x. x * z′) q)
 
 module _ (I : Instance) (deep : 0 < I .k) (wide : 1 < I .d) (i : ℕ) (bid-positive : 0 < I .b i) (budget-positive : 0 < I .B i) where
-  -- lines 9 to 11 leave a copy that is not finished
+  -- a copy of less than k edges is not finished
+  pub unfinished : (N : Neighbours) (v : Variables) (a : ℕ) → a < I .k → Value I i (weight (I .k) (I .d) a) (v .zᶜ i) → line-9 I N v i ≡ false
+  unfinished N v a young q =
+      let l : v .zᶜ i .numerator * I .B i < I .b i * v .zᶜ i .denominator =
+        below-part I i deep wide bid-positive budget-positive (v .zᶜ i) (weight (I .k) (I .d) a) q (weight-below I deep wide a young) in
+      ap (λ t. N i && t) (ne-eqb (v .zᶜ i .numerator * I .B i) (I .b i * v .zᶜ i .denominator) (λ e. omega arith)) ∙ and-false (N i)
+
+  -- lines 9 to 11 leave it
   kept : (j : ℕ) (N : Neighbours) (v : Variables) (c : Campaign) → Accounts I j i c (c .plays) (v .z i) (v .x i) → c .age < I .k → Value I i (weight (I .k) (I .d) (c .age)) (v .zᶜ i)
       → Follows I j (lines-9-to-11 I N v) i c
   kept j N v c a young q =
-      let l : v .zᶜ i .numerator * I .B i < I .b i * v .zᶜ i .denominator =
-      below-part I i deep wide bid-positive budget-positive (v .zᶜ i) (weight (I .k) (I .d) (c .age)) q (weight-below I deep wide (c .age) young) in
-      let e : line-9 I N v i ≡ false = ap (λ t. N i && t) (ne-eqb (v .zᶜ i .numerator * I .B i) (I .b i * v .zᶜ i .denominator) (λ e. omega arith)) ∙ and-false (N i) in
+      let e : line-9 I N v i ≡ false = unfinished N v (c .age) young q in
       record {
         accounts = record { bid = a .bid; copies = a .copies; finished = rw e (a .finished); matched = a .matched; later = a .later };
         young = young;
         current = rw e q;
       }
 
-  -- and close one that is
+  -- and close one that is finished
   done : (j : ℕ) (N : Neighbours) (v : Variables) (c : Campaign) (p : ℕ) → Accounts I j i c p (v .z i) (v .x i) → N i ≡ true
       → 0 < v .zᶜ i .denominator → v .zᶜ i .numerator * I .B i ≡ I .b i * v .zᶜ i .denominator → Follows I j (lines-9-to-11 I N v) i (renamed c p (c .turns + 1) 0)
   unfolding whole

@@ -15,7 +15,7 @@ use Rattle.day.specs.Choice.Choice.{nobody, plays}
 use Rattle.day.specs.Campaign.{fresh}
 use Rattle.day.specs.View.{names, chosen-of, viewed}
 use Rattle.paper.specs.Fraction.{Fraction, _÷_, integer, _⊖_, _⊗_, power, less, _≈_}
-use Rattle.paper.specs.Algorithm4.{Instance, Neighbours, Variables, C, part, open-to, quantity, line-4, algorithm-4, matches}
+use Rattle.paper.specs.Algorithm4.{Instance, Neighbours, Variables, C, part, open-to, quantity, line-4, line-9, algorithm-4, matches}
 
 -- B_i: "Without loss of generality, B_i/b_i is integral". The budget that was handed in, the budget without the cents left over, and any other
 -- amount that buys as many whole plays will do.
@@ -35,12 +35,17 @@ slots ws = map names ws
 abbrev pub copy : Instance → ℕ → (degree : ℕ) → Fraction
 copy I i degree = C I ⊗ part I i ⊗ (power (I .d ÷ (I .d - 1)) degree ⊖ integer 1)
 
+-- "its compared quantity is C × price × (d/(d−1))^age when d > 1" (document 01)
+abbrev pub compared-quantity : Instance → ℕ → (age : ℕ) → Fraction
+compared-quantity I i age = C I ⊗ integer (I .b i) ⊗ power (I .d ÷ (I .d - 1)) age
+
 -- a campaign's counts stand for the variables of advertiser i before slot j: its age is the degree of the current copy; each of its turns is
 -- a finished copy, which has added b_i/B_i to z_i; its plays are the slots matched to i
 pub record Stands (I : Instance) (j : ℕ) (v : Variables) (i : ℕ) (c : Campaign) : Type 0 where
   pub age-stands : v .zᶜ i ≈ copy I i (c .age)
   pub turns-stand : v .z i ≈ integer (c .turns) ⊗ part I i
   pub plays-stand : sum j (v .x i) ≡ c .plays
+  pub quantity-stands : quantity I v i ≈ compared-quantity I i (c .age)
 
 -- lines 3 and 4 in their words: a feasible neighbour is matched, none has a greater quantity, and none of a lower number an equal one; or
 -- there is no feasible neighbour
@@ -49,6 +54,13 @@ Maximizes I j N v nobody = (i : ℕ) → i < I .n → open-to I v j N i ≡ fals
 Maximizes I j N v (plays m) =
     (m < I .n) × (open-to I v j N m ≡ true) ×
     ((i : ℕ) → i < I .n → open-to I v j N i ≡ true → (less (quantity I v m) (quantity I v i) ≡ false) × (i < m → less (quantity I v i) (quantity I v m) ≡ true))
+
+-- slot j arrives: line 4 matches as its words say, and nobody else would do; and no copy waits to be finished, so that lines 9 to 11 do
+-- nothing where nobody is matched, whether they stand under line 3 or not
+pub record Next (I : Instance) (j : ℕ) (N : Neighbours) (v : Variables) : Type 0 where
+  pub maximizing : Maximizes I j N v (line-4 I j N v)
+  pub only-one : (m : Choice) → Maximizes I j N v m → m ≡ line-4 I j N v
+  pub none-waits : (i : ℕ) → i < I .n → line-9 I N v i ≡ false
 
 -- our rule over a list of views: who plays each, and the campaigns after it
 unfoldable pub choices : (n : ℕ) → Plan → List View → (ℕ → Campaign) → List Choice
@@ -66,11 +78,11 @@ pub record Posed (pl : Plan) (n : ℕ) (t : ℕ → Terms) : Type 0 where
   pub priced : (i : ℕ) → i < n → 1 ≤ t i .price
   pub funded : (i : ℕ) → i < n → t i .price ≤ t i .budget
 
--- from fresh campaigns and through the views ws: the matches are our choices, each by the words of line 4, and our counts stand for its variables
+-- from fresh campaigns and through the views ws: the matches are our choices, and our counts stand for the variables
 pub record Alike (I : Instance) (pl : Plan) (t : ℕ → Terms) (ws : List View) : Type 0 where
   pub same-choices : matches I (slots ws) ≡ choices (I .n) pl ws (λ i. fresh (t i))
   pub same-counts : (i : ℕ) → i < I .n → Stands I (length ws) (algorithm-4 I (slots ws)) i (campaigns-after (I .n) pl ws (λ i′. fresh (t i′)) i)
-  pub next-match : (w : View) → Maximizes I (length ws) (names w) (algorithm-4 I (slots ws)) (line-4 I (length ws) (names w) (algorithm-4 I (slots ws)))
+  pub next : (w : View) → Next I (length ws) (names w) (algorithm-4 I (slots ws))
 
 abbrev pub As-Algorithm-4 : Type 0
 As-Algorithm-4 = (B : Terms → ℕ) → Buys-alike B → (pl : Plan) (n : ℕ) (t : ℕ → Terms) → Posed pl n t → (ws : List View) → Alike (instance B pl n t) pl t ws
