@@ -1,15 +1,15 @@
 -- The arithmetic of one copy: what line 8 makes of z_i^c, when it reaches b_i/B_i, and what line 4 compares.
 use mathlib.Core.Path.{_≡_, refl, ap, ap₂, sym, subst, _∙_}
 use mathlib.Core.Bool.{Bool, true, false}
-use Prim.Native.Nat.{ℕ, zero, suc, _+_, _-_, _*_, _^_, _≤_, _<_}
-use native.Mathlib.Nat.{one-le-pow, mul-lt-mul-of-pos-left, mul-lt-mul-of-pos-right, lt-of-mul-lt-mul-right, mul-le-mul-right, eq-of-mul-eq-mul-right, pow-lt-pow-left, pow-le-pow-left, sub-add-cancel, mul-one, one-mul, mul-pos}
+use Prim.Native.Nat.{ℕ, _+_, _-_, _*_, _^_, _≤_, _<_}
+use native.Mathlib.Nat.{one-le-pow, mul-lt-mul-of-pos-left, mul-lt-mul-of-pos-right, lt-of-mul-lt-mul-right, mul-le-mul-right, eq-of-mul-eq-mul-right, pow-lt-pow-left, pow-le-pow-left, mul-one, one-mul, mul-pos}
 use lib.Pow.{pow-add}
 use native.Mathlib.Omega.{arith}
 use lib.Dec.{ltb}
 use borrow.Author.Tests.{ltb-true, ltb-false, lt-ltb, le-ltb}
 use Rattle.powers.specs.Power.{weight, share}
-use Rattle.powers.proofs.Weight.{slope, weight-top, weight-zero, share-weight, weight-slope, weight-up, weight-next, weight-most}
-use Rattle.paper.specs.Fraction.{Fraction, _÷_, integer, _⊕_, _⊖_, _⊗_, power, less, equal, lesser, _≈_}
+use Rattle.powers.proofs.Weight.{slope, weight-zero, share-weight, weight-slope, weight-up, weight-next, weight-most}
+use Rattle.paper.specs.Fraction.{Fraction, _÷_, integer, _⊕_, _⊗_, less, _≈_}
 use Rattle.paper.specs.Algorithm4.{Instance, C, part}
 use Rattle.paper.specs.Standing.{copy, compared-quantity}
 
@@ -108,6 +108,18 @@ module _ (I : Instance) (i : ℕ) (deep : 0 < I .k) (wide : 1 < I .d) (bid : 0 <
         right = mul-pos (mul-pos (C-positive I deep wide) budget) e;
         cross = copy-cross (q .numerator) (q .denominator) (I .b i) (I .B i) (C I .denominator) (C I .numerator) (weight (I .k) (I .d) a) (I .d ^ a) ((I .d - 1) ^ a) (I .d ^ a * 1 - 1 * (I .d - 1) ^ a)
             (v .value) (weight-split I deep wide a (omega arith)) (omega (arith, pow-le-pow-left {n = I .d - 1} {m = I .d} (omega arith) a));
+      }
+
+  -- "by our choice of C, after at most k i-edges, z_i^c = b_i/B_i" (the proof of Theorem 5.1)
+  pub copy-full : copy I i (I .k) ≈ part I i
+  copy-full =
+      let e : 0 < (I .d - 1) ^ I .k * 1 = omega (arith, one-le-pow (I .k) (I .d - 1) (omega arith)) in
+      let y : I .d ^ I .k * 1 - 1 * (I .d - 1) ^ I .k ≡ C I .denominator = omega (arith, C-sum I, C-numerator I, weight-zero (I .k) (I .d)) in
+      let u : C I .numerator ≡ (I .d - 1) ^ I .k = C-numerator I ∙ weight-zero (I .k) (I .d) in
+      record {
+        left = mul-pos (mul-pos (C-positive I deep wide) budget) e;
+        right = budget;
+        cross = rw (y, u) (omega arith);
       }
 
 -- what line 4 compares is b_i · w / (d^k − (d−1)^k)

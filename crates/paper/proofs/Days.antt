@@ -1,19 +1,16 @@
 -- Every list of calls keeps its day beside Algorithm 4.
 use mathlib.Core.Path.{_≡_, refl, ap, ap₂, sym, subst, _∙_}
-use mathlib.Core.Bool.{Bool, true, false, cond}
+use mathlib.Core.Bool.{Bool, true, false}
 use mathlib.Core.List.{List, [], _∷_, _++_, map, map-append}
-use Prim.Native.Nat.{ℕ, zero, suc, _+_, _≤_, _<_}
+use Prim.Native.Nat.{ℕ, suc, _+_, _≤_, _<_}
 use native.Mathlib.Nat.{not-suc-le-zero}
 use native.Mathlib.Numerals.{add-one}
 use native.Mathlib.Omega.{arith}
 use lib.ListN.{getD, length, length-append, length-map, List·getD-append}
 use lib.Seq.{getD-append-seam}
 use borrow.Author.Tests.{eqb-true, eq-eqb, ne-eqb, ltb-true, leb-true}
-use Rattle.finite.proofs.Tests.{never, both-left, both-right, one-more, all-parts}
-use Rattle.day.specs.declared.Answer.{Answer}
-use Rattle.day.specs.declared.Campaign.{Campaign}
+use Rattle.finite.proofs.Tests.{never, both-left, one-more, all-parts}
 use Rattle.day.specs.declared.Day.{Day}
-use Rattle.day.specs.declared.Outcome.{Outcome}
 use Rattle.day.specs.declared.Phase.{Phase}
 use Rattle.day.specs.declared.Phase.the-variants.{Filling, Running, Closed}
 use Rattle.day.specs.declared.Plan.{Plan}
@@ -22,19 +19,19 @@ use Rattle.day.specs.declared.View.{View}
 use Rattle.day.specs.Choice.{Choice}
 use Rattle.day.specs.Choice.Choice.{nobody, plays}
 use Rattle.day.specs.Campaign.{fresh}
-use Rattle.day.specs.View.{names, chosen-of, viewed}
+use Rattle.day.specs.View.{names, chosen-of}
 use Rattle.day.specs.Day.{campaign, in-phase, planned, no-terms, blank-plan, blank, taken, is-filling}
 use Rattle.day.specs.Sound.{sound-tests, sound}
 use Rattle.day.specs.Calls.{number, Call, questions, joined, player, offers, shown, told, result, call}
 use Rattle.day.specs.Calls.Call.{open-plan, add-campaign, start-day, show-view, ask-tally, close-day}
 use Rattle.day.proofs.Questions.{Yes, call-elim}
 use Rattle.paper.specs.Algorithm4.{Instance, Neighbours, Variables, open-to, line-1, line-2, line-4, lines-3-to-11, matches-from, algorithm-4, matches}
-use Rattle.paper.specs.Standing.{Buys-alike, instance, slots, Posed}
-use Rattle.paper.specs.Days.{Exchange, transcript, final, accepted, Starts, History, opening, with-call, entered, continued, history, terms-of, instance-of, Day-alike, Days-as-Algorithm-4}
+use Rattle.paper.specs.Standing.{Buys-alike, slots, Posed}
+use Rattle.paper.specs.Days.{transcript, final, accepted, Starts, History, opening, with-call, entered, continued, history, terms-of, instance-of, Day-alike, Days-as-Algorithm-4}
 use Rattle.paper.specs.Days.Starts.{from-blank, from-opening}
 use Rattle.paper.proofs.Choices.{Fits, best-fits}
 use Rattle.paper.proofs.Slots.{Follows}
-use Rattle.paper.proofs.Simulation.{Proper, All, proper, follows-fresh, follows-stands, same-choice, same-step}
+use Rattle.paper.proofs.Simulation.{Proper, proper, follows-fresh, follows-stands, same-choice, same-step}
 use Rattle.paper.proofs.Holding.{campaign-holding, joined-old, joined-new, result-number}
 
 -- one slot more

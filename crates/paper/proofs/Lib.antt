@@ -2,6 +2,7 @@ pub mod Copies
 pub mod Choices
 pub mod Slots
 pub mod Simulation
+pub mod Budgets
 pub mod Holding
 pub mod Days
 pub mod Listing

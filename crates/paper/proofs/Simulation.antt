@@ -2,7 +2,7 @@
 use mathlib.Core.Path.{_≡_, refl, ap, ap₂, sym, subst, _∙_}
 use mathlib.Core.Bool.{Bool, true, false}
 use mathlib.Core.List.{List, [], _∷_}
-use Prim.Native.Nat.{ℕ, zero, suc, _+_, _*_, _/_, _≤_, _<_}
+use Prim.Native.Nat.{ℕ, suc, _+_, _*_, _/_, _≤_, _<_}
 use native.Mathlib.Nat.{le-div-iff-mul-le, pos-of-div-pos}
 use native.Mathlib.Omega.{arith}
 use lib.Dec.{ltb}
@@ -15,7 +15,7 @@ use Rattle.day.specs.declared.Campaign.{Campaign}
 use Rattle.day.specs.declared.Plan.{Plan}
 use Rattle.day.specs.declared.Terms.{Terms}
 use Rattle.day.specs.declared.View.{View}
-use Rattle.day.specs.Choice.{Choice, best, choice, is, role-of}
+use Rattle.day.specs.Choice.{Choice, choice, is, role-of}
 use Rattle.day.specs.Choice.Choice.{nobody, plays}
 use Rattle.day.specs.Campaign.{whole, can-pay, after, fresh}
 use Rattle.day.specs.View.{names, figure, able, chosen-of, viewed}

@@ -1,8 +1,8 @@
 -- One ad slot: the variables of an advertiser and the counts of its campaign stay together through lines 3 to 11 and rules 1 to 4.
 use mathlib.Core.Path.{_≡_, refl, ap, sym, subst, _∙_}
-use mathlib.Core.Bool.{Bool, true, false, cond, not, _&&_, and-true, and-false}
-use Prim.Native.Nat.{ℕ, zero, suc, _+_, _-_, _*_, _/_, _≤_, _<_}
-use native.Mathlib.Nat.{le-refl, le-step, mul-pos, le-div-iff-mul-le, div-lt-iff-lt-mul}
+use mathlib.Core.Bool.{Bool, true, false, cond, _&&_, and-true, and-false}
+use Prim.Native.Nat.{ℕ, suc, _+_, _-_, _*_, _/_, _≤_, _<_}
+use native.Mathlib.Nat.{le-refl, mul-pos, le-div-iff-mul-le, div-lt-iff-lt-mul}
 use native.Mathlib.Omega.{arith}
 use lib.Dec.{leb, ltb, eqb}
 use borrow.Author.Tests.{ltb-true, ltb-false, lt-ltb, le-ltb, le-leb, lt-leb, eqb-true, eqb-false, eq-eqb, ne-eqb}
@@ -15,8 +15,8 @@ use Rattle.day.specs.declared.Campaign.{Campaign}
 use Rattle.day.specs.Choice.{Choice, is, role-of}
 use Rattle.day.specs.Choice.Choice.{nobody, plays}
 use Rattle.day.specs.Campaign.{whole, can-pay, renamed, after, aged}
-use Rattle.paper.specs.Fraction.{Fraction, _÷_, integer, _⊕_, _⊗_, less, equal, lesser, _≈_}
-use Rattle.paper.specs.Algorithm4.{Instance, Neighbours, Variables, C, part, feasible, open-to, line-3, line-5, line-6, line-7, line-8, line-9, lines-9-to-11}
+use Rattle.paper.specs.Fraction.{Fraction, _÷_, integer, _⊕_, _⊗_, lesser, _≈_}
+use Rattle.paper.specs.Algorithm4.{Instance, Neighbours, Variables, C, part, feasible, open-to, line-3, line-5, line-6, line-9, lines-9-to-11}
 use Rattle.paper.proofs.Choices.{Fits}
 use Rattle.paper.proofs.Copies.{C-sum, Value, raised, below-part, reaches-part, starts, weight-below}
 
@@ -84,7 +84,7 @@ module _ (I : Instance) (deep : 0 < I .k) (wide : 1 < I .d) (i : ℕ) (bid-posit
   pub unfinished : (N : Neighbours) (v : Variables) (a : ℕ) → a < I .k → Value I i (weight (I .k) (I .d) a) (v .zᶜ i) → line-9 I N v i ≡ false
   unfinished N v a young q =
       let l : v .zᶜ i .numerator * I .B i < I .b i * v .zᶜ i .denominator =
-        below-part I i deep wide bid-positive budget-positive (v .zᶜ i) (weight (I .k) (I .d) a) q (weight-below I deep wide a young) in
+      below-part I i deep wide bid-positive budget-positive (v .zᶜ i) (weight (I .k) (I .d) a) q (weight-below I deep wide a young) in
       ap (λ t. N i && t) (ne-eqb (v .zᶜ i .numerator * I .B i) (I .b i * v .zᶜ i .denominator) (λ e. omega arith)) ∙ and-false (N i)
 
   -- lines 9 to 11 leave it

@@ -3,7 +3,7 @@
 use mathlib.Core.Path.{_≡_}
 use mathlib.Core.Bool.{true, false}
 use mathlib.Core.List.{List, [], _∷_, map}
-use Prim.Native.Nat.{ℕ, _-_, _/_, _≤_, _<_}
+use Prim.Native.Nat.{ℕ, _-_, _*_, _/_, _≤_, _<_}
 use lib.ListN.{length}
 use Rattle.finite.specs.Finite.{sum}
 use Rattle.day.specs.declared.Campaign.{Campaign}
@@ -21,6 +21,10 @@ use Rattle.paper.specs.Algorithm4.{Instance, Neighbours, Variables, C, p
 -- amount that buys as many whole plays will do.
 abbrev pub Buys-alike : (Terms → ℕ) → Type 0
 Buys-alike B = (t : Terms) → B t / t .price ≡ t .budget / t .price
+
+-- the budget without the cents left over: price × whole plays
+abbrev pub spendable : Terms → ℕ
+spendable t = t .price * (t .budget / t .price)
 
 -- k is the depth, d the width, the advertisers are n campaigns, and b_i is the price of campaign i
 abbrev pub instance : (Terms → ℕ) → Plan → (n : ℕ) → (ℕ → Terms) → Instance
