@@ -25,7 +25,7 @@ use Rattle.day.specs.Sound.{sound-tests, sound}
 use Rattle.day.specs.Calls.{number, Call, questions, joined, player, offers, shown, told, result, call}
 use Rattle.day.specs.Calls.Call.{open-plan, add-campaign, start-day, show-view, ask-tally, close-day}
 use Rattle.day.proofs.Questions.{Yes, call-elim}
-use Rattle.paper.specs.Algorithm4.{Instance, Neighbours, Variables, open-to, line-1, line-2, line-4, lines-3-to-11, matches-from, algorithm-4, matches}
+use Rattle.paper.specs.Algorithm4.{Instance, Neighbors, Variables, feasible-neighbor, line-1, line-2, line-4, lines-3-to-11, matches-from, algorithm-4, matches}
 use Rattle.paper.specs.Standing.{Buys-alike, slots, Posed}
 use Rattle.paper.specs.Days.{transcript, final, accepted, Starts, History, opening, with-call, entered, continued, history, terms-of, instance-of, Day-alike, Days-as-Algorithm-4}
 use Rattle.paper.specs.Days.Starts.{from-blank, from-opening}
@@ -35,13 +35,13 @@ use Rattle.paper.proofs.Simulation.{Proper, proper, follows-fresh, foll
 use Rattle.paper.proofs.Holding.{campaign-holding, joined-old, joined-new, result-number}
 
 -- one slot more
-line-2-snoc : (I : Instance) (Ns : List Neighbours) (N : Neighbours) (j : ℕ) (v : Variables) → line-2 I j (Ns ++ (N ∷ [])) v ≡ lines-3-to-11 I (length Ns + j) N (line-2 I j Ns v)
+line-2-snoc : (I : Instance) (Ns : List Neighbors) (N : Neighbors) (j : ℕ) (v : Variables) → line-2 I j (Ns ++ (N ∷ [])) v ≡ lines-3-to-11 I (length Ns + j) N (line-2 I j Ns v)
 unfolding line-2
 line-2-snoc I [] N j v = ap (λ m. lines-3-to-11 I m N v) (omega arith)
 line-2-snoc I (M ∷ Ns) N j v =
     line-2-snoc I Ns N (suc j) (lines-3-to-11 I j M v) ∙ ap (λ m. lines-3-to-11 I m N (line-2 I (suc j) Ns (lines-3-to-11 I j M v))) (omega arith)
 
-matches-snoc : (I : Instance) (Ns : List Neighbours) (N : Neighbours) (j : ℕ) (v : Variables)
+matches-snoc : (I : Instance) (Ns : List Neighbors) (N : Neighbors) (j : ℕ) (v : Variables)
     → matches-from I j (Ns ++ (N ∷ [])) v ≡ matches-from I j Ns v ++ (line-4 I (length Ns + j) N (line-2 I j Ns v) ∷ [])
 unfolding line-2 matches-from
 matches-snoc I [] N j v = ap (λ m. line-4 I m N v ∷ []) (omega arith)
@@ -171,7 +171,7 @@ module _ (B : Terms → ℕ) (buys : Buys-alike B) where
         unfolding I so-far line-4
         view-told =
             ap (told (offers s w)) (sym played)
-            ∙ told-eq (length (h .terms)) (open-to I so-far (length (h .views)) (names w)) (offers s w) (λ i. terms-of h i .price) (λ i l. k .beside wide i l .accounts .bid) (line-4 I (length (h .views)) (names w) so-far) (best-fits _ _ _)
+            ∙ told-eq (length (h .terms)) (feasible-neighbor I so-far (length (h .views)) (names w)) (offers s w) (λ i. terms-of h i .price) (λ i l. k .beside wide i l .accounts .bid) (line-4 I (length (h .views)) (names w) so-far) (best-fits _ _ _)
 
       kept-view : Kept (result s (show-view w) .day) (with-call h (show-view w) (result s (show-view w) .answer))
       unfolding I so-far

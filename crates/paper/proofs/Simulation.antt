@@ -20,17 +20,17 @@ use Rattle.day.specs.Choice.Choice.{nobody, plays}
 use Rattle.day.specs.Campaign.{whole, can-pay, after, fresh}
 use Rattle.day.specs.View.{names, figure, able, chosen-of, viewed}
 use Rattle.paper.specs.Fraction.{less}
-use Rattle.paper.specs.Algorithm4.{Instance, Neighbours, Variables, open-to, quantity, line-1, line-2, line-3, line-4, lines-9-to-11, lines-3-to-11, matches-from, algorithm-4}
+use Rattle.paper.specs.Algorithm4.{Instance, Neighbors, Variables, feasible-neighbor, quantity, displaces, line-1, line-2, line-3, line-4, lines-9-to-11, lines-3-to-11, matches-from, algorithm-4}
 use Rattle.paper.specs.Standing.{Buys-alike, instance, slots, Stands, Maximizes, Next, choices, campaigns-after, Posed, Alike, As-Algorithm-4}
 use Rattle.paper.proofs.Choices.{Fits, best-fits, best-eq, Most, choice-most}
-use Rattle.paper.proofs.Copies.{starts, value-copy, compared, value-quantity}
+use Rattle.paper.proofs.Copies.{starts, value-copy, copy-full, one-age, one-turns, displaced, value-quantity}
 use Rattle.paper.proofs.Slots.{Follows, unfinished, able-alike, after-slot}
 
 -- line 4's words pick out one match at most
-one-maximizes : (I : Instance) (j : ℕ) (N : Neighbours) (v : Variables) (a b : Choice) → Maximizes I j N v a → Maximizes I j N v b → a ≡ b
+one-maximizes : (I : Instance) (j : ℕ) (N : Neighbors) (v : Variables) (a b : Choice) → Maximizes I j N v a → Maximizes I j N v b → a ≡ b
 one-maximizes I j N v nobody nobody p q = refl
-one-maximizes I j N v nobody (plays n) p q = absurd (never (open-to I v j N n) (p n (q .0)) (q .1))
-one-maximizes I j N v (plays m) nobody p q = absurd (never (open-to I v j N m) (q m (p .0)) (p .1))
+one-maximizes I j N v nobody (plays n) p q = absurd (never (feasible-neighbor I v j N n) (p n (q .0)) (q .1))
+one-maximizes I j N v (plays m) nobody p q = absurd (never (feasible-neighbor I v j N m) (q m (p .0)) (p .1))
 one-maximizes I j N v (plays m) (plays n) p q = go (ltb m n) refl (ltb n m) refl
   where
     go : (t : Bool) → ltb m n ≡ t → (u : Bool) → ltb n m ≡ u → plays m ≡ plays n
@@ -57,16 +57,16 @@ module _ (I : Instance) (ok : Proper I) where
     age-stands = value-copy I i (ok .deep) (ok .wide) (ok .bids i l) (ok .budgets i l) (v .zᶜ i) (c .age) (h .young) (h .current);
     turns-stand = h .accounts .finished;
     plays-stand = h .accounts .matched;
-    quantity-stands = value-quantity I (ok .deep) (ok .wide) i (v .zᶜ i) (c .age) (omega (arith, h .young)) (h .current);
+    quantity-stands = value-quantity I (ok .deep) (ok .wide) v i (c .age) (omega (arith, h .young)) (h .current);
   }
 
   module _ (j : ℕ) (w : View) (v : Variables) (f : ℕ → Campaign) (h : All j v f) where
-    compares : (m i : ℕ) → m < I .n → i < I .n → less (quantity I v m) (quantity I v i) ≡ ltb (f m .price * weight (I .k) (I .d) (f m .age)) (f i .price * weight (I .k) (I .d) (f i .age))
+    compares : (m i : ℕ) → m < I .n → i < I .n → displaces I v m i ≡ ltb (f m .price * weight (I .k) (I .d) (f m .age)) (f i .price * weight (I .k) (I .d) (f i .age))
     compares m i l l′ =
-        compared I (ok .deep) (ok .wide) m i (weight (I .k) (I .d) (f m .age)) (weight (I .k) (I .d) (f i .age)) (v .zᶜ m) (v .zᶜ i) (h m l .current) (h i l′ .current)
+        displaced I (ok .deep) (ok .wide) v m i (weight (I .k) (I .d) (f m .age)) (weight (I .k) (I .d) (f i .age)) (h m l .current) (h i l′ .current)
         ∙ rw (h m l .accounts .bid, h i l′ .accounts .bid)
 
-    ables : (i : ℕ) → i < I .n → open-to I v j (names w) i ≡ able (plan-of I) w f i
+    ables : (i : ℕ) → i < I .n → feasible-neighbor I v j (names w) i ≡ able (plan-of I) w f i
     ables i l = able-alike I (ok .deep) (ok .wide) i (ok .bids i l) (ok .budgets i l) j (names w) v (f i) (h i l)
 
     pub same-choice : line-4 I j (names w) v ≡ chosen-of (I .n) (plan-of I) w f
@@ -77,7 +77,7 @@ module _ (I : Instance) (ok : Proper I) where
     unfolding line-4
     maximizes = go (line-4 I j (names w) v) (best-fits (I .n) _ _) (subst (Most (I .n) (able (plan-of I) w f) (λ i. figure (plan-of I) w i (f i))) (sym same-choice) (choice-most (I .n) _ _))
       where
-        go : (m : Choice) → Fits (I .n) (open-to I v j (names w)) m → Most (I .n) (able (plan-of I) w f) (λ i. figure (plan-of I) w i (f i)) m → Maximizes I j (names w) v m
+        go : (m : Choice) → Fits (I .n) (feasible-neighbor I v j (names w)) m → Most (I .n) (able (plan-of I) w f) (λ i. figure (plan-of I) w i (f i)) m → Maximizes I j (names w) v m
         go nobody none most = none
         go (plays m) one most = (
           one .0,
@@ -147,6 +147,11 @@ module _ (B : Terms → ℕ) (buys : Buys-alike B) (pl : Plan) (n : ℕ) (t : �
       subst (λ j. All I proper j (algorithm-4 I (slots ws)) (campaigns-after n pl ws (λ i. fresh (t i)))) (omega arith) (run-follows I proper ws 0 line-1 (λ i. fresh (t i)) follows-fresh) in
       record {
         same-choices = run-choices I proper ws 0 line-1 (λ i. fresh (t i)) follows-fresh;
+        legible = λ i l. record {
+          one-age = one-age I i (posed .deep) (posed .wide) (proper .bids i l) (proper .budgets i l);
+          one-turns = one-turns I i (posed .deep) (posed .wide) (proper .bids i l) (proper .budgets i l);
+          full = copy-full I i (posed .deep) (posed .wide) (proper .bids i l) (proper .budgets i l);
+        };
         same-counts = λ i l. follows-stands I proper (length ws) (algorithm-4 I (slots ws)) i (campaigns-after n pl ws (λ i′. fresh (t i′)) i) l (h i l);
         next = λ w. next-slot I proper (length ws) w (algorithm-4 I (slots ws)) (campaigns-after n pl ws (λ i. fresh (t i))) h;
       }

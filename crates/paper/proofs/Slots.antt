@@ -15,8 +15,8 @@ use Rattle.day.specs.declared.Campaign.{Campaign}
 use Rattle.day.specs.Choice.{Choice, is, role-of}
 use Rattle.day.specs.Choice.Choice.{nobody, plays}
 use Rattle.day.specs.Campaign.{whole, can-pay, renamed, after, aged}
-use Rattle.paper.specs.Fraction.{Fraction, _÷_, integer, _⊕_, _⊗_, lesser, _≈_}
-use Rattle.paper.specs.Algorithm4.{Instance, Neighbours, Variables, C, part, feasible, open-to, line-3, line-5, line-6, line-9, lines-9-to-11}
+use Rattle.paper.specs.Fraction.{Fraction, integer, _⊗_, lesser, _≈_}
+use Rattle.paper.specs.Algorithm4.{Instance, Neighbors, Variables, C, part, feasible, feasible-neighbor, grown, line-3, line-5, line-6, line-9, lines-9-to-11}
 use Rattle.paper.proofs.Choices.{Fits}
 use Rattle.paper.proofs.Copies.{C-sum, Value, raised, below-part, reaches-part, starts, weight-below}
 
@@ -81,14 +81,14 @@ add-part z t y z′ b B y′ p q = omega (arith, ap (λ x. x * y′) p, ap (λ x
 
 module _ (I : Instance) (deep : 0 < I .k) (wide : 1 < I .d) (i : ℕ) (bid-positive : 0 < I .b i) (budget-positive : 0 < I .B i) where
   -- a copy of less than k edges is not finished
-  pub unfinished : (N : Neighbours) (v : Variables) (a : ℕ) → a < I .k → Value I i (weight (I .k) (I .d) a) (v .zᶜ i) → line-9 I N v i ≡ false
+  pub unfinished : (N : Neighbors) (v : Variables) (a : ℕ) → a < I .k → Value I i (weight (I .k) (I .d) a) (v .zᶜ i) → line-9 I N v i ≡ false
   unfinished N v a young q =
       let l : v .zᶜ i .numerator * I .B i < I .b i * v .zᶜ i .denominator =
       below-part I i deep wide bid-positive budget-positive (v .zᶜ i) (weight (I .k) (I .d) a) q (weight-below I deep wide a young) in
       ap (λ t. N i && t) (ne-eqb (v .zᶜ i .numerator * I .B i) (I .b i * v .zᶜ i .denominator) (λ e. omega arith)) ∙ and-false (N i)
 
   -- lines 9 to 11 leave it
-  kept : (j : ℕ) (N : Neighbours) (v : Variables) (c : Campaign) → Accounts I j i c (c .plays) (v .z i) (v .x i) → c .age < I .k → Value I i (weight (I .k) (I .d) (c .age)) (v .zᶜ i)
+  kept : (j : ℕ) (N : Neighbors) (v : Variables) (c : Campaign) → Accounts I j i c (c .plays) (v .z i) (v .x i) → c .age < I .k → Value I i (weight (I .k) (I .d) (c .age)) (v .zᶜ i)
       → Follows I j (lines-9-to-11 I N v) i c
   kept j N v c a young q =
       let e : line-9 I N v i ≡ false = unfinished N v (c .age) young q in
@@ -99,7 +99,7 @@ module _ (I : Instance) (deep : 0 < I .k) (wide : 1 < I .d) (i : ℕ) (bid-posit
       }
 
   -- and close one that is finished
-  done : (j : ℕ) (N : Neighbours) (v : Variables) (c : Campaign) (p : ℕ) → Accounts I j i c p (v .z i) (v .x i) → N i ≡ true
+  done : (j : ℕ) (N : Neighbors) (v : Variables) (c : Campaign) (p : ℕ) → Accounts I j i c p (v .z i) (v .x i) → N i ≡ true
       → 0 < v .zᶜ i .denominator → v .zᶜ i .numerator * I .B i ≡ I .b i * v .zᶜ i .denominator → Follows I j (lines-9-to-11 I N v) i (renamed c p (c .turns + 1) 0)
   unfolding whole
   done j N v c p a named positive cross =
@@ -124,11 +124,11 @@ module _ (I : Instance) (deep : 0 < I .k) (wide : 1 < I .d) (i : ℕ) (bid-posit
   pays-alike : (j : ℕ) (v : Variables) (c : Campaign) (z : Fraction) → Accounts I (suc j) i c (c .plays) z (v .x i) → feasible I v j i ≡ can-pay c
   pays-alike j v c z a = feasible-is I j v i (c .plays) bid-positive (a .matched) ∙ ap (λ n. ltb (c .plays) n) (sym (a .copies))
 
-  module _ (j : ℕ) (N : Neighbours) (v : Variables) (c : Campaign) (f : Follows I j v i c) where
+  module _ (j : ℕ) (N : Neighbors) (v : Variables) (c : Campaign) (f : Follows I j v i c) where
     untouched : Accounts I (suc j) i c (c .plays) (v .z i) (v .x i)
     untouched = passed-by I j i c (c .plays) (v .z i) (v .x i) (v .x i) (λ j′. refl) (f .accounts)
 
-    pub able-alike : open-to I v j N i ≡ (N i && can-pay c)
+    pub able-alike : feasible-neighbor I v j N i ≡ (N i && can-pay c)
     able-alike = ap (λ t. N i && t) (pays-alike j v c (v .z i) untouched)
 
     -- nobody is matched
@@ -158,7 +158,7 @@ module _ (I : Instance) (deep : 0 < I .k) (wide : 1 < I .d) (i : ℕ) (bid-posit
       row = passed-by I j i c (c .plays) (v .z i) (v .x i) (line-5 j m v .x i) (λ j′. rw other) (f .accounts)
 
       up : Fraction
-      up = v .zᶜ i ⊗ (I .d ÷ (I .d - 1)) ⊕ 1 ÷ (I .d - 1) ⊗ C I ⊗ part I i
+      up = grown I i (v .zᶜ i)
 
       mid-copy : line-3 I j N (plays m) v .zᶜ i ≡ cond (N i && can-pay c) (lesser (part I i) up) (v .zᶜ i)
       unfolding up
@@ -193,15 +193,15 @@ module _ (I : Instance) (deep : 0 < I .k) (wide : 1 < I .d) (i : ℕ) (bid-posit
               (f .young) (rw q (f .current))
           go true e true q = after-passed (eqb (c .age + 1) (I .k)) refl e q
 
-    -- whomever line 4 matches among the feasible neighbours
-    pub after-slot : (m : Choice) → Fits (I .n) (open-to I v j N) m → i < I .n → Follows I (suc j) (lines-9-to-11 I N (line-3 I j N m v)) i (after (I .k) (role-of (N i) (can-pay c) (is m i)) c)
+    -- whomever line 4 matches among the feasible neighbors
+    pub after-slot : (m : Choice) → Fits (I .n) (feasible-neighbor I v j N) m → i < I .n → Follows I (suc j) (lines-9-to-11 I N (line-3 I j N m v)) i (after (I .k) (role-of (N i) (can-pay c) (is m i)) c)
     after-slot nobody none l = after-nobody (sym able-alike ∙ none i l)
     after-slot (plays m) one l = go (eqb i m) refl
       where
         go : (t : Bool) → eqb i m ≡ t → Follows I (suc j) (lines-9-to-11 I N (line-3 I j N (plays m) v)) i (after (I .k) (role-of (N i) (can-pay c) (eqb i m)) c)
         go true e =
             let q : i ≡ m = eqb-true i m e in
-            let both : (N i && can-pay c) ≡ true = sym able-alike ∙ ap (open-to I v j N) q ∙ one .1 in
+            let both : (N i && can-pay c) ≡ true = sym able-alike ∙ ap (feasible-neighbor I v j N) q ∙ one .1 in
             subst (λ r. Follows I (suc j) (lines-9-to-11 I N (line-3 I j N (plays r) v)) i (after (I .k) (role-of (N i) (can-pay c) (eqb i r)) c)) q
             (after-own (both-left (N i) (can-pay c) both) (both-right (N i) (can-pay c) both))
         go false e = after-other m e

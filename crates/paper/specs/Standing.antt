@@ -15,7 +15,7 @@ use Rattle.day.specs.Choice.Choice.{nobody, plays}
 use Rattle.day.specs.Campaign.{fresh}
 use Rattle.day.specs.View.{names, chosen-of, viewed}
 use Rattle.paper.specs.Fraction.{Fraction, _÷_, integer, _⊖_, _⊗_, power, less, _≈_}
-use Rattle.paper.specs.Algorithm4.{Instance, Neighbours, Variables, C, part, open-to, quantity, line-4, line-9, algorithm-4, matches}
+use Rattle.paper.specs.Algorithm4.{Instance, Neighbors, Variables, C, part, feasible-neighbor, quantity, line-4, line-9, algorithm-4, matches}
 
 -- B_i: "Without loss of generality, B_i/b_i is integral". The budget that was handed in, the budget without the cents left over, and any other
 -- amount that buys as many whole plays will do.
@@ -30,8 +30,8 @@ spendable t = t .price * (t .budget / t .price)
 abbrev pub instance : (Terms → ℕ) → Plan → (n : ℕ) → (ℕ → Terms) → Instance
 instance B pl n t = record { k = pl .depth; d = pl .width; n = n; b = λ i. t i .price; B = λ i. B (t i) }
 
--- the ad slots are the views, and their neighbours the campaigns that they name
-abbrev pub slots : List View → List Neighbours
+-- the ad slots are the views, and their neighbors the campaigns that they name
+abbrev pub slots : List View → List Neighbors
 slots ws = map names ws
 
 -- "z_i^c = C · b_i/B_i · ((d/(d−1))^{d^c(i)} − 1), where d^c(i) is the degree of i's current copy, or equivalently, the number of i's edges
@@ -51,17 +51,23 @@ pub record Stands (I : Instance) (j : ℕ) (v : Variables) (i : ℕ) (c : Campai
   pub plays-stand : sum j (v .x i) ≡ c .plays
   pub quantity-stands : quantity I v i ≈ compared-quantity I i (c .age)
 
--- lines 3 and 4 in their words: a feasible neighbour is matched, none has a greater quantity, and none of a lower number an equal one; or
--- there is no feasible neighbour
-abbrev pub Maximizes : Instance → (j : ℕ) → Neighbours → Variables → Choice → Type 0
-Maximizes I j N v nobody = (i : ℕ) → i < I .n → open-to I v j N i ≡ false
+-- no two ages and no two turns stand for one value, and "by our choice of C, after at most k i-edges, z_i^c = b_i/B_i" (the same proof)
+pub record Legible (I : Instance) (i : ℕ) : Type 0 where
+  pub one-age : (a a′ : ℕ) → copy I i a ≈ copy I i a′ → a ≡ a′
+  pub one-turns : (t t′ : ℕ) → integer t ⊗ part I i ≈ integer t′ ⊗ part I i → t ≡ t′
+  pub full : copy I i (I .k) ≈ part I i
+
+-- lines 3 and 4 in their words: a feasible neighbor is matched, none has a greater quantity, and none of a lower number an equal one; or
+-- there is no feasible neighbor
+abbrev pub Maximizes : Instance → (j : ℕ) → Neighbors → Variables → Choice → Type 0
+Maximizes I j N v nobody = (i : ℕ) → i < I .n → feasible-neighbor I v j N i ≡ false
 Maximizes I j N v (plays m) =
-    (m < I .n) × (open-to I v j N m ≡ true) ×
-    ((i : ℕ) → i < I .n → open-to I v j N i ≡ true → (less (quantity I v m) (quantity I v i) ≡ false) × (i < m → less (quantity I v i) (quantity I v m) ≡ true))
+    (m < I .n) × (feasible-neighbor I v j N m ≡ true) ×
+    ((i : ℕ) → i < I .n → feasible-neighbor I v j N i ≡ true → (less (quantity I v m) (quantity I v i) ≡ false) × (i < m → less (quantity I v i) (quantity I v m) ≡ true))
 
 -- slot j arrives: line 4 matches as its words say, and nobody else would do; and no copy waits to be finished, so that lines 9 to 11 do
 -- nothing where nobody is matched, whether they stand under line 3 or not
-pub record Next (I : Instance) (j : ℕ) (N : Neighbours) (v : Variables) : Type 0 where
+pub record Next (I : Instance) (j : ℕ) (N : Neighbors) (v : Variables) : Type 0 where
   pub maximizing : Maximizes I j N v (line-4 I j N v)
   pub only-one : (m : Choice) → Maximizes I j N v m → m ≡ line-4 I j N v
   pub none-waits : (i : ℕ) → i < I .n → line-9 I N v i ≡ false
@@ -82,9 +88,10 @@ pub record Posed (pl : Plan) (n : ℕ) (t : ℕ → Terms) : Type 0 where
   pub priced : (i : ℕ) → i < n → 1 ≤ t i .price
   pub funded : (i : ℕ) → i < n → t i .price ≤ t i .budget
 
--- from fresh campaigns and through the views ws: the matches are our choices, and our counts stand for the variables
+-- from fresh campaigns and through the views ws: the matches are our choices, and our counts stand for the variables, and tell them
 pub record Alike (I : Instance) (pl : Plan) (t : ℕ → Terms) (ws : List View) : Type 0 where
   pub same-choices : matches I (slots ws) ≡ choices (I .n) pl ws (λ i. fresh (t i))
+  pub legible : (i : ℕ) → i < I .n → Legible I i
   pub same-counts : (i : ℕ) → i < I .n → Stands I (length ws) (algorithm-4 I (slots ws)) i (campaigns-after (I .n) pl ws (λ i′. fresh (t i′)) i)
   pub next : (w : View) → Next I (length ws) (names w) (algorithm-4 I (slots ws))
 
