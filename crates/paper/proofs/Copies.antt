@@ -60,8 +60,8 @@ module _ (I : Instance) (deep : 0 < I .k) (wide : 1 < I .d) where
 
 -- q is b_i/B_i · (w − W(0))/(d^k − (d−1)^k)
 pub record Value (I : Instance) (i w : ℕ) (q : Fraction) : Type 0 where
-  pub positive : 0 < q .denominator
   pub value : q .numerator * (I .B i * C I .denominator) + I .b i * C I .numerator * q .denominator ≡ I .b i * w * q .denominator
+  pub positive : 0 < q .denominator
 
 raise-by : (n m b T u w w′ d e : ℕ) → d ≡ e + 1 → n * T + b * u * m ≡ b * w * m → w′ * e ≡ w * d
     → ((n * d) * (e * T) + ((1 * u) * b) * (m * e)) * T + b * u * ((m * e) * (e * T)) ≡ b * w′ * ((m * e) * (e * T))
@@ -96,9 +96,8 @@ module _ (I : Instance) (i : ℕ) (deep : 0 < I .k) (wide : 1 < I .d) (bid : 0 <
   pub raised : (q : Fraction) (a : ℕ) → a < I .k → Value I i (weight (I .k) (I .d) a) q
       → Value I i (weight (I .k) (I .d) (a + 1)) (grown I i q)
   raised q a h v = record {
+    value = omega (arith, raise-value (q .numerator) (q .denominator) (I .b i) (I .B i) (C I .denominator) (C I .numerator) (weight (I .k) (I .d) a) (weight (I .k) (I .d) (a + 1)) (I .d) (I .d - 1) (omega arith) (v .value) (weight-ratio I deep wide a h));
     positive = let e : 0 < I .d - 1 = omega arith in mul-pos (mul-pos (v .positive) e) (mul-pos (mul-pos e (C-positive I deep wide)) budget);
-    value = raise-value (q .numerator) (q .denominator) (I .b i) (I .B i) (C I .denominator) (C I .numerator) (weight (I .k) (I .d) a) (weight (I .k) (I .d) (a + 1)) (I .d) (I .d - 1)
-        (omega arith) (v .value) (weight-ratio I deep wide a h);
   }
 
   pub below-part : (q : Fraction) (w : ℕ) → Value I i w q → w < C I .denominator + C I .numerator → q .numerator * I .B i < I .b i * q .denominator
@@ -111,7 +110,7 @@ module _ (I : Instance) (i : ℕ) (deep : 0 < I .k) (wide : 1 < I .d) (bid : 0 <
 
   -- nothing yet
   pub starts : Value I i (weight (I .k) (I .d) 0) (integer 0)
-  starts = record { positive = omega arith; value = omega (arith, ap (λ x. I .b i * x) (C-numerator I)) }
+  starts = record { value = omega (arith, ap (λ x. I .b i * x) (C-numerator I)); positive = omega arith }
 
   -- the paper's own form of it
   pub value-copy : (q : Fraction) (a : ℕ) → a < I .k → Value I i (weight (I .k) (I .d) a) q → q ≈ copy I i a
