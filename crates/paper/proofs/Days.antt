@@ -10,6 +10,7 @@ use lib.ListN.{getD, length, length-append, length-map, List·getD-append}
 use lib.Seq.{getD-append-seam}
 use borrow.Author.Tests.{eqb-true, eq-eqb, ne-eqb, ltb-true, leb-true}
 use Rattle.finite.proofs.Tests.{never, both-left, one-more, all-parts}
+use Rattle.day.specs.declared.Answer.{Answer}
 use Rattle.day.specs.declared.Day.{Day}
 use Rattle.day.specs.declared.Phase.{Phase}
 use Rattle.day.specs.declared.Phase.the-variants.{Filling, Running, Closed}
@@ -25,14 +26,17 @@ use Rattle.day.specs.Sound.{sound-tests, sound}
 use Rattle.day.specs.Calls.{number, Call, questions, joined, player, offers, shown, told, result, call}
 use Rattle.day.specs.Calls.Call.{open-plan, add-campaign, start-day, show-view, ask-tally, close-day}
 use Rattle.day.proofs.Questions.{Yes, call-elim}
+use Rattle.laws.specs.Transcript.{transcript, final}
+use Rattle.laws.proofs.Holding.{campaign-holding, joined-old, joined-new}
+use Rattle.laws.proofs.Refusals.{result-number}
+use Rattle.floor.specs.History.{accepted, Starts, History, opening, with-call, entered, continued, history}
+use Rattle.floor.specs.History.Starts.{from-blank, from-opening}
 use Rattle.paper.specs.Algorithm4.{Instance, Neighbors, Variables, feasible-neighbor, line-1, line-2, line-4, lines-3-to-11, matches-from, algorithm-4, matches}
 use Rattle.paper.specs.Standing.{Buys-alike, slots, Posed}
-use Rattle.paper.specs.Days.{transcript, final, accepted, Starts, History, opening, with-call, entered, continued, history, terms-of, instance-of, Day-alike, Days-as-Algorithm-4}
-use Rattle.paper.specs.Days.Starts.{from-blank, from-opening}
+use Rattle.paper.specs.Days.{replied, replies-from, replies, with-answer, terms-of, instance-of, Day-alike, Days-as-Algorithm-4}
 use Rattle.paper.proofs.Choices.{Fits, best-fits}
 use Rattle.paper.proofs.Slots.{Follows}
 use Rattle.paper.proofs.Simulation.{Proper, proper, follows-fresh, follows-stands, same-choice, same-step}
-use Rattle.paper.proofs.Holding.{campaign-holding, joined-old, joined-new, result-number}
 
 -- one slot more
 line-2-snoc : (I : Instance) (Ns : List Neighbors) (N : Neighbors) (j : ℕ) (v : Variables) → line-2 I j (Ns ++ (N ∷ [])) v ≡ lines-3-to-11 I (length Ns + j) N (line-2 I j Ns v)
@@ -69,11 +73,11 @@ module _ (B : Terms → ℕ) (buys : Buys-alike B) where
   abbrev pub Beside : History → Day → Type 0
   Beside h s = (i : ℕ) → i < length (h .terms) → Follows (instance-of B h) (length (h .views)) (algorithm-4 (instance-of B h) (slots (h .views))) i (campaign s i)
 
-  abbrev pub Answered : History → Type 0
-  Answered h = h .answers ≡ map (told (λ i. terms-of h i .price)) (matches (instance-of B h) (slots (h .views)))
+  abbrev pub Answered : History → List Answer → Type 0
+  Answered h rs = rs ≡ map (told (λ i. terms-of h i .price)) (matches (instance-of B h) (slots (h .views)))
 
-  -- the state s holds the day h
-  pub record Kept (s : Day) (h : History) : Type 0 where
+  -- the state s holds the day h, whose views were answered rs
+  pub record Kept (s : Day) (h : History) (rs : List Answer) : Type 0 where
     pub plan-is : s .plan ≡ h .plan
     pub many : length (h .terms) ≡ s .count
     pub deep : 1 ≤ h .plan .depth
@@ -82,9 +86,9 @@ module _ (B : Terms → ℕ) (buys : Buys-alike B) where
     pub unviewed : is-filling (s .phase) ≡ true → h .views ≡ []
     pub unplayed : is-filling (s .phase) ≡ true → (i : ℕ) → i < length (h .terms) → campaign s i ≡ fresh (terms-of h i)
     pub beside : 1 < h .plan .width → Beside h s
-    pub answered : 1 < h .plan .width → Answered h
+    pub answered : 1 < h .plan .width → Answered h rs
 
-  kept-opening : (p : Phase) (pl : Plan) → 1 ≤ pl .depth → Kept (planned p pl) (opening pl)
+  kept-opening : (p : Phase) (pl : Plan) → 1 ≤ pl .depth → Kept (planned p pl) (opening pl) []
   unfolding matches-from
   kept-opening p pl deep = record {
     plan-is = refl;
@@ -98,15 +102,15 @@ module _ (B : Terms → ℕ) (buys : Buys-alike B) where
     answered = λ _. refl;
   }
 
-  posed-of : (s : Day) (h : History) → Kept s h → 1 < h .plan .width → Posed (h .plan) (length (h .terms)) (terms-of h)
-  posed-of s h k wide = record { deep = k .deep; wide = wide; priced = k .priced; funded = k .funded }
+  posed-of : (s : Day) (h : History) (rs : List Answer) → Kept s h rs → 1 < h .plan .width → Posed (h .plan) (length (h .terms)) (terms-of h)
+  posed-of s h rs k wide = record { deep = k .deep; wide = wide; priced = k .priced; funded = k .funded }
 
   -- before the first view
   beside-fresh : (s : Day) (h : History) → Posed (h .plan) (length (h .terms)) (terms-of h) → h .views ≡ [] → ((i : ℕ) → i < length (h .terms) → campaign s i ≡ fresh (terms-of h i)) → Beside h s
   unfolding line-2
   beside-fresh s h posed none same i l = rw (none, same i l) (follows-fresh B buys (h .plan) (length (h .terms)) (terms-of h) posed i l)
 
-  module _ (s : Day) (h : History) (k : Kept s h) where
+  module _ (s : Day) (h : History) (rs : List Answer) (k : Kept s h rs) where
     module _ (t : Terms) (y : Yes (questions s (add-campaign t))) where
       more : History
       more = with-call h (add-campaign t) (result s (add-campaign t) .answer)
@@ -127,7 +131,7 @@ module _ (B : Terms → ℕ) (buys : Buys-alike B) where
           (λ i l. campaign-holding Filling (s .plan) (s .count + 1) (s .accepted) (joined s t) i (omega (arith, k .many)) ∙ joined-old s t i (λ e. omega (arith, k .many)) ∙ k .unplayed (y .1 .0) i l)
           (campaign-holding Filling (s .plan) (s .count + 1) (s .accepted) (joined s t) (length (h .terms)) (omega (arith, k .many)) ∙ ap (joined s t) (k .many) ∙ joined-new s t)
 
-      kept-add : Kept (result s (add-campaign t) .day) more
+      kept-add : Kept (result s (add-campaign t) .day) more rs
       unfolding more matches-from
       kept-add = record {
         plan-is = k .plan-is;
@@ -157,7 +161,7 @@ module _ (B : Terms → ℕ) (buys : Buys-alike B) where
       module _ (wide : 1 < h .plan .width) where
         ok : Proper I
         unfolding I
-        ok = proper B buys (h .plan) (length (h .terms)) (terms-of h) (posed-of s h k wide)
+        ok = proper B buys (h .plan) (length (h .terms)) (terms-of h) (posed-of s h rs k wide)
 
         played : line-4 I (length (h .views)) (names w) so-far ≡ player s w
         unfolding I so-far ok
@@ -173,7 +177,7 @@ module _ (B : Terms → ℕ) (buys : Buys-alike B) where
             ap (told (offers s w)) (sym played)
             ∙ told-eq (length (h .terms)) (feasible-neighbor I so-far (length (h .views)) (names w)) (offers s w) (λ i. terms-of h i .price) (λ i l. k .beside wide i l .accounts .bid) (line-4 I (length (h .views)) (names w) so-far) (best-fits _ _ _)
 
-      kept-view : Kept (result s (show-view w) .day) (with-call h (show-view w) (result s (show-view w) .answer))
+      kept-view : Kept (result s (show-view w) .day) (with-call h (show-view w) (result s (show-view w) .answer)) (with-answer rs (show-view w) (result s (show-view w) .answer))
       unfolding I so-far
       kept-view = record {
         plan-is = k .plan-is;
@@ -198,7 +202,7 @@ module _ (B : Terms → ℕ) (buys : Buys-alike B) where
       }
 
     -- a phase that is not Filling
-    kept-phase : (p : Phase) → is-filling p ≡ false → Kept (in-phase s p) h
+    kept-phase : (p : Phase) → is-filling p ≡ false → Kept (in-phase s p) h rs
     kept-phase p e = record {
       plan-is = k .plan-is;
       many = k .many;
@@ -211,7 +215,7 @@ module _ (B : Terms → ℕ) (buys : Buys-alike B) where
       answered = k .answered;
     }
 
-    kept-result : (c : Call) → Yes (questions s c) → Kept (result s c .day) (with-call h c (result s c .answer))
+    kept-result : (c : Call) → Yes (questions s c) → Kept (result s c .day) (with-call h c (result s c .answer)) (with-answer rs c (result s c .answer))
     unfolding more
     kept-result (open-plan pl) y = kept-opening Filling pl (leb-true 1 (pl .depth) (both-left _ _ (y .1 .1 .0)))
     kept-result (add-campaign t) y = kept-add t y
@@ -220,37 +224,40 @@ module _ (B : Terms → ℕ) (buys : Buys-alike B) where
     kept-result (ask-tally i) y = k
     kept-result close-day y = kept-phase (Closed (taken s)) refl
 
-    kept-call : (c : Call) → Kept (call s c .day) (entered h (record { made = c; answer = call s c .answer }))
+    kept-call : (c : Call) → Kept (call s c .day) (entered h (record { made = c; answer = call s c .answer })) (replied rs (record { made = c; answer = call s c .answer }))
     kept-call c =
-        call-elim (λ o. Kept (o .day) (entered h (record { made = c; answer = o .answer }))) s c (λ q. rw (ne-eqb (suc q) 0 (λ z. omega arith)) k)
+        call-elim (λ o. Kept (o .day) (entered h (record { made = c; answer = o .answer })) (replied rs (record { made = c; answer = o .answer }))) s c (λ q. rw (ne-eqb (suc q) 0 (λ z. omega arith)) k)
         (λ y. rw (eq-eqb (number (result s c .answer)) 0 (result-number s c)) (kept-result c y))
 
-  kept-calls : (cs : List Call) (s : Day) (h : History) → Kept s h → Kept (final s cs) (continued h (transcript s cs))
-  unfolding final transcript continued
-  kept-calls [] s h k = k
-  kept-calls (c ∷ cs) s h k = kept-calls cs (call s c .day) (entered h (record { made = c; answer = call s c .answer })) (kept-call s h k c)
+  kept-calls : (cs : List Call) (s : Day) (h : History) (rs : List Answer) → Kept s h rs → Kept (final s cs) (continued h (transcript s cs)) (replies-from rs (transcript s cs))
+  unfolding final transcript continued replies-from
+  kept-calls [] s h rs k = k
+  kept-calls (c ∷ cs) s h rs k =
+      kept-calls cs (call s c .day) (entered h (record { made = c; answer = call s c .answer })) (replied rs (record { made = c; answer = call s c .answer })) (kept-call s h rs k c)
 
-  kept-blank : Kept blank (opening blank-plan)
+  kept-blank : Kept blank (opening blank-plan) []
   unfolding blank
   kept-blank = kept-opening (Closed 0) blank-plan (omega arith)
 
   -- an accepted opening, from any state
-  kept-from : (s : Day) (pl : Plan) → accepted (call s (open-plan pl) .answer) ≡ true → Kept (call s (open-plan pl) .day) (entered (opening blank-plan) (record { made = open-plan pl; answer = call s (open-plan pl) .answer }))
+  kept-from : (s : Day) (pl : Plan) → accepted (call s (open-plan pl) .answer) ≡ true
+      → Kept (call s (open-plan pl) .day) (entered (opening blank-plan) (record { made = open-plan pl; answer = call s (open-plan pl) .answer })) (replied [] (record { made = open-plan pl; answer = call s (open-plan pl) .answer }))
   kept-from s pl e =
-      call-elim (λ o. accepted (o .answer) ≡ true → Kept (o .day) (entered (opening blank-plan) (record { made = open-plan pl; answer = o .answer }))) s (open-plan pl)
+      call-elim (λ o. accepted (o .answer) ≡ true → Kept (o .day) (entered (opening blank-plan) (record { made = open-plan pl; answer = o .answer })) (replied [] (record { made = open-plan pl; answer = o .answer }))) s (open-plan pl)
       (λ q z. absurd (omega (arith, eqb-true (suc q) 0 z))) (λ y z. kept-opening Filling pl (leb-true 1 (pl .depth) (both-left _ _ (y .1 .1 .0)))) e
 
-  kept : (s : Day) (cs : List Call) → Starts s cs → Kept (final s cs) (history (transcript s cs))
-  unfolding final transcript continued
-  kept _ _ (from-blank cs) = kept-calls cs blank (opening blank-plan) kept-blank
-  kept _ _ (from-opening s pl cs e) = kept-calls cs (call s (open-plan pl) .day) (entered (opening blank-plan) (record { made = open-plan pl; answer = call s (open-plan pl) .answer })) (kept-from s pl e)
+  kept : (s : Day) (cs : List Call) → Starts s cs → Kept (final s cs) (history (transcript s cs)) (replies (transcript s cs))
+  unfolding final transcript continued replies-from
+  kept _ _ (from-blank cs) = kept-calls cs blank (opening blank-plan) [] kept-blank
+  kept _ _ (from-opening s pl cs e) =
+      kept-calls cs (call s (open-plan pl) .day) (entered (opening blank-plan) (record { made = open-plan pl; answer = call s (open-plan pl) .answer })) (replied [] (record { made = open-plan pl; answer = call s (open-plan pl) .answer })) (kept-from s pl e)
 
-  alike-of : (s : Day) (h : History) → Kept s h → 1 < h .plan .width → Day-alike B h s
-  alike-of s h k wide = record {
+  alike-of : (s : Day) (h : History) (rs : List Answer) → Kept s h rs → 1 < h .plan .width → Day-alike B h rs s
+  alike-of s h rs k wide = record {
     same-answers = k .answered wide;
     same-tallies = λ i l.
-        follows-stands (instance-of B h) (proper B buys (h .plan) (length (h .terms)) (terms-of h) (posed-of s h k wide)) (length (h .views)) (algorithm-4 (instance-of B h) (slots (h .views))) i (campaign s i) l (k .beside wide i l);
+        follows-stands (instance-of B h) (proper B buys (h .plan) (length (h .terms)) (terms-of h) (posed-of s h rs k wide)) (length (h .views)) (algorithm-4 (instance-of B h) (slots (h .views))) i (campaign s i) l (k .beside wide i l);
   }
 
 pub days-as-algorithm-4 : Days-as-Algorithm-4
-days-as-algorithm-4 B buys s cs st wide = alike-of B buys (final s cs) (history (transcript s cs)) (kept B buys s cs st) wide
+days-as-algorithm-4 B buys s cs st wide = alike-of B buys (final s cs) (history (transcript s cs)) (replies (transcript s cs)) (kept B buys s cs st) wide

@@ -3,6 +3,5 @@ pub mod Choices
 pub mod Slots
 pub mod Simulation
 pub mod Budgets
-pub mod Holding
 pub mod Days
 pub mod Listing

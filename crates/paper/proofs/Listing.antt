@@ -18,11 +18,13 @@ use Rattle.day.specs.Day.{no-terms, blank, taken, claimed, budgeted}
 use Rattle.day.specs.Sound.{sound, sound-plan, sound-campaign, priced, counted, uncounted, empty}
 use Rattle.day.specs.Calls.{Call, first-no, width-holds, call}
 use Rattle.day.specs.Calls.Call.{open-plan, add-campaign, start-day, show-view, close-day}
+use Rattle.laws.specs.Transcript.{transcript, final}
+use Rattle.floor.specs.History.{continued, history}
+use Rattle.floor.specs.History.Starts.{from-blank}
 use Rattle.paper.specs.Fraction.{integer, equal}
 use Rattle.paper.specs.Algorithm4.{Instance, C, feasible, line-2, line-4, lines-3-to-11, algorithm-4, matches-from, matches}
 use Rattle.paper.specs.Standing.{instance, slots}
-use Rattle.paper.specs.Days.{transcript, final, continued, history, Day-alike}
-use Rattle.paper.specs.Days.Starts.{from-blank}
+use Rattle.paper.specs.Days.{replies-from, replies, Day-alike}
 use Rattle.paper.proofs.Budgets.{budget-buys}
 use Rattle.paper.proofs.Days.{days-as-algorithm-4}
 
@@ -53,11 +55,14 @@ listing-finished = refl
 abbrev calls : List Call
 calls = open-plan plan ∷ map add-campaign terms ++ start-day ∷ map show-view views ++ show-view (record { set = 4 }) ∷ close-day ∷ []
 
-pub listing-history : history (transcript blank calls)
-    ≡ record { plan = plan; terms = terms; views = views; answers = Played 0 5 ∷ Played 1 3 ∷ Played 0 5 ∷ Nobody ∷ Played 1 3 ∷ [] }
-unfolding continued transcript call first-no sound sound-plan sound-campaign priced counted uncounted empty taken claimed budgeted blank width-holds size within choice best whole claim weight share member sum count every table
-listing-history = refl
+pub listing-replies : replies (transcript blank calls) ≡ Played 0 5 ∷ Played 1 3 ∷ Played 0 5 ∷ Nobody ∷ Played 1 3 ∷ []
+unfolding replies-from transcript call first-no sound sound-plan sound-campaign priced counted uncounted empty taken claimed budgeted blank width-holds size within choice best whole claim weight share member sum count every table
+listing-replies = refl
 
 -- so the theorem speaks of this day
-pub listing-alike : Day-alike (λ t. t .budget) (history (transcript blank calls)) (final blank calls)
-listing-alike = days-as-algorithm-4 (λ t. t .budget) budget-buys blank calls (from-blank calls) (rw listing-history (omega arith))
+pub listing-width : history (transcript blank calls) .plan ≡ plan
+unfolding continued transcript call first-no sound sound-plan sound-campaign priced counted uncounted empty taken claimed budgeted blank width-holds size within choice best whole claim weight share member sum count every table
+listing-width = refl
+
+pub listing-alike : Day-alike (λ t. t .budget) (history (transcript blank calls)) (replies (transcript blank calls)) (final blank calls)
+listing-alike = days-as-algorithm-4 (λ t. t .budget) budget-buys blank calls (from-blank calls) (rw listing-width (omega arith))

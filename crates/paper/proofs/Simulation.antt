@@ -1,8 +1,8 @@
 -- Algorithm 4 and our rule side by side over a list of views.
-use mathlib.Core.Path.{_≡_, refl, ap, ap₂, sym, subst, _∙_}
+use mathlib.Core.Path.{_≡_, refl, ap, ap₂, sym, subst, subst⁻¹, _∙_}
 use mathlib.Core.Bool.{Bool, true, false}
 use mathlib.Core.List.{List, [], _∷_}
-use Prim.Native.Nat.{ℕ, suc, _+_, _*_, _/_, _≤_, _<_}
+use Prim.Native.Nat.{ℕ, suc, _+_, _*_, _/_, _<_}
 use native.Mathlib.Nat.{le-div-iff-mul-le, pos-of-div-pos}
 use native.Mathlib.Omega.{arith}
 use lib.Dec.{ltb}
@@ -19,10 +19,12 @@ use Rattle.day.specs.Choice.{Choice, choice, is, role-of}
 use Rattle.day.specs.Choice.Choice.{nobody, plays}
 use Rattle.day.specs.Campaign.{whole, can-pay, after, fresh}
 use Rattle.day.specs.View.{names, figure, able, chosen-of, viewed}
+use Rattle.laws.specs.Choice.{Right}
+use Rattle.laws.proofs.Choice.{choice-right}
 use Rattle.paper.specs.Fraction.{less}
 use Rattle.paper.specs.Algorithm4.{Instance, Neighbors, Variables, feasible-neighbor, quantity, displaces, line-1, line-2, line-3, line-4, lines-9-to-11, lines-3-to-11, matches-from, algorithm-4}
 use Rattle.paper.specs.Standing.{Buys-alike, instance, slots, Stands, Maximizes, Next, choices, campaigns-after, Posed, Alike, As-Algorithm-4}
-use Rattle.paper.proofs.Choices.{Fits, best-fits, best-eq, Most, choice-most}
+use Rattle.paper.proofs.Choices.{best-fits, best-eq}
 use Rattle.paper.proofs.Copies.{starts, value-copy, copy-full, one-age, one-turns, displaced, value-quantity}
 use Rattle.paper.proofs.Slots.{Follows, unfinished, able-alike, after-slot}
 
@@ -74,17 +76,15 @@ module _ (I : Instance) (ok : Proper I) where
     same-choice = best-eq (I .n) _ _ _ _ ables compares
 
     maximizes : Maximizes I j (names w) v (line-4 I j (names w) v)
-    unfolding line-4
-    maximizes = go (line-4 I j (names w) v) (best-fits (I .n) _ _) (subst (Most (I .n) (able (plan-of I) w f) (λ i. figure (plan-of I) w i (f i))) (sym same-choice) (choice-most (I .n) _ _))
+    maximizes = subst⁻¹ (Maximizes I j (names w) v) same-choice (go (chosen-of (I .n) (plan-of I) w f) (choice-right (I .n) _ _))
       where
-        go : (m : Choice) → Fits (I .n) (feasible-neighbor I v j (names w)) m → Most (I .n) (able (plan-of I) w f) (λ i. figure (plan-of I) w i (f i)) m → Maximizes I j (names w) v m
-        go nobody none most = none
-        go (plays m) one most = (
-          one .0,
-          one .1,
+        go : (m : Choice) → Right (I .n) (able (plan-of I) w f) (λ i. figure (plan-of I) w i (f i)) m → Maximizes I j (names w) v m
+        go nobody r = λ i l. ables i l ∙ r i l
+        go (plays m) r = (
+          r .below,
+          ables m (r .below) ∙ r .is-able,
           λ i l a.
-              let q : (figure (plan-of I) w i (f i) ≤ figure (plan-of I) w m (f m)) × (i < m → figure (plan-of I) w i (f i) < figure (plan-of I) w m (f m)) = most i l (sym (ables i l) ∙ a) in
-              (compares m i (one .0) l ∙ le-ltb _ _ (q .0), λ b. compares i m l (one .0) ∙ lt-ltb _ _ (q .1 b)),
+              (compares m i (r .below) l ∙ le-ltb _ _ (r .top i l (sym (ables i l) ∙ a)), λ b. compares i m l (r .below) ∙ lt-ltb _ _ (r .lowest i b (sym (ables i l) ∙ a))),
         )
 
     pub next-slot : Next I j (names w) v
