@@ -12,10 +12,10 @@ use Rattle.finite.specs.Finite.{sum}
 use Rattle.finite.proofs.Sums.{sum-le, sum-eq, sum-mul}
 use Rattle.powers.specs.Power.{share}
 use Rattle.day.specs.declared.Day.{Day}
-use Rattle.day.specs.declared.Phase.{Phase}
-use Rattle.day.specs.declared.Plan.{Plan}
-use Rattle.day.specs.declared.Terms.{Terms}
-use Rattle.day.specs.Campaign.{whole}
+use Rattle.campaigns.specs.declared.Phase.{Phase}
+use Rattle.campaigns.specs.declared.Plan.{Plan}
+use Rattle.campaigns.specs.declared.Terms.{Terms}
+use Rattle.campaigns.specs.Campaign.{whole}
 use Rattle.day.specs.Day.{campaign, no-terms, full, taken, claimed}
 use Rattle.day.specs.Sound.{sound, phase-holds}
 use Rattle.day.specs.Calls.{Call}

@@ -16,15 +16,15 @@ use Rattle.day.specs.declared.Answer.{Answer}
 use Rattle.day.specs.declared.Answer.the-variants.{Refused, Done}
 use Rattle.day.specs.declared.Day.{Day}
 use Rattle.day.specs.declared.Outcome.{Outcome}
-use Rattle.day.specs.declared.Phase.{Phase}
-use Rattle.day.specs.declared.Phase.the-variants.{Filling, Running, Closed}
-use Rattle.day.specs.declared.Plan.{Plan}
-use Rattle.day.specs.declared.Terms.{Terms}
-use Rattle.day.specs.declared.View.{View}
-use Rattle.day.specs.Choice.{Choice, is, paid}
-use Rattle.day.specs.Choice.Choice.{nobody, plays}
-use Rattle.day.specs.Campaign.{spending}
-use Rattle.day.specs.View.{names}
+use Rattle.campaigns.specs.declared.Phase.{Phase}
+use Rattle.campaigns.specs.declared.Phase.the-variants.{Filling, Running, Closed}
+use Rattle.campaigns.specs.declared.Plan.{Plan}
+use Rattle.campaigns.specs.declared.Terms.{Terms}
+use Rattle.campaigns.specs.declared.View.{View}
+use Rattle.campaigns.specs.Choice.{Choice, is, paid}
+use Rattle.campaigns.specs.Choice.Choice.{nobody, plays}
+use Rattle.campaigns.specs.Campaign.{spending}
+use Rattle.campaigns.specs.View.{names}
 use Rattle.day.specs.Day.{campaign, no-terms, planned, blank-plan, blank, taken, is-filling}
 use Rattle.day.specs.Sound.{sound}
 use Rattle.day.specs.Calls.{number, Call, questions, joined, player, offers, shown, told, result, call}

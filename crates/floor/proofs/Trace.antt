@@ -7,14 +7,14 @@ use native.Mathlib.Omega.{arith}
 use lib.Dec.{eqb}
 use borrow.Author.Tests.{eqb-true, ltb-true, ltb-false}
 use Rattle.finite.specs.Finite.{one-if}
-use Rattle.day.specs.declared.Campaign.{Campaign}
-use Rattle.day.specs.declared.Phase.{Phase}
-use Rattle.day.specs.declared.Plan.{Plan}
-use Rattle.day.specs.declared.Terms.{Terms}
-use Rattle.day.specs.declared.View.{View}
-use Rattle.day.specs.Choice.{role-of}
-use Rattle.day.specs.Campaign.{whole, can-pay, aged, after, fresh}
-use Rattle.day.specs.View.{names, pays, becomes}
+use Rattle.campaigns.specs.declared.Campaign.{Campaign}
+use Rattle.campaigns.specs.declared.Phase.{Phase}
+use Rattle.campaigns.specs.declared.Plan.{Plan}
+use Rattle.campaigns.specs.declared.Terms.{Terms}
+use Rattle.campaigns.specs.declared.View.{View}
+use Rattle.campaigns.specs.Choice.{role-of}
+use Rattle.campaigns.specs.Campaign.{whole, can-pay, aged, after, fresh}
+use Rattle.campaigns.specs.View.{names, pays, becomes}
 use Rattle.laws.proofs.Laws.{Steady}
 use Rattle.laws.proofs.SoundCampaign.{Orderly}
 use Rattle.floor.specs.Floor.{Trace}

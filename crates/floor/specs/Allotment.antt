@@ -7,8 +7,8 @@ use Prim.Native.Nat.{ℕ, _≤_, _<_}
 use lib.Dec.{eqb}
 use lib.ListN.{getD, length}
 use Rattle.finite.specs.Finite.{sum, count}
-use Rattle.day.specs.declared.View.{View}
-use Rattle.day.specs.View.{names}
+use Rattle.campaigns.specs.declared.View.{View}
+use Rattle.campaigns.specs.View.{names}
 
 -- view j of a list
 abbrev pub no-view : View

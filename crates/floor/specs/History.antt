@@ -7,9 +7,9 @@ use lib.Dec.{eqb}
 use Rattle.day.specs.declared.Answer.{Answer}
 use Rattle.day.specs.declared.Answer.the-variants.{Refused, Done, Played, Nobody, Tallied, Closing}
 use Rattle.day.specs.declared.Day.{Day}
-use Rattle.day.specs.declared.Plan.{Plan}
-use Rattle.day.specs.declared.Terms.{Terms}
-use Rattle.day.specs.declared.View.{View}
+use Rattle.campaigns.specs.declared.Plan.{Plan}
+use Rattle.campaigns.specs.declared.Terms.{Terms}
+use Rattle.campaigns.specs.declared.View.{View}
 use Rattle.day.specs.Day.{blank-plan, blank}
 use Rattle.day.specs.Calls.{number, Call, call}
 use Rattle.laws.specs.Transcript.{Exchange}

@@ -8,13 +8,13 @@ use borrow.Author.Tests.{eq-eqb, ne-eqb}
 use Rattle.finite.specs.Finite.{sum}
 use Rattle.finite.proofs.Sums.{sum-eq, sum-suc}
 use Rattle.finite.proofs.Tables.{getD-table}
-use Rattle.day.specs.declared.Campaign.{Campaign}
+use Rattle.campaigns.specs.declared.Campaign.{Campaign}
 use Rattle.day.specs.declared.Day.{Day}
-use Rattle.day.specs.declared.Phase.{Phase}
-use Rattle.day.specs.declared.Plan.{Plan}
-use Rattle.day.specs.declared.Terms.{Terms}
-use Rattle.day.specs.Campaign.{spending, fresh}
-use Rattle.day.specs.View.{takings}
+use Rattle.campaigns.specs.declared.Phase.{Phase}
+use Rattle.campaigns.specs.declared.Plan.{Plan}
+use Rattle.campaigns.specs.declared.Terms.{Terms}
+use Rattle.campaigns.specs.Campaign.{spending, fresh}
+use Rattle.campaigns.specs.View.{takings}
 use Rattle.day.specs.Day.{campaign, holding}
 use Rattle.day.specs.Calls.{joined}
 use Rattle.laws.proofs.Laws.{spending-fresh}

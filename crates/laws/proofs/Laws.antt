@@ -4,13 +4,13 @@ use mathlib.Core.Bool.{Bool, cond, _&&_, true}
 use Prim.Native.Nat.{ℕ, _+_, _*_, _^_, _≤_, _<_}
 use native.Mathlib.Omega.{arith}
 use Rattle.powers.specs.Power.{share}
-use Rattle.day.specs.declared.Campaign.{Campaign}
-use Rattle.day.specs.declared.Plan.{Plan}
-use Rattle.day.specs.declared.Terms.{Terms}
-use Rattle.day.specs.declared.View.{View}
-use Rattle.day.specs.Choice.{Role, role-of}
-use Rattle.day.specs.Campaign.{claim, spending, fresh}
-use Rattle.day.specs.View.{offer, figure, becomes}
+use Rattle.campaigns.specs.declared.Campaign.{Campaign}
+use Rattle.campaigns.specs.declared.Plan.{Plan}
+use Rattle.campaigns.specs.declared.Terms.{Terms}
+use Rattle.campaigns.specs.declared.View.{View}
+use Rattle.campaigns.specs.Choice.{Role, role-of}
+use Rattle.campaigns.specs.Campaign.{claim, spending, fresh}
+use Rattle.campaigns.specs.View.{offer, figure, becomes}
 use Rattle.laws.proofs.Potential.{Gain}
 use Rattle.laws.proofs.OnePrice as one
 

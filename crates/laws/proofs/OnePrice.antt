@@ -9,11 +9,11 @@ use borrow.Author.Tests.{eqb-true}
 use Rattle.finite.proofs.Tests.{never}
 use Rattle.powers.specs.Power.{weight, share}
 use Rattle.powers.proofs.Weight.{slope, weight-zero, weight-top, weight-slope, weight-next, weight-mono, weight-most, share-weight}
-use Rattle.day.specs.declared.Campaign.{Campaign}
-use Rattle.day.specs.declared.Terms.{Terms}
-use Rattle.day.specs.Choice.{Role, role-of}
-use Rattle.day.specs.Choice.Role.{absent, spent, chosen, passed}
-use Rattle.day.specs.Campaign.{score, spending, claim, aged, after, fresh}
+use Rattle.campaigns.specs.declared.Campaign.{Campaign}
+use Rattle.campaigns.specs.declared.Terms.{Terms}
+use Rattle.campaigns.specs.Choice.{Role, role-of}
+use Rattle.campaigns.specs.Choice.Role.{absent, spent, chosen, passed}
+use Rattle.campaigns.specs.Campaign.{score, spending, claim, aged, after, fresh}
 use Rattle.laws.proofs.Potential.{Gain}
 
 -- what a view adds to the claim

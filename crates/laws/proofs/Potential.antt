@@ -7,8 +7,8 @@ use lib.Dec.{eqb}
 use borrow.Author.Tests.{eq-eqb}
 use Rattle.finite.specs.Finite.{sum, one-if, count}
 use Rattle.finite.proofs.Sums.{sum-eq, sum-none, sum-split, hide, capacity}
-use Rattle.day.specs.Choice.{Choice, is, paid}
-use Rattle.day.specs.Choice.Choice.{nobody, plays}
+use Rattle.campaigns.specs.Choice.{Choice, is, paid}
+use Rattle.campaigns.specs.Choice.Choice.{nobody, plays}
 use Rattle.laws.specs.Choice.{Right}
 
 -- a campaign that is able or not, that plays or not, with its compared figure and its offer, gains g

@@ -11,19 +11,20 @@ use Rattle.finite.specs.Finite.{sum, count}
 use Rattle.finite.proofs.Tests.{never, both-left, both-right, all-parts, all-of, every-at, every-of, joint-parts, joint-of, one-more}
 use Rattle.finite.proofs.Sums.{sum-eq, sum-zero, count-below}
 use Rattle.sets.specs.Set.{member, size, within}
-use Rattle.day.specs.declared.Campaign.{Campaign}
+use Rattle.campaigns.specs.declared.Campaign.{Campaign}
 use Rattle.day.specs.declared.Day.{Day}
 use Rattle.day.specs.declared.Outcome.{Outcome}
-use Rattle.day.specs.declared.Phase.{Phase}
-use Rattle.day.specs.declared.Phase.the-variants.{Filling, Running, Closed}
-use Rattle.day.specs.declared.Plan.{Plan}
-use Rattle.day.specs.declared.Terms.{Terms}
-use Rattle.day.specs.declared.View.{View}
-use Rattle.day.specs.Choice.{is, role-of}
-use Rattle.day.specs.Campaign.{spending, aged, after, fresh}
-use Rattle.day.specs.View.{names, pays, becomes, able, takings, claims}
+use Rattle.campaigns.specs.declared.Phase.{Phase}
+use Rattle.campaigns.specs.declared.Phase.the-variants.{Filling, Running, Closed}
+use Rattle.campaigns.specs.declared.Plan.{Plan}
+use Rattle.campaigns.specs.declared.Terms.{Terms}
+use Rattle.campaigns.specs.declared.View.{View}
+use Rattle.campaigns.specs.Choice.{is, role-of}
+use Rattle.campaigns.specs.Campaign.{spending, aged, after, fresh}
+use Rattle.campaigns.specs.View.{names, pays, becomes, able, takings, claims}
 use Rattle.day.specs.Day.{campaign, holding, in-phase, no-terms, planned, blank-plan, blank, full, taken, claimed, budgeted, is-filling}
-use Rattle.day.specs.Sound.{depth-fits, width-fits, power-fits, sound-plan, uncounted, empty, untouched, sound-campaign, sound-entry, phase-holds, sound-tests, sound}
+use Rattle.campaigns.specs.Campaign.{depth-fits, width-fits, power-fits, sound-plan, uncounted, empty, untouched, sound-campaign}
+use Rattle.day.specs.Sound.{sound-entry, phase-holds, sound-tests, sound}
 use Rattle.day.specs.Calls.{number, Call, width-holds, questions, result, joined, player, shown, call}
 use Rattle.day.specs.Calls.Call.{open-plan, add-campaign, start-day, show-view, ask-tally, close-day}
 use Rattle.day.proofs.Questions.{Yes, call-elim}

@@ -7,16 +7,16 @@ use native.Mathlib.Omega.{arith}
 use lib.Dec.{leb, ltb, eqb}
 use borrow.Author.Tests.{eqb-true, eqb-false, eq-eqb, ltb-true, lt-ltb, leb-true, le-leb}
 use Rattle.finite.proofs.Tests.{both-join, joint-parts, joint-of}
-use Rattle.day.specs.declared.Campaign.{Campaign}
-use Rattle.day.specs.declared.Phase.{Phase}
-use Rattle.day.specs.declared.Phase.the-variants.{Filling, Running, Closed}
-use Rattle.day.specs.declared.Plan.{Plan}
-use Rattle.day.specs.declared.Terms.{Terms}
-use Rattle.day.specs.declared.View.{View}
-use Rattle.day.specs.Choice.{role-of}
-use Rattle.day.specs.Campaign.{whole, can-pay, aged, after, fresh}
-use Rattle.day.specs.View.{names, pays, becomes}
-use Rattle.day.specs.Sound.{price-fits, budget-fits, priced, counted, uncounted, untouched, sound-campaign}
+use Rattle.campaigns.specs.declared.Campaign.{Campaign}
+use Rattle.campaigns.specs.declared.Phase.{Phase}
+use Rattle.campaigns.specs.declared.Phase.the-variants.{Filling, Running, Closed}
+use Rattle.campaigns.specs.declared.Plan.{Plan}
+use Rattle.campaigns.specs.declared.Terms.{Terms}
+use Rattle.campaigns.specs.declared.View.{View}
+use Rattle.campaigns.specs.Choice.{role-of}
+use Rattle.campaigns.specs.Campaign.{whole, can-pay, aged, after, fresh}
+use Rattle.campaigns.specs.View.{names, pays, becomes}
+use Rattle.campaigns.specs.Campaign.{price-fits, budget-fits, priced, counted, uncounted, untouched, sound-campaign}
 
 ruleset tests = (leb-true, ltb-true, eqb-true, le-leb, lt-ltb, eq-eqb)
 

@@ -8,13 +8,13 @@ use borrow.Author.Tests.{eqb-true}
 use Rattle.finite.specs.Finite.{sum, one-if, count}
 use Rattle.finite.proofs.Tests.{never}
 use Rattle.finite.proofs.Sums.{sum-eq, sum-le, sum-add}
-use Rattle.day.specs.declared.Campaign.{Campaign}
-use Rattle.day.specs.declared.Plan.{Plan}
-use Rattle.day.specs.declared.View.{View}
-use Rattle.day.specs.Choice.{Choice, is, paid}
-use Rattle.day.specs.Choice.Choice.{nobody, plays}
-use Rattle.day.specs.Campaign.{spending}
-use Rattle.day.specs.View.{names, pays, offer, figure, able, chosen-of, role-in, viewed, takings, claims}
+use Rattle.campaigns.specs.declared.Campaign.{Campaign}
+use Rattle.campaigns.specs.declared.Plan.{Plan}
+use Rattle.campaigns.specs.declared.View.{View}
+use Rattle.campaigns.specs.Choice.{Choice, is, paid}
+use Rattle.campaigns.specs.Choice.Choice.{nobody, plays}
+use Rattle.campaigns.specs.Campaign.{spending}
+use Rattle.campaigns.specs.View.{names, pays, offer, figure, able, chosen-of, role-in, viewed, takings, claims}
 use Rattle.day.specs.Day.{full}
 use Rattle.laws.specs.Choice.{Right}
 use Rattle.laws.proofs.Choice.{choice-right}

@@ -2,8 +2,8 @@
 use mathlib.Core.Path.{_≡_}
 use mathlib.Core.Bool.{Bool, true, false}
 use Prim.Native.Nat.{ℕ, _≤_, _<_}
-use Rattle.day.specs.Choice.{Choice}
-use Rattle.day.specs.Choice.Choice.{nobody, plays}
+use Rattle.campaigns.specs.Choice.{Choice}
+use Rattle.campaigns.specs.Choice.Choice.{nobody, plays}
 
 -- of the n candidates, m is able, none that is able has a greater figure, and of equal figures it has the lower number
 pub record Best (n : ℕ) (able : ℕ → Bool) (figure : ℕ → ℕ) (m : ℕ) : Type 0 where
