@@ -93,7 +93,7 @@ campaign-holding p pl n a f i l =
       getD-table 64 (λ j. f j .named) 0 i l,
     )
 
-filling-is : (p : Phase) → is-filling p ≡ true → p ≡ Filling
+pub filling-is : (p : Phase) → is-filling p ≡ true → p ≡ Filling
 filling-is Filling e = refl
 filling-is Running e = absurd (never false refl e)
 filling-is (Closed t) e = absurd (never false refl e)

@@ -115,10 +115,6 @@ abbrev pub joint : Bool → List Bool → Bool
 joint b [] = b
 joint b (c ∷ cs) = joint (b && c) cs
 
-pub joint-parts : (b : Bool) (cs : List Bool) → joint b cs ≡ true → Every (b ∷ cs)
-joint-parts b [] e = (e, tt)
-joint-parts b (c ∷ cs) e = let h = joint-parts (b && c) cs e in (both-left b c (h .0), (both-right b c (h .0), h .1))
-
 pub joint-of : (b : Bool) (cs : List Bool) → Every (b ∷ cs) → joint b cs ≡ true
 joint-of b [] h = h .0
 joint-of b (c ∷ cs) h = joint-of (b && c) cs (both-join b c (h .0) (h .1 .0), h .1 .1)

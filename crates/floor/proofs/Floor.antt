@@ -11,17 +11,18 @@ use borrow.Author.Tests.{eqb-true, ltb-true, ltb-false}
 use Rattle.finite.specs.Finite.{sum}
 use Rattle.finite.proofs.Sums.{sum-le, sum-eq, sum-mul}
 use Rattle.powers.specs.Power.{share}
-use Rattle.day.specs.declared.Day.{Day}
 use Rattle.campaigns.specs.declared.Phase.{Phase}
 use Rattle.campaigns.specs.declared.Plan.{Plan}
 use Rattle.campaigns.specs.declared.Terms.{Terms}
 use Rattle.campaigns.specs.Campaign.{whole}
+use Rattle.campaigns.proofs.Laws.{Sized, plan-sized}
+use Rattle.day.specs.declared.Day.{Day}
 use Rattle.day.specs.Day.{campaign, no-terms, full, taken, claimed}
 use Rattle.day.specs.Sound.{sound, phase-holds}
 use Rattle.day.specs.Calls.{Call}
-use Rattle.laws.proofs.Laws.{Sized, claim-of, claim-turns}
-use Rattle.laws.proofs.Sound.{Sound-day, sound-parts, sized-of, campaign-orderly}
+use Rattle.day.proofs.State.{Sound, sound-facts, held-at}
 use Rattle.laws.specs.Transcript.{transcript, final}
+use Rattle.laws.proofs.Laws.{claim-of, claim-turns}
 use Rattle.floor.specs.History.{Starts, History, history}
 use Rattle.floor.specs.Allotment.{takings-of, times}
 use Rattle.floor.specs.Floor.{trace, price-of, whole-of, falls-short, unstruck, Allotted, Covered, Floor, Demand-3}
@@ -65,11 +66,11 @@ module _ (h : History) (deep : 0 < h .plan .depth) (to : ℕ → ℕ) (al : Allo
       omega (arith, double-count (length (h .terms)) (unstruck h) (unstruck-past h) (length (h .views)) to, sum-le (length (h .terms)) (λ i. unstruck h i * times (length (h .views)) to i) (λ i. price-of h i * due h i) part)
 
 module _ (s : Day) (h : History) (r : Reached s h) where
-  p : Sound-day s
-  p = sound-parts s (r .is-sound)
+  p : Sound s
+  p = sound-facts s (r .is-sound)
 
   sized : Sized (s .plan)
-  sized = sized-of (s .plan) (p .plan-sound)
+  sized = plan-sized (s .plan) (p .plan-sound)
 
   depth-is : s .plan .depth ≡ h .plan .depth
   depth-is = ap (λ (pl : Plan). pl .depth) (r .agrees .plan-is)
@@ -83,13 +84,13 @@ module _ (s : Day) (h : History) (r : Reached s h) where
   turns-of i l =
       subst (λ (k : ℕ). min (whole-of h i) (trace h i .named / k) ≤ campaign s i .turns) depth-is
       (subst (λ (x : ℕ). min x (trace h i .named / s .plan .depth) ≤ campaign s i .turns) (whole-is i l)
-      (turns-reach (s .phase) (s .plan) (s .accepted) (trace h i) (campaign s i) (campaign-orderly s p i l) (r .agrees .follows i l)))
+      (turns-reach (s .plan) (s .accepted) (trace h i) (campaign s i) (held-at s p i l) (r .agrees .follows i l)))
 
   claim-due : (i : ℕ) → i < s .count → share (s .plan .depth) (s .plan .width) * (price-of h i * due h i) ≤ claim-of (s .plan) (campaign s i)
   claim-due i l =
       le-trans (mul-le-mul-left (share (s .plan .depth) (s .plan .width)) (mul-le-mul-left (price-of h i) (turns-of i l)))
       (subst (λ (x : ℕ). share (s .plan .depth) (s .plan .width) * (x * campaign s i .turns) ≤ claim-of (s .plan) (campaign s i)) (r .agrees .follows i l .price-is)
-      (claim-turns (s .plan) sized (campaign s i) (campaign-orderly s p i l .young)))
+      (claim-turns (s .plan) sized (campaign s i) (held-at s p i l .young)))
 
   -- the total claim lies between the share of what is due and full
   claims-due : share (s .plan .depth) (s .plan .width) * sum (s .count) (λ i. price-of h i * due h i) ≤ claimed s
@@ -98,7 +99,6 @@ module _ (s : Day) (h : History) (r : Reached s h) where
       omega (arith, sum-mul (s .count) (share (s .plan .depth) (s .plan .width)) (λ i. price-of h i * due h i), sum-le (s .count) (λ i. share (s .plan .depth) (s .plan .width) * (price-of h i * due h i)) (λ i. claim-of (s .plan) (campaign s i)) claim-due)
 
   claims-full : claimed s ≤ full (s .plan) (h .paid)
-  unfolding claimed taken
   claims-full = subst (λ (x : ℕ). claimed s ≤ full (s .plan) x) (r .agrees .paid-is) (p .covered)
 
   covers : (to : ℕ → ℕ) → Allotted h to → Covered h (takings-of (unstruck h) (h .views) to)
@@ -108,12 +108,11 @@ module _ (s : Day) (h : History) (r : Reached s h) where
       (le-trans claims-due claims-full))
 
   pub floor-of : Floor h s
-  unfolding taken
   floor-of = record {
     floor = λ none to al. subst (λ (x : ℕ). Covered h x) (sum-eq (length (h .views)) (λ j. unstruck h (to j)) (λ j. price-of h (to j)) (λ j l. none-struck h none (to j))) (covers to al);
     struck = covers;
     shown = r .agrees .paid-is;
-    held = λ x e. eqb-true x (taken s) (subst (λ (q : Phase). phase-holds q (s .accepted) (taken s) ≡ true) e (p .phase-is)) ∙ r .agrees .paid-is;
+    held = λ x e. eqb-true x (taken s) (subst (λ (q : Phase). phase-holds q (s .accepted) (taken s) ≡ true) e (p .phased)) ∙ r .agrees .paid-is;
   }
 
   pub dues-of : Dues h s

@@ -12,10 +12,6 @@ use Rattle.finite.specs.Finite.{one-if, total}
 use Rattle.finite.proofs.Tests.{never, one-more}
 use Rattle.finite.proofs.Sums.{sum-zero}
 use Rattle.finite.proofs.Tables.{total-snoc}
-use Rattle.day.specs.declared.Answer.{Answer}
-use Rattle.day.specs.declared.Answer.the-variants.{Refused, Done}
-use Rattle.day.specs.declared.Day.{Day}
-use Rattle.day.specs.declared.Outcome.{Outcome}
 use Rattle.campaigns.specs.declared.Phase.{Phase}
 use Rattle.campaigns.specs.declared.Phase.the-variants.{Filling, Running, Closed}
 use Rattle.campaigns.specs.declared.Plan.{Plan}
@@ -25,16 +21,21 @@ use Rattle.campaigns.specs.Choice.{Choice, is, paid}
 use Rattle.campaigns.specs.Choice.Choice.{nobody, plays}
 use Rattle.campaigns.specs.Campaign.{spending}
 use Rattle.campaigns.specs.View.{names}
+use Rattle.day.specs.declared.Answer.{Answer}
+use Rattle.day.specs.declared.Answer.the-variants.{Refused, Done}
+use Rattle.day.specs.declared.Day.{Day}
+use Rattle.day.specs.declared.Outcome.{Outcome}
 use Rattle.day.specs.Day.{campaign, no-terms, planned, blank-plan, blank, taken, is-filling}
 use Rattle.day.specs.Sound.{sound}
 use Rattle.day.specs.Calls.{number, Call, questions, joined, player, offers, shown, told, result, call}
 use Rattle.day.specs.Calls.Call.{open-plan, add-campaign, start-day, show-view, ask-tally, close-day}
 use Rattle.day.proofs.Questions.{Yes, call-elim}
-use Rattle.laws.proofs.Step.{takings-step}
-use Rattle.laws.proofs.Holding.{campaign-holding, sum-holding, joined-old, joined-new, takings-joined}
-use Rattle.laws.proofs.Sound.{Sound-day, sound-parts, campaign-orderly, blank-sound, sound-kept, opening-sound}
-use Rattle.laws.proofs.Refusals.{result-number}
+use Rattle.day.proofs.State.{Sound, sound-facts, held-at, campaign-holding}
 use Rattle.laws.specs.Transcript.{transcript, final}
+use Rattle.laws.proofs.Step.{takings-step}
+use Rattle.laws.proofs.Holding.{sum-holding, joined-old, joined-new, takings-joined}
+use Rattle.laws.proofs.Sound.{blank-sound, sound-kept, opening-sound}
+use Rattle.laws.proofs.Refusals.{result-number}
 use Rattle.floor.specs.History.{accepted, Starts, History, opening, paid-in, with-call, entered, continued, history}
 use Rattle.floor.specs.History.Starts.{from-blank, from-opening}
 use Rattle.floor.specs.Floor.{trace}
@@ -72,8 +73,8 @@ told-paid x nobody = refl
 told-paid x (plays m) = refl
 
 module _ (s : Day) (h : History) (e : sound s ≡ true) (k : Agrees s h) where
-  p : Sound-day s
-  p = sound-parts s e
+  p : Sound s
+  p = sound-facts s e
 
   module _ (t : Terms) (y : Yes (questions s (add-campaign t))) where
     more : History
@@ -105,7 +106,7 @@ module _ (s : Day) (h : History) (e : sound s ≡ true) (k : Agrees s h) where
       plan-is = k .plan-is;
       many = k .many;
       follows = λ i l. rw (campaign-holding Running (s .plan) (s .count) (s .accepted + 1) (shown s w) i (lt-of-lt-of-le l (p .few)), total-snoc (λ (v : View). one-if (names v i)) (h .views) w)
-          (follows-view (s .plan) (trace h i) (campaign s i) (k .follows i l) (campaign-orderly s p i l .young) w i (is (player s w) i));
+          (follows-view (s .plan) (trace h i) (campaign s i) (k .follows i l) (held-at s p i l .young) w i (is (player s w) i));
       paid-is = omega (arith, sum-holding Running (s .plan) (s .count) (s .accepted + 1) (shown s w) spending (p .few), takings-step (s .count) (s .plan) w (campaign s), k .paid-is);
       unviewed = λ z. absurd (never false refl z);
     }

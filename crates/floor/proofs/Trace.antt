@@ -8,15 +8,14 @@ use lib.Dec.{eqb}
 use borrow.Author.Tests.{eqb-true, ltb-true, ltb-false}
 use Rattle.finite.specs.Finite.{one-if}
 use Rattle.campaigns.specs.declared.Campaign.{Campaign}
-use Rattle.campaigns.specs.declared.Phase.{Phase}
 use Rattle.campaigns.specs.declared.Plan.{Plan}
 use Rattle.campaigns.specs.declared.Terms.{Terms}
 use Rattle.campaigns.specs.declared.View.{View}
 use Rattle.campaigns.specs.Choice.{role-of}
 use Rattle.campaigns.specs.Campaign.{whole, can-pay, aged, after, fresh}
 use Rattle.campaigns.specs.View.{names, pays, becomes}
+use Rattle.campaigns.proofs.Totals.{Held}
 use Rattle.laws.proofs.Laws.{Steady}
-use Rattle.laws.proofs.SoundCampaign.{Orderly}
 use Rattle.floor.specs.Floor.{Trace}
 
 -- while a campaign can pay, every view that named it is in a finished turn or in its age
@@ -57,8 +56,8 @@ module _ (pl : Plan) (t : Trace) (c : Campaign) (h : Follows pl t c) (young : St
   follows-view w i q = follows-role (names w i) (pays pl w i c) q refl
 
 -- the turns of a campaign reach its whole plays, or the full depths of the views that named it
-pub turns-reach : (p : Phase) (pl : Plan) (n : ℕ) (t : Trace) (c : Campaign) → Orderly p pl n c → Follows pl t c → min (whole c) (t .named / pl .depth) ≤ c .turns
-turns-reach p pl n t c o h = go (can-pay c) refl
+pub turns-reach : (pl : Plan) (n : ℕ) (t : Trace) (c : Campaign) → Held pl n c → Follows pl t c → min (whole c) (t .named / pl .depth) ≤ c .turns
+turns-reach pl n t c o h = go (can-pay c) refl
   where
     go : (e : Bool) → can-pay c ≡ e → min (whole c) (t .named / pl .depth) ≤ c .turns
     go true e =
@@ -66,4 +65,4 @@ turns-reach p pl n t c o h = go (can-pay c) refl
         let u : t .named < (c .turns + 1) * pl .depth = omega (arith, h .named-is, o .young) in
         let pos : 0 < pl .depth = omega (arith, o .young) in
         omega (arith, div-lt-iff-lt-mul pos .1 u)
-    go false e = omega (arith, ltb-false (c .plays) (whole c) e, o .earned)
+    go false e = omega (arith, ltb-false (c .plays) (whole c) e, o .plays-turns)

@@ -7,11 +7,11 @@ use lib.Dec.{ltb}
 use lib.ListN.{getD, length}
 use Rattle.finite.specs.Finite.{one-if, total}
 use Rattle.powers.specs.Power.{share}
-use Rattle.day.specs.declared.Day.{Day}
 use Rattle.campaigns.specs.declared.Phase.the-variants.{Closed}
 use Rattle.campaigns.specs.declared.Terms.{Terms}
 use Rattle.campaigns.specs.Campaign.{whole, fresh}
 use Rattle.campaigns.specs.View.{names}
+use Rattle.day.specs.declared.Day.{Day}
 use Rattle.day.specs.Day.{no-terms, full, taken}
 use Rattle.day.specs.Calls.{Call}
 use Rattle.laws.specs.Transcript.{transcript, final}

@@ -4,16 +4,16 @@ use mathlib.Core.Bool.{Bool, true, cond}
 use mathlib.Core.List.{List, [], _∷_, _++_}
 use Prim.Native.Nat.{ℕ, _+_}
 use lib.Dec.{eqb}
-use Rattle.day.specs.declared.Answer.{Answer}
-use Rattle.day.specs.declared.Answer.the-variants.{Refused, Done, Played, Nobody, Tallied, Closing}
-use Rattle.day.specs.declared.Day.{Day}
 use Rattle.campaigns.specs.declared.Plan.{Plan}
 use Rattle.campaigns.specs.declared.Terms.{Terms}
 use Rattle.campaigns.specs.declared.View.{View}
+use Rattle.day.specs.declared.Answer.{Answer}
+use Rattle.day.specs.declared.Answer.the-variants.{Refused, Done, Played, Nobody, Tallied, Closing}
+use Rattle.day.specs.declared.Day.{Day}
 use Rattle.day.specs.Day.{blank-plan, blank}
 use Rattle.day.specs.Calls.{number, Call, call}
-use Rattle.laws.specs.Transcript.{Exchange}
 use Rattle.day.specs.Calls.Call.{open-plan, add-campaign, start-day, show-view, ask-tally, close-day}
+use Rattle.laws.specs.Transcript.{Exchange}
 
 -- a call is accepted when it isn't refused: its answer has no question's number
 abbrev pub accepted : Answer → Bool

@@ -4,9 +4,8 @@ use Rattle.finite.specs.Finite.{sum, count, every, table}
 use Rattle.sets.specs.Set.{member, size, within}
 use Rattle.powers.specs.Power.{weight, share}
 use Rattle.campaigns.specs.Choice.{best, choice}
-use Rattle.campaigns.specs.Campaign.{whole, claim}
+use Rattle.campaigns.specs.Campaign.{whole, claim, sound-plan, priced, counted, uncounted, empty, sound-campaign}
 use Rattle.day.specs.Day.{blank, taken, claimed, budgeted}
-use Rattle.campaigns.specs.Campaign.{sound-plan, priced, counted, uncounted, empty, sound-campaign}
 use Rattle.day.specs.Sound.{sound}
 use Rattle.day.specs.Calls.{first-no, width-holds, call}
 use Rattle.laws.specs.Transcript.{transcript, final}

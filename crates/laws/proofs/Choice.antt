@@ -7,11 +7,11 @@ use native.Mathlib.Omega.{arith}
 use lib.Dec.{ltb, eqb}
 use borrow.Author.Tests.{ltb-true, ltb-false, lt-ltb, eqb-true, eqb-false}
 use Rattle.finite.proofs.Tests.{never, one-more}
-use Rattle.day.specs.declared.Day.{Day}
 use Rattle.campaigns.specs.declared.View.{View}
 use Rattle.campaigns.specs.Choice.{Choice, against, best, ahead, choice}
 use Rattle.campaigns.specs.Choice.Choice.{nobody, plays}
 use Rattle.campaigns.specs.View.{able, figure}
+use Rattle.day.specs.declared.Day.{Day}
 use Rattle.day.specs.Day.{campaign}
 use Rattle.day.specs.Calls.{player}
 use Rattle.laws.specs.Choice.{Right}

@@ -1,32 +1,28 @@
--- The campaigns that a state holds.
+-- Sums over the campaigns that a state holds.
 use mathlib.Core.Path.{_≡_, refl, ap}
-use Prim.Native.Nat.{ℕ, _+_, _≤_, _<_}
+use Prim.Native.Nat.{ℕ, _+_, _≤_}
 use native.Mathlib.Nat.{lt-of-lt-of-le}
 use native.Mathlib.Numerals.{add-one}
 use native.Mathlib.Omega.{arith}
 use borrow.Author.Tests.{eq-eqb, ne-eqb}
 use Rattle.finite.specs.Finite.{sum}
 use Rattle.finite.proofs.Sums.{sum-eq, sum-suc}
-use Rattle.finite.proofs.Tables.{getD-table}
 use Rattle.campaigns.specs.declared.Campaign.{Campaign}
-use Rattle.day.specs.declared.Day.{Day}
 use Rattle.campaigns.specs.declared.Phase.{Phase}
 use Rattle.campaigns.specs.declared.Plan.{Plan}
 use Rattle.campaigns.specs.declared.Terms.{Terms}
 use Rattle.campaigns.specs.Campaign.{spending, fresh}
 use Rattle.campaigns.specs.View.{takings}
+use Rattle.day.specs.declared.Day.{Day}
 use Rattle.day.specs.Day.{campaign, holding}
 use Rattle.day.specs.Calls.{joined}
+use Rattle.day.proofs.State.{campaign-holding}
 use Rattle.laws.proofs.Laws.{spending-fresh}
 
 module _ (p : Phase) (pl : Plan) (n a : ℕ) (f : ℕ → Campaign) where
-  pub campaign-holding : (i : ℕ) → i < 64 → campaign (holding p pl n a f) i ≡ f i
-  campaign-holding i h =
-      rw (getD-table 64 (λ j. f j .price) 0 i h, getD-table 64 (λ j. f j .budget) 0 i h, getD-table 64 (λ j. f j .plays) 0 i h, getD-table 64 (λ j. f j .turns) 0 i h, getD-table 64 (λ j. f j .age) 0 i h, getD-table 64 (λ j. f j .named) 0 i h)
-
   -- any sum over the campaigns
   pub sum-holding : (g : Campaign → ℕ) → n ≤ 64 → sum n (λ i. g (campaign (holding p pl n a f) i)) ≡ sum n (λ i. g (f i))
-  sum-holding g h = sum-eq n (λ i. g (campaign (holding p pl n a f) i)) (λ i. g (f i)) (λ i l. ap g (campaign-holding i (lt-of-lt-of-le l h)))
+  sum-holding g h = sum-eq n (λ i. g (campaign (holding p pl n a f) i)) (λ i. g (f i)) (λ i l. ap g (campaign-holding p pl n a f i (lt-of-lt-of-le l h)))
 
 module _ (s : Day) (t : Terms) where
   pub joined-old : (i : ℕ) → (i ≡ s .count → ⊥) → joined s t i ≡ campaign s i

@@ -11,13 +11,9 @@ use Rattle.campaigns.specs.declared.View.{View}
 use Rattle.campaigns.specs.Choice.{Role, role-of}
 use Rattle.campaigns.specs.Campaign.{claim, spending, fresh}
 use Rattle.campaigns.specs.View.{offer, figure, becomes}
+use Rattle.campaigns.proofs.Laws.{Sized}
 use Rattle.laws.proofs.Potential.{Gain}
 use Rattle.laws.proofs.OnePrice as one
-
--- a plan that passes its questions
-pub record Sized (pl : Plan) : Type 0 where
-  pub deep : 0 < pl .depth
-  pub wide : 0 < pl .width
 
 -- what the potential step asks of a campaign
 abbrev pub Steady : Plan → Campaign → Type 0

@@ -1,10 +1,10 @@
 -- A refusal gives the number of the first question that fails, and the unchanged state.
 use mathlib.Core.Path.{_≡_, refl, sym, _∙_}
 use Prim.Native.Nat.{ℕ, zero, suc}
-use Rattle.day.specs.declared.Day.{Day}
-use Rattle.day.specs.declared.Answer.the-variants.{Refused}
 use Rattle.campaigns.specs.Choice.{Choice}
 use Rattle.campaigns.specs.Choice.Choice.{nobody, plays}
+use Rattle.day.specs.declared.Day.{Day}
+use Rattle.day.specs.declared.Answer.the-variants.{Refused}
 use Rattle.day.specs.Calls.{number, first-no, Call, questions, offers, player, told, result, answered, call}
 use Rattle.day.specs.Calls.Call.{open-plan, add-campaign, start-day, show-view, ask-tally, close-day}
 

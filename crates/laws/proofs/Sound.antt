@@ -1,111 +1,73 @@
 -- Every call keeps a sound state sound.
-use mathlib.Core.Path.{_≡_, refl, ap, sym, _∙_, subst}
-use mathlib.Core.Bool.{Bool, true, false, cond}
+use mathlib.Core.Path.{_≡_, refl, ap, subst}
+use mathlib.Core.Bool.{Bool, true, false}
 use mathlib.Core.List.{[], _∷_}
 use Prim.Native.Nat.{ℕ, suc, _+_, _≤_, _<_}
 use native.Mathlib.Nat.{le-trans, lt-of-lt-of-le, not-suc-le-zero}
 use native.Mathlib.Omega.{arith}
 use lib.Dec.{leb, ltb, eqb}
-use borrow.Author.Tests.{eq-eqb, ltb-true, ltb-false, lt-ltb, le-ltb, leb-true, le-leb}
+use borrow.Author.Tests.{eq-eqb, ltb-true, ltb-false, leb-true, le-leb}
 use Rattle.finite.specs.Finite.{sum, count}
-use Rattle.finite.proofs.Tests.{never, both-left, both-right, all-parts, all-of, every-at, every-of, joint-parts, joint-of, one-more}
+use Rattle.finite.proofs.Tests.{both-right, all-of, every-of, joint-of, one-more}
 use Rattle.finite.proofs.Sums.{sum-eq, sum-zero, count-below}
-use Rattle.sets.specs.Set.{member, size, within}
+use Rattle.sets.specs.Set.{size}
+use Rattle.sets.proofs.Walk.{within-not-member}
 use Rattle.campaigns.specs.declared.Campaign.{Campaign}
-use Rattle.day.specs.declared.Day.{Day}
-use Rattle.day.specs.declared.Outcome.{Outcome}
 use Rattle.campaigns.specs.declared.Phase.{Phase}
 use Rattle.campaigns.specs.declared.Phase.the-variants.{Filling, Running, Closed}
 use Rattle.campaigns.specs.declared.Plan.{Plan}
 use Rattle.campaigns.specs.declared.Terms.{Terms}
 use Rattle.campaigns.specs.declared.View.{View}
 use Rattle.campaigns.specs.Choice.{is, role-of}
-use Rattle.campaigns.specs.Campaign.{spending, aged, after, fresh}
+use Rattle.campaigns.specs.Campaign.{spending, aged, after, fresh, depth-fits, width-fits, power-fits, sound-plan, uncounted, empty, untouched, sound-campaign}
 use Rattle.campaigns.specs.View.{names, pays, becomes, able, takings, claims}
-use Rattle.day.specs.Day.{campaign, holding, in-phase, no-terms, planned, blank-plan, blank, full, taken, claimed, budgeted, is-filling}
-use Rattle.campaigns.specs.Campaign.{depth-fits, width-fits, power-fits, sound-plan, uncounted, empty, untouched, sound-campaign}
+use Rattle.campaigns.proofs.Laws.{Sized, plan-sized}
+use Rattle.day.specs.declared.Day.{Day}
+use Rattle.day.specs.declared.Outcome.{Outcome}
+use Rattle.day.specs.Day.{campaign, holding, in-phase, no-terms, planned, blank-plan, blank, full, taken, claimed, budgeted}
 use Rattle.day.specs.Sound.{sound-entry, phase-holds, sound-tests, sound}
 use Rattle.day.specs.Calls.{number, Call, width-holds, questions, result, joined, player, shown, call}
 use Rattle.day.specs.Calls.Call.{open-plan, add-campaign, start-day, show-view, ask-tally, close-day}
 use Rattle.day.proofs.Questions.{Yes, call-elim}
-use Rattle.laws.proofs.Laws.{Sized, claim-of, claim-fresh}
+use Rattle.day.proofs.State.{filling-is, Sound, sound-facts, sound-at, held-at, empty-at, campaign-holding}
+use Rattle.laws.proofs.Laws.{claim-of, claim-fresh}
 use Rattle.laws.proofs.Step.{able-few, takings-step, claims-step}
-use Rattle.laws.proofs.Holding.{campaign-holding, sum-holding, joined-old, joined-new, sum-joined, takings-joined}
-use Rattle.laws.proofs.SoundCampaign.{Orderly, orderly, orderly-sound, becomes-sound, fresh-sound}
+use Rattle.laws.proofs.Holding.{sum-holding, joined-old, joined-new, sum-joined, takings-joined}
+use Rattle.laws.proofs.SoundCampaign.{campaign-sound, becomes-sound, fresh-sound}
 
--- soundness, taken apart
-pub record Sound (p : Phase) (pl : Plan) (n a : ℕ) (f : ℕ → Campaign) : Type 0 where
+-- all that makes the state that holds n campaigns, f i at entry i, a sound one
+pub record Whole (p : Phase) (pl : Plan) (n a : ℕ) (f : ℕ → Campaign) : Type 0 where
   pub plan-sound : sound-plan pl ≡ true
   pub few : n ≤ 64
   pub views : a ≤ 4_096
   pub entry : (i : ℕ) → i < n → sound-campaign p pl a (f i) ≡ true
   pub past : (i : ℕ) → n ≤ i → i < 64 → empty (f i) ≡ true
   pub budgets : sum n (λ i. f i .budget) ≤ 2_000_000_000
-  pub phase-is : phase-holds p a (takings pl n f) ≡ true
+  pub phased : phase-holds p a (takings pl n f) ≡ true
   pub covered : claims pl n f ≤ full pl (takings pl n f)
 
-abbrev pub Sound-day : Day → Type 0
-Sound-day s = Sound (s .phase) (s .plan) (s .count) (s .accepted) (campaign s)
-
-entry-below : (s : Day) (i : ℕ) → i < s .count → sound-entry s i ≡ sound-campaign (s .phase) (s .plan) (s .accepted) (campaign s i)
-entry-below s i l = rw (lt-ltb i (s .count) l)
-
-entry-past : (s : Day) (i : ℕ) → s .count ≤ i → sound-entry s i ≡ empty (campaign s i)
-entry-past s i l = rw (le-ltb i (s .count) l)
-
-pub sound-parts : (s : Day) → sound s ≡ true → Sound-day s
+whole-sound : (s : Day) → Whole (s .phase) (s .plan) (s .count) (s .accepted) (campaign s) → sound s ≡ true
 unfolding sound taken claimed budgeted
-sound-parts s e =
-    let h = all-parts (sound-tests s) e in
-    let few : s .count ≤ 64 = leb-true (s .count) 64 (h .1 .0) in
-    let at : (i : ℕ) → i < 64 → sound-entry s i ≡ true = every-at 64 (sound-entry s) (h .1 .1 .1 .0) in
-    record {
-      plan-sound = h .0;
-      few = few;
-      views = leb-true (s .accepted) 4_096 (h .1 .1 .0);
-      entry = λ i l. sym (entry-below s i l) ∙ at i (lt-of-lt-of-le l few);
-      past = λ i l m. sym (entry-past s i l) ∙ at i m;
-      budgets = leb-true _ _ (h .1 .1 .1 .1 .0);
-      phase-is = h .1 .1 .1 .1 .1 .0;
-      covered = leb-true _ _ (h .1 .1 .1 .1 .1 .1 .0);
-    }
-
-pub sound-of : (s : Day) → Sound-day s → sound s ≡ true
-unfolding sound taken claimed budgeted
-sound-of s h = all-of (sound-tests s) (h .plan-sound, (le-leb _ _ (h .few), (le-leb _ _ (h .views), (every-of 64 (sound-entry s) (λ i l. go i l (ltb i (s .count)) refl), (le-leb _ _ (h .budgets), (h .phase-is, (le-leb _ _ (h .covered), tt)))))))
+whole-sound s h = all-of (sound-tests s) (h .plan-sound, (le-leb _ _ (h .few), (le-leb _ _ (h .views), (every-of 64 (sound-entry s) (λ i l. go i l (ltb i (s .count)) refl), (le-leb _ _ (h .budgets), (h .phased, (le-leb _ _ (h .covered), tt)))))))
   where
     go : (i : ℕ) → i < 64 → (b : Bool) → ltb i (s .count) ≡ b → sound-entry s i ≡ true
-    go i l true e = entry-below s i (ltb-true i (s .count) e) ∙ h .entry i (ltb-true i (s .count) e)
-    go i l false e = entry-past s i (ltb-false i (s .count) e) ∙ h .past i (ltb-false i (s .count) e) l
+    go i l true e = rw e (h .entry i (ltb-true i (s .count) e))
+    go i l false e = rw e (h .past i (ltb-false i (s .count) e) l)
 
-pub sound-holding : (p : Phase) (pl : Plan) (n a : ℕ) (f : ℕ → Campaign) → Sound p pl n a f → sound (holding p pl n a f) ≡ true
+sound-holding : (p : Phase) (pl : Plan) (n a : ℕ) (f : ℕ → Campaign) → Whole p pl n a f → sound (holding p pl n a f) ≡ true
 sound-holding p pl n a f h =
     let ta : takings pl n (campaign (holding p pl n a f)) ≡ takings pl n f = sum-holding p pl n a f spending (h .few) in
     let cl : claims pl n (campaign (holding p pl n a f)) ≡ claims pl n f = sum-holding p pl n a f (claim-of pl) (h .few) in
-    sound-of (holding p pl n a f) (record {
+    whole-sound (holding p pl n a f) (record {
       plan-sound = h .plan-sound;
       few = h .few;
       views = h .views;
       entry = λ i l. rw (campaign-holding p pl n a f i (lt-of-lt-of-le l (h .few))) (h .entry i l);
       past = λ i l m. rw (campaign-holding p pl n a f i m) (h .past i l m);
       budgets = rw (sum-holding p pl n a f (λ c. c .budget) (h .few)) (h .budgets);
-      phase-is = rw ta (h .phase-is);
+      phased = rw ta (h .phased);
       covered = rw (ta, cl) (h .covered);
     })
-
-filling-is : (p : Phase) → is-filling p ≡ true → p ≡ Filling
-filling-is Filling e = refl
-filling-is Running e = absurd (never false refl e)
-filling-is (Closed t) e = absurd (never false refl e)
-
-pub sized-of : (pl : Plan) → sound-plan pl ≡ true → Sized pl
-unfolding sound-plan
-sized-of pl e =
-    let h = joint-parts (depth-fits pl) (width-fits pl ∷ power-fits pl ∷ []) e in
-    record {
-      deep = leb-true 1 (pl .depth) (both-left (leb 1 (pl .depth)) (leb (pl .depth) 32) (h .0));
-      wide = leb-true 1 (pl .width) (both-left (leb 1 (pl .width)) (leb (pl .width) 16) (h .1 .0));
-    }
 
 -- a plan with no campaigns
 sound-planned : (p : Phase) (pl : Plan) → sound-plan pl ≡ true → phase-holds p 0 0 ≡ true → sound (planned p pl) ≡ true
@@ -117,22 +79,13 @@ sound-planned p pl e h = sound-holding p pl 0 0 (λ i. fresh no-terms) (record {
   entry = λ i l. absurd (not-suc-le-zero l);
   past = λ i l m. refl;
   budgets = omega (arith, sum-zero (λ i. 0));
-  phase-is = rw (sum-zero (λ i. 0)) h;
+  phased = rw (sum-zero (λ i. 0)) h;
   covered = omega (arith, sum-zero (λ i. claim-of pl (fresh no-terms)));
 })
 
 pub blank-sound : sound blank ≡ true
 unfolding blank sound-plan
 blank-sound = sound-planned (Closed 0) blank-plan refl refl
-
--- a set within n has no member from n on
-not-member : (n set i : ℕ) → within n set ≡ true → n ≤ i → i < 64 → member set i ≡ false
-unfolding within
-not-member n set i e l m = go (member set i) (every-at 64 (λ j. cond (member set j) (ltb j n) true) e i m)
-  where
-    go : (b : Bool) → cond b (ltb i n) true ≡ true → b ≡ false
-    go true t = absurd (omega (arith, ltb-true i n t))
-    go false t = refl
 
 budget-aged : (b : Bool) (c : Campaign) → aged b c .budget ≡ c .budget
 budget-aged true c = refl
@@ -147,30 +100,31 @@ budget-after k true true false c = budget-aged (eqb (c .age + 1) k) c
 absent-becomes : (pl : Plan) (w : View) (i : ℕ) (m p q : Bool) (c : Campaign) → m ≡ false → becomes pl w i (role-of m p q) c ≡ c
 absent-becomes pl w i m p q c e = rw e
 
-module _ (s : Day) (h : Sound-day s) where
+module _ (s : Day) (h : Sound s) where
   sized : Sized (s .plan)
-  sized = sized-of (s .plan) (h .plan-sound)
+  sized = plan-sized (s .plan) (h .plan-sound)
 
-  pub campaign-orderly : (i : ℕ) → i < s .count → Orderly (s .phase) (s .plan) (s .accepted) (campaign s i)
-  campaign-orderly i l = orderly (s .phase) (s .plan) (s .accepted) (campaign s i) (h .entry i l)
+  covered-claims : claims (s .plan) (s .count) (campaign s) ≤ full (s .plan) (takings (s .plan) (s .count) (campaign s))
+  unfolding taken claimed
+  covered-claims = h .covered
 
   -- another phase than Filling
   sound-phase : (p : Phase) → ((c : Campaign) → untouched p c ≡ true) → phase-holds p (s .accepted) (taken s) ≡ true → sound (in-phase s p) ≡ true
-  unfolding taken
-  sound-phase p u e = sound-of (in-phase s p) (record {
+  unfolding taken budgeted
+  sound-phase p u e = whole-sound (in-phase s p) (record {
     plan-sound = h .plan-sound;
     few = h .few;
     views = h .views;
-    entry = λ i l. let o = campaign-orderly i l in orderly-sound p (s .plan) (s .accepted) (campaign s i) (record { is-priced = o .is-priced; young = o .young; bought = o .bought; earned = o .earned; turned = o .turned; seen = o .seen; is-untouched = u (campaign s i) });
-    past = h .past;
+    entry = λ i l. let o = held-at s h i l in campaign-sound p (s .plan) (s .accepted) (campaign s i) (o .is-priced) (o .young) (o .within-whole) (o .plays-turns) (o .turns-named) (o .named-accepted) (u (campaign s i));
+    past = empty-at s h;
     budgets = h .budgets;
-    phase-is = e;
-    covered = h .covered;
+    phased = e;
+    covered = covered-claims;
   })
 
   module _ (t : Terms) where
     sound-joined : Yes (questions s (add-campaign t)) → sound (holding Filling (s .plan) (s .count + 1) (s .accepted) (joined s t)) ≡ true
-    unfolding budgeted
+    unfolding budgeted taken
     sound-joined (e1, (e6, (e7, (e8, (e9, (e10, _)))))) =
         let f : s .phase ≡ Filling = filling-is (s .phase) e6 in
         let room : s .count < 64 = ltb-true (s .count) 64 e7 in
@@ -180,13 +134,13 @@ module _ (s : Day) (h : Sound-day s) where
           few = omega arith;
           views = h .views;
           entry = λ i l. one-more (λ j. sound-campaign Filling (s .plan) (s .accepted) (joined s t j) ≡ true) (s .count)
-              (λ j m. rw (joined-old s t j (λ e. omega arith), ← f) (h .entry j m))
+              (λ j m. rw (joined-old s t j (λ e. omega arith), ← f) (sound-at s h j m))
               (rw (joined-new s t) (fresh-sound Filling (s .plan) (s .accepted) t (sized .deep) e8 e9))
               i (omega arith);
-          past = λ i l m. rw (joined-old s t i (λ e. omega arith)) (h .past i (omega arith) m);
+          past = λ i l m. rw (joined-old s t i (λ e. omega arith)) (empty-at s h i (omega arith) m);
           budgets = omega (arith, sum-joined s t (λ c. c .budget), leb-true (sum (s .count) (λ i. campaign s i .budget) + t .budget) 2_000_000_000 e10);
-          phase-is = subst (λ (p : Phase). phase-holds p (s .accepted) (takings (s .plan) (s .count) (campaign s)) ≡ true) f (h .phase-is);
-          covered = omega (arith, h .covered, sum-joined s t (claim-of (s .plan)), claim-fresh (s .plan) sized t, ap (full (s .plan)) (takings-joined s t));
+          phased = subst (λ (p : Phase). phase-holds p (s .accepted) (takings (s .plan) (s .count) (campaign s)) ≡ true) f (h .phased);
+          covered = omega (arith, covered-claims, sum-joined s t (claim-of (s .plan)), claim-fresh (s .plan) sized t, ap (full (s .plan)) (takings-joined s t));
         })
 
   module _ (w : View) where
@@ -197,15 +151,16 @@ module _ (s : Day) (h : Sound-day s) where
         (le-trans (count-below (s .count) 64 (names w) (h .few)) (leb-true (size (w .set)) (s .plan .width) (both-right (leb 1 (size (w .set))) (leb (size (w .set)) (s .plan .width)) e)))
 
     sound-shown : Yes (questions s (show-view w)) → sound (holding Running (s .plan) (s .count) (s .accepted + 1) (shown s w)) ≡ true
+    unfolding budgeted
     sound-shown (e1, (e11, (e12, (e13, (e14, _))))) = sound-holding Running (s .plan) (s .count) (s .accepted + 1) (shown s w) (record {
       plan-sound = h .plan-sound;
       few = h .few;
       views = omega (arith, ltb-true (s .accepted) 4_096 e12);
-      entry = λ i l. becomes-sound (s .phase) (s .plan) (s .accepted) (campaign s i) (campaign-orderly i l) w i (is (player s w) i);
-      past = λ i l m. rw (absent-becomes (s .plan) w i (names w i) (pays (s .plan) w i (campaign s i)) (is (player s w) i) (campaign s i) (not-member (s .count) (w .set) i e13 l m)) (h .past i l m);
+      entry = λ i l. becomes-sound (s .plan) (s .accepted) (campaign s i) (held-at s h i l) w i (is (player s w) i);
+      past = λ i l m. rw (absent-becomes (s .plan) w i (names w i) (pays (s .plan) w i (campaign s i)) (is (player s w) i) (campaign s i) (within-not-member (s .count) (w .set) i e13 l m)) (empty-at s h i l m);
       budgets = rw (sum-eq (s .count) (λ i. shown s w i .budget) (λ i. campaign s i .budget) (λ i l. budget-after (s .plan .depth) (names w i) (pays (s .plan) w i (campaign s i)) (is (player s w) i) (campaign s i))) (h .budgets);
-      phase-is = refl;
-      covered = omega (arith, h .covered, claims-step (s .count) (s .plan) w (campaign s) sized (λ i l. campaign-orderly i l .young) (few-able e14), ap (full (s .plan)) (takings-step (s .count) (s .plan) w (campaign s)));
+      phased = refl;
+      covered = omega (arith, covered-claims, claims-step (s .count) (s .plan) w (campaign s) sized (λ i l. held-at s h i l .young) (few-able e14), ap (full (s .plan)) (takings-step (s .count) (s .plan) w (campaign s)));
     })
 
 -- an opening that is accepted gives a sound state
@@ -217,8 +172,8 @@ opened-sound s pl (e1, (e2, (e3, (e4, (e5, _))))) = sound-planned Filling pl (jo
 pub sound-kept : (s : Day) (c : Call) → sound s ≡ true → sound (call s c .day) ≡ true
 sound-kept s c e = call-elim (λ (o : Outcome). sound (o .day) ≡ true) s c (λ q. e) (go c)
   where
-    h : Sound-day s
-    h = sound-parts s e
+    h : Sound s
+    h = sound-facts s e
 
     go : (c : Call) → Yes (questions s c) → sound (result s c .day) ≡ true
     go (open-plan pl) y = opened-sound s pl y

@@ -1,12 +1,12 @@
--- One campaign's part of soundness: its facts, and that a view keeps it.
+-- One campaign's part of soundness: a view keeps it, and a campaign has it as it is added.
 use mathlib.Core.Path.{_≡_, refl}
 use mathlib.Core.Bool.{Bool, true, false}
-use mathlib.Core.List.{List, [], _∷_}
+use mathlib.Core.List.{[], _∷_}
 use Prim.Native.Nat.{ℕ, _+_, _≤_, _<_}
 use native.Mathlib.Omega.{arith}
 use lib.Dec.{leb, ltb, eqb}
-use borrow.Author.Tests.{eqb-true, eqb-false, eq-eqb, ltb-true, lt-ltb, leb-true, le-leb}
-use Rattle.finite.proofs.Tests.{both-join, joint-parts, joint-of}
+use borrow.Author.Tests.{eqb-false, ltb-true, lt-ltb, le-leb}
+use Rattle.finite.proofs.Tests.{both-join, joint-of}
 use Rattle.campaigns.specs.declared.Campaign.{Campaign}
 use Rattle.campaigns.specs.declared.Phase.{Phase}
 use Rattle.campaigns.specs.declared.Phase.the-variants.{Filling, Running, Closed}
@@ -14,55 +14,37 @@ use Rattle.campaigns.specs.declared.Plan.{Plan}
 use Rattle.campaigns.specs.declared.Terms.{Terms}
 use Rattle.campaigns.specs.declared.View.{View}
 use Rattle.campaigns.specs.Choice.{role-of}
-use Rattle.campaigns.specs.Campaign.{whole, can-pay, aged, after, fresh}
+use Rattle.campaigns.specs.Campaign.{whole, can-pay, aged, after, fresh, price-fits, budget-fits, priced, counted, uncounted, untouched, sound-campaign}
 use Rattle.campaigns.specs.View.{names, pays, becomes}
-use Rattle.campaigns.specs.Campaign.{price-fits, budget-fits, priced, counted, uncounted, untouched, sound-campaign}
+use Rattle.campaigns.proofs.Totals.{Held}
 
-ruleset tests = (leb-true, ltb-true, eqb-true, le-leb, lt-ltb, eq-eqb)
-
--- the tests of a campaign's counts
-abbrev count-tests : ℕ → Campaign → List Bool
-count-tests n c = leb (c .plays) (whole c) ∷ leb (c .plays) (c .turns) ∷ leb (c .turns) (c .named) ∷ leb (c .named) n ∷ []
-
--- what soundness says of a campaign
-pub record Orderly (p : Phase) (pl : Plan) (n : ℕ) (c : Campaign) : Type 0 where
-  pub is-priced : priced c ≡ true
-  pub young : c .age < pl .depth
-  pub bought : c .plays ≤ whole c
-  pub earned : c .plays ≤ c .turns
-  pub turned : c .turns ≤ c .named
-  pub seen : c .named ≤ n
-  pub is-untouched : untouched p c ≡ true
-
-pub orderly : (p : Phase) (pl : Plan) (n : ℕ) (c : Campaign) → sound-campaign p pl n c ≡ true → Orderly p pl n c
+-- soundness of a campaign from its facts
+pub campaign-sound : (p : Phase) (pl : Plan) (n : ℕ) (c : Campaign) → priced c ≡ true → c .age < pl .depth → c .plays ≤ whole c → c .plays ≤ c .turns → c .turns ≤ c .named → c .named ≤ n → untouched p c ≡ true → sound-campaign p pl n c ≡ true
 unfolding sound-campaign counted
-orderly p pl n c e =
-    let h = joint-parts (priced c) (counted pl n c ∷ untouched p c ∷ []) e in
-    let k = joint-parts (ltb (c .age) (pl .depth)) (count-tests n c) (h .1 .0) in
-    record { is-priced = h .0; young = omega (arith, tests); bought = omega (arith, tests); earned = omega (arith, tests); turned = omega (arith, tests); seen = omega (arith, tests); is-untouched = h .1 .1 .0 }
+campaign-sound p pl n c priced-is young bought earned turned seen untouched-is =
+    joint-of (priced c) (counted pl n c ∷ untouched p c ∷ []) (priced-is, (counts, (untouched-is, tt)))
+  where
+    counts : counted pl n c ≡ true
+    counts =
+        joint-of (ltb (c .age) (pl .depth)) (leb (c .plays) (whole c) ∷ leb (c .plays) (c .turns) ∷ leb (c .turns) (c .named) ∷ leb (c .named) n ∷ [])
+        (lt-ltb (c .age) (pl .depth) young, (le-leb (c .plays) (whole c) bought, (le-leb (c .plays) (c .turns) earned, (le-leb (c .turns) (c .named) turned, (le-leb (c .named) n seen, tt)))))
 
-pub orderly-sound : (p : Phase) (pl : Plan) (n : ℕ) (c : Campaign) → Orderly p pl n c → sound-campaign p pl n c ≡ true
-unfolding sound-campaign counted
-orderly-sound p pl n c h =
-    joint-of (priced c) (counted pl n c ∷ untouched p c ∷ [])
-    (h .is-priced, (joint-of (ltb (c .age) (pl .depth)) (count-tests n c) (omega (arith, tests)), (h .is-untouched, tt)))
-
-module _ (p : Phase) (pl : Plan) (n : ℕ) (c : Campaign) (h : Orderly p pl n c) where
-  aged-orderly : (q : Bool) → eqb (c .age + 1) (pl .depth) ≡ q → Orderly Running pl (n + 1) (aged q c)
+module _ (pl : Plan) (n : ℕ) (c : Campaign) (h : Held pl n c) where
+  aged-sound : (q : Bool) → eqb (c .age + 1) (pl .depth) ≡ q → sound-campaign Running pl (n + 1) (aged q c) ≡ true
   unfolding priced whole
-  aged-orderly true t = record { is-priced = h .is-priced; young = omega arith; bought = h .bought; earned = omega arith; turned = omega arith; seen = omega arith; is-untouched = refl }
-  aged-orderly false t = record { is-priced = h .is-priced; young = omega (arith, eqb-false (c .age + 1) (pl .depth) t); bought = h .bought; earned = h .earned; turned = omega arith; seen = omega arith; is-untouched = refl }
+  aged-sound true t = campaign-sound Running pl (n + 1) (aged true c) (h .is-priced) (omega arith) (h .within-whole) (omega arith) (omega arith) (omega arith) refl
+  aged-sound false t = campaign-sound Running pl (n + 1) (aged false c) (h .is-priced) (omega (arith, eqb-false (c .age + 1) (pl .depth) t)) (h .within-whole) (h .plays-turns) (omega arith) (omega arith) refl
 
-  after-orderly : (m b q : Bool) → can-pay c ≡ b → Orderly Running pl (n + 1) (after (pl .depth) (role-of m b q) c)
+  after-sound : (m b q : Bool) → can-pay c ≡ b → sound-campaign Running pl (n + 1) (after (pl .depth) (role-of m b q) c) ≡ true
   unfolding priced whole
-  after-orderly false b q t = record { is-priced = h .is-priced; young = h .young; bought = h .bought; earned = h .earned; turned = h .turned; seen = omega arith; is-untouched = refl }
-  after-orderly true false q t = record { is-priced = h .is-priced; young = h .young; bought = h .bought; earned = h .earned; turned = omega arith; seen = omega arith; is-untouched = refl }
-  after-orderly true true true t = record { is-priced = h .is-priced; young = omega arith; bought = omega (arith, tests); earned = omega arith; turned = omega arith; seen = omega arith; is-untouched = refl }
-  after-orderly true true false t = aged-orderly (eqb (c .age + 1) (pl .depth)) refl
+  after-sound false b q t = campaign-sound Running pl (n + 1) c (h .is-priced) (h .young) (h .within-whole) (h .plays-turns) (h .turns-named) (omega arith) refl
+  after-sound true false q t = campaign-sound Running pl (n + 1) (after (pl .depth) (role-of true false q) c) (h .is-priced) (h .young) (h .within-whole) (h .plays-turns) (omega arith) (omega arith) refl
+  after-sound true true true t = campaign-sound Running pl (n + 1) (after (pl .depth) (role-of true true true) c) (h .is-priced) (omega arith) (omega (arith, ltb-true (c .plays) (whole c) t)) (omega arith) (omega arith) (omega arith) refl
+  after-sound true true false t = aged-sound (eqb (c .age + 1) (pl .depth)) refl
 
   -- a view keeps a campaign sound
   pub becomes-sound : (w : View) (i : ℕ) (q : Bool) → sound-campaign Running pl (n + 1) (becomes pl w i (role-of (names w i) (pays pl w i c) q) c) ≡ true
-  becomes-sound w i q = orderly-sound Running pl (n + 1) (becomes pl w i (role-of (names w i) (pays pl w i c) q) c) (after-orderly (names w i) (pays pl w i c) q refl)
+  becomes-sound w i q = after-sound (names w i) (pays pl w i c) q refl
 
 untouched-fresh : (p : Phase) (t : Terms) → untouched p (fresh t) ≡ true
 unfolding uncounted
@@ -71,14 +53,7 @@ untouched-fresh Running t = refl
 untouched-fresh (Closed x) t = refl
 
 -- a campaign is sound as it is added
-pub fresh-sound : (p : Phase) (pl : Plan) (n : ℕ) (t : Terms) → 0 < pl .depth → price-fits (t .price) ≡ true → budget-fits (t .price) (t .budget) ≡ true → sound-campaign p pl n (fresh t) ≡ true
+pub fresh-sound : (p : Phase) (pl : Plan) (n : ℕ) (t : Terms) → 1 ≤ pl .depth → price-fits (t .price) ≡ true → budget-fits (t .price) (t .budget) ≡ true → sound-campaign p pl n (fresh t) ≡ true
 unfolding priced
-fresh-sound p pl n t deep x y = orderly-sound p pl n (fresh t) (record {
-  is-priced = both-join (price-fits (t .price)) (budget-fits (t .price) (t .budget)) x y;
-  young = deep;
-  bought = omega arith;
-  earned = omega arith;
-  turned = omega arith;
-  seen = omega arith;
-  is-untouched = untouched-fresh p t;
-})
+fresh-sound p pl n t deep x y =
+    campaign-sound p pl n (fresh t) (both-join (price-fits (t .price)) (budget-fits (t .price) (t .budget)) x y) deep (omega arith) (omega arith) (omega arith) (omega arith) (untouched-fresh p t)

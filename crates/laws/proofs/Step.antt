@@ -15,11 +15,12 @@ use Rattle.campaigns.specs.Choice.{Choice, is, paid}
 use Rattle.campaigns.specs.Choice.Choice.{nobody, plays}
 use Rattle.campaigns.specs.Campaign.{spending}
 use Rattle.campaigns.specs.View.{names, pays, offer, figure, able, chosen-of, role-in, viewed, takings, claims}
+use Rattle.campaigns.proofs.Laws.{Sized}
 use Rattle.day.specs.Day.{full}
 use Rattle.laws.specs.Choice.{Right}
 use Rattle.laws.proofs.Choice.{choice-right}
 use Rattle.laws.proofs.Potential.{gains, takes}
-use Rattle.laws.proofs.Laws.{Sized, Steady, claim-of, gain-of, claim-after, gain-is, spending-after}
+use Rattle.laws.proofs.Laws.{Steady, claim-of, gain-of, claim-after, gain-is, spending-after}
 
 able-named : (b p : Bool) → one-if (b && p) ≤ one-if b
 able-named false p = le-refl 0

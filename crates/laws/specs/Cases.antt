@@ -3,10 +3,10 @@ use mathlib.Core.Path.{_≡_}
 use mathlib.Core.List.{List, [], _∷_, map}
 use Prim.Native.Nat.{ℕ}
 use Rattle.finite.specs.Finite.{table}
+use Rattle.campaigns.specs.Campaign.{score}
 use Rattle.day.specs.declared.Answer.{Answer}
 use Rattle.day.specs.declared.Answer.the-variants.{Refused, Done, Played, Nobody, Tallied, Closing}
 use Rattle.day.specs.declared.Day.{Day}
-use Rattle.campaigns.specs.Campaign.{score}
 use Rattle.day.specs.Day.{campaign, blank}
 use Rattle.day.specs.Calls.{Call}
 use Rattle.day.specs.Calls.Call.{open-plan, add-campaign, start-day, show-view, ask-tally, close-day}

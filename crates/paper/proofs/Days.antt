@@ -26,8 +26,9 @@ use Rattle.day.specs.Sound.{sound-tests, sound}
 use Rattle.day.specs.Calls.{number, Call, questions, joined, player, offers, shown, told, result, call}
 use Rattle.day.specs.Calls.Call.{open-plan, add-campaign, start-day, show-view, ask-tally, close-day}
 use Rattle.day.proofs.Questions.{Yes, call-elim}
+use Rattle.day.proofs.State.{campaign-holding}
 use Rattle.laws.specs.Transcript.{transcript, final}
-use Rattle.laws.proofs.Holding.{campaign-holding, joined-old, joined-new}
+use Rattle.laws.proofs.Holding.{joined-old, joined-new}
 use Rattle.laws.proofs.Refusals.{result-number}
 use Rattle.floor.specs.History.{accepted, Starts, History, opening, with-call, entered, continued, history}
 use Rattle.floor.specs.History.Starts.{from-blank, from-opening}
