@@ -1,6 +1,6 @@
 -- The rules for one campaign without a division, and what the tests of soundness say.
-use mathlib.Core.Path.{_≡_, refl, ap, ap₂, sym, _∙_, subst}
-use mathlib.Core.Bool.{Bool, true, false, _&&_}
+use mathlib.Core.Path.{_≡_, ap, ap₂, _∙_}
+use mathlib.Core.Bool.{true, _&&_}
 use Prim.Native.Nat.{ℕ, _+_, _-_, _*_, _/_, _^_, _≤_, _<_}
 use native.Mathlib.Nat.{le-div-iff-mul-le, lt-of-le-of-lt, mul-le-mul-left}
 use native.Mathlib.Omega.{arith}
@@ -9,13 +9,12 @@ use lib.ListN.{getD}
 use mathlib.Core.List.{List}
 use borrow.Author.Tests.{leb-true, le-leb, ltb-true, lt-ltb}
 use Rattle.finite.proofs.Tests.{both-left, both-right, same-test}
-use Rattle.powers.specs.Power.{entry, row-of, weight}
+use Rattle.powers.specs.Power.{weight}
 use Rattle.powers.proofs.Entries.{row-at, entry-weight}
 use Rattle.powers.proofs.Weight.{weight-most}
 use Rattle.campaigns.specs.declared.Campaign.{Campaign}
-use Rattle.campaigns.specs.declared.Phase.{Phase}
 use Rattle.campaigns.specs.declared.Plan.{Plan}
-use Rattle.campaigns.specs.Campaign.{whole, spending, depth-fits, width-fits, power-fits, price-fits, budget-fits, sound-plan, priced, counted, untouched, sound-campaign}
+use Rattle.campaigns.specs.Campaign.{whole, spending, depth-fits, width-fits, power-fits, price-fits, budget-fits, sound-plan, priced}
 use Rattle.campaigns.specs.Inner.{Rows}
 
 -- n ≤ budget / price is price × n ≤ budget

@@ -1,7 +1,7 @@
 -- The sums over campaigns that are sound, one campaign at a time, and why they fit.
-use mathlib.Core.Path.{_≡_, refl, ap, sym, _∙_}
-use mathlib.Core.Bool.{Bool, true, _&&_}
-use Prim.Native.Nat.{ℕ, suc, _+_, _-_, _*_, _≤_, _<_}
+use mathlib.Core.Path.{_≡_, ap}
+use mathlib.Core.Bool.{true, _&&_}
+use Prim.Native.Nat.{ℕ, _+_, _*_, _≤_, _<_}
 use native.Mathlib.Nat.{le-trans, mul-le-mul, mul-le-mul-right}
 use native.Mathlib.Numerals.{add-one}
 use native.Mathlib.Omega.{arith}
@@ -10,14 +10,13 @@ use borrow.Author.Tests.{leb-true, ltb-true}
 use Rattle.finite.specs.Finite.{sum, every}
 use Rattle.finite.proofs.Tests.{both-left, both-right, every-at}
 use Rattle.finite.proofs.Sums.{sum-most}
-use Rattle.powers.specs.Power.{weight}
 use Rattle.powers.proofs.Weight.{weight-most}
 use Rattle.campaigns.specs.declared.Campaign.{Campaign}
 use Rattle.campaigns.specs.declared.Phase.{Phase}
 use Rattle.campaigns.specs.declared.Plan.{Plan}
 use Rattle.campaigns.specs.Campaign.{whole, spending, price-fits, budget-fits, sound-plan, priced, counted, untouched, sound-campaign}
 use Rattle.campaigns.specs.Inner.{Small, Partial, one-more, waiting, sums-of}
-use Rattle.campaigns.proofs.Laws.{Sized, plan-sized}
+use Rattle.campaigns.proofs.Laws.{plan-sized}
 
 -- what a sound campaign gives
 pub record Held (pl : Plan) (accepted : ℕ) (c : Campaign) : Type 0 where

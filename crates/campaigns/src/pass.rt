@@ -7,9 +7,8 @@ use crate::entry::entry;
 use crate::rules::weigh;
 ghost use mathlib.Core.Path.{_≡_};
 ghost use mathlib.Core.Bool.{true};
-ghost use Prim.Native.Nat.{ℕ, _+_, _*_, _<_, _≤_};
+ghost use Prim.Native.Nat.{_+_, _*_, _<_, _≤_};
 ghost use Rattle.campaigns.specs.Campaign.{priced};
-ghost use Rattle.campaigns.specs.View.{names, figure, chosen-of};
 ghost use Rattle.campaigns.specs.Inner.{campaign-at, Narrow, Rows, Small, Partial, one-more, summed, no-terms-from, no-counts-from, empty-from, challenged, leader-of, Ready};
 
 // What a pass over the campaigns finds: whether each is sound and, if so, the sums that soundness compares.

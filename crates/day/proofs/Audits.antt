@@ -1,15 +1,15 @@
 -- The audit: soundness by its tests in the order of the code, and the total claim as two sums.
-use mathlib.Core.Path.{_≡_, refl, ap, sym, _∙_, subst}
+use mathlib.Core.Path.{_≡_, refl, ap, sym, _∙_}
 use mathlib.Core.Bool.{Bool, true, false, cond, not, _&&_, and-assoc, and-true}
 use mathlib.Core.List.{List}
-use Prim.Native.Nat.{ℕ, zero, suc, _+_, _-_, _*_, _/_, _^_, min, _≤_, _<_}
-use native.Mathlib.Nat.{min-eq-left, mul-le-mul, le-trans, le-div-iff-mul-le, div-lt-iff-lt-mul, pow-le-pow-left, pow-lt-pow-left, sub-le}
+use Prim.Native.Nat.{ℕ, _+_, _-_, _*_, _/_, _^_, min, _≤_, _<_}
+use native.Mathlib.Nat.{min-eq-left, le-trans, le-div-iff-mul-le, div-lt-iff-lt-mul, pow-le-pow-left, pow-lt-pow-left, sub-le}
 use native.Mathlib.Omega.{arith}
-use lib.Dec.{leb, ltb, eqb}
+use lib.Dec.{leb, eqb}
 use lib.ListN.{getD}
-use borrow.Author.Tests.{leb-true, leb-false, le-leb, lt-leb, eqb-true, eqb-false}
+use borrow.Author.Tests.{leb-true, le-leb, lt-leb, eqb-true, eqb-false}
 use Rattle.finite.specs.Finite.{sum, every}
-use Rattle.finite.proofs.Tests.{both-left, both-right, both-join, every-at, every-cut}
+use Rattle.finite.proofs.Tests.{both-left, both-right, every-at, every-cut}
 use Rattle.finite.proofs.Sums.{sum-eq, sum-le, sum-add, sum-mul}
 use Rattle.powers.specs.Power.{entry, row-of, weight, share}
 use Rattle.powers.proofs.Entries.{row-at, entry-is, entry-over, entry-under}
@@ -23,10 +23,9 @@ use Rattle.campaigns.specs.Inner.{Rows, waiting, sums-of, no-sums, summed, empt
 use Rattle.campaigns.proofs.Laws.{Sized, plan-sized, spending-within}
 use Rattle.campaigns.proofs.Totals.{Held, campaign-held, sums-partial}
 use Rattle.day.specs.declared.Day.{Day}
-use Rattle.day.specs.declared.audit.Audit.{Audit}
 use Rattle.day.specs.Day.{campaign, full, taken, claimed, budgeted}
-use Rattle.day.specs.Sound.{sound, sound-entry, phase-holds}
-use Rattle.day.specs.Inner.{not-sound, figures, audited, Bounded, claim-sum, settled}
+use Rattle.day.specs.Sound.{sound, phase-holds}
+use Rattle.day.specs.Inner.{not-sound, audited, Bounded, claim-sum, settled}
 
 -- question 5 by the row of powers
 pub row-tells : (pl : Plan) (up : List ℕ) → up ≡ row-of (min (pl .width) 16) → (depth-fits pl && width-fits pl) ≡ true → not (eqb (getD up (pl .depth) 0) 0) ≡ sound-plan pl

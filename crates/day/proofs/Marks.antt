@@ -1,10 +1,10 @@
 -- What a walk over the named campaigns stores: the campaigns below its place are remade, the others as they were.
-use mathlib.Core.Path.{_≡_, refl, ap, sym, _∙_, subst}
+use mathlib.Core.Path.{_≡_, refl, ap, sym, _∙_}
 use mathlib.Core.Bool.{Bool, true, false, cond, _&&_}
 use Prim.Native.Nat.{ℕ, _+_, _≤_, _<_}
 use native.Mathlib.Omega.{arith}
 use lib.Dec.{ltb, eqb}
-use lib.ListN.{getD, length, set, length-set}
+use lib.ListN.{getD, set, length-set}
 use lib.Seq.{getD-set-same, getD-set-other}
 use borrow.Author.Tests.{lt-ltb, le-ltb, ltb-true, ltb-false, eqb-true, eqb-false}
 use Rattle.finite.proofs.Tests.{every-at}
@@ -17,9 +17,8 @@ use Rattle.campaigns.specs.Choice.{Role, role-of}
 use Rattle.campaigns.specs.Choice.Role.{absent, spent, chosen, passed}
 use Rattle.campaigns.specs.Campaign.{can-pay, aged, after}
 use Rattle.campaigns.specs.View.{names}
-use Rattle.campaigns.proofs.Totals.{Held}
 use Rattle.day.specs.declared.Day.{Day}
-use Rattle.day.specs.Day.{campaign, holding}
+use Rattle.day.specs.Day.{campaign}
 use Rattle.day.specs.Inner.{remade, marked}
 use Rattle.day.proofs.State.{Lengths, holding-is}
 

@@ -1,26 +1,23 @@
 -- A view's outcome by the leader that the walk found.
-use mathlib.Core.Path.{_≡_, refl, ap, sym, _∙_, subst}
-use mathlib.Core.Bool.{Bool, true, false}
-use Prim.Native.Nat.{ℕ, _+_, _≤_, _<_}
-use native.Mathlib.Omega.{arith}
+use mathlib.Core.Path.{_≡_, refl, ap, sym, _∙_}
+use mathlib.Core.Bool.{true, false}
+use Prim.Native.Nat.{_+_, _≤_}
 use Rattle.finite.proofs.Tests.{never}
 use Rattle.sets.specs.Set.{within}
-use Rattle.campaigns.specs.declared.Campaign.{Campaign}
 use Rattle.campaigns.specs.declared.Phase.{Phase}
 use Rattle.campaigns.specs.declared.Phase.the-variants.{Filling, Running, Closed}
 use Rattle.campaigns.specs.declared.View.{View}
 use Rattle.campaigns.specs.declared.pass.Leader.{Leader}
 use Rattle.campaigns.specs.Choice.{Choice, is, role-of}
 use Rattle.campaigns.specs.Choice.Choice.{nobody, plays}
-use Rattle.campaigns.specs.View.{names, pays, offer, figure, becomes, chosen-of}
+use Rattle.campaigns.specs.View.{names, pays, figure, becomes}
 use Rattle.campaigns.specs.Inner.{led, leader-of, Ready}
 use Rattle.campaigns.proofs.Leads.{choice-within}
-use Rattle.day.specs.declared.Answer.{Answer}
 use Rattle.day.specs.declared.Answer.the-variants.{Played, Nobody}
 use Rattle.day.specs.declared.Day.{Day}
 use Rattle.day.specs.Day.{campaign, holding, is-running}
 use Rattle.day.specs.Calls.{player, offers, shown, told}
-use Rattle.day.specs.Inner.{remade, marked}
+use Rattle.day.specs.Inner.{marked}
 use Rattle.day.proofs.State.{Sound, held-at}
 use Rattle.day.proofs.Marks.{named-below}
 

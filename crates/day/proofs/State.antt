@@ -1,15 +1,15 @@
 -- What soundness gives, and states by their campaigns.
-use mathlib.Core.Path.{_≡_, refl, ap, sym, _∙_, subst}
+use mathlib.Core.Path.{_≡_, refl, ap, sym, _∙_}
 use mathlib.Core.Bool.{Bool, true, false, cond, _&&_}
 use mathlib.Core.List.{List}
 use Prim.Native.Nat.{ℕ, _+_, _≤_, _<_}
 use native.Mathlib.Nat.{le-refl}
 use native.Mathlib.Omega.{arith}
-use lib.Dec.{leb, ltb, eqb}
+use lib.Dec.{eqb}
 use lib.ListN.{getD, length, set, length-set}
 use lib.Seq.{getD-set-same, getD-set-other}
 use borrow.Author.Tests.{leb-true, lt-ltb, le-ltb, eqb-true, eqb-false}
-use Rattle.finite.specs.Finite.{every, all, table}
+use Rattle.finite.specs.Finite.{every, table}
 use Rattle.finite.proofs.Tests.{never, both-left, both-right, all-parts, every-at}
 use Rattle.finite.proofs.Tables.{getD-table, list-table, table-eq}
 use Rattle.campaigns.specs.declared.Campaign.{Campaign}

@@ -1,9 +1,6 @@
 -- The state: how its arrays hold the campaigns, and the states that the operations hand back. Only this file knows the layout.
-use mathlib.Core.Bool.{Bool, true, false, cond}
-use mathlib.Core.List.{List}
-use Prim.Native.Nat.{ℕ, _+_, _*_, _^_}
-use lib.Dec.{eqb}
-use lib.ListN.{getD}
+use mathlib.Core.Bool.{Bool, true, false}
+use Prim.Native.Nat.{ℕ, _*_, _^_}
 use Rattle.finite.specs.Finite.{sum, table}
 use Rattle.campaigns.specs.declared.Campaign.{Campaign}
 use Rattle.day.specs.declared.Day.{Day}

@@ -1,14 +1,12 @@
 -- Soundness, in the order of its sentence in document 01.
-use mathlib.Core.Bool.{Bool, true, cond, _&&_}
+use mathlib.Core.Bool.{Bool, true, cond}
 use mathlib.Core.List.{List, [], _∷_}
-use Prim.Native.Nat.{ℕ, _^_}
+use Prim.Native.Nat.{ℕ}
 use lib.Dec.{leb, ltb, eqb}
 use Rattle.finite.specs.Finite.{all, every}
-use Rattle.campaigns.specs.declared.Campaign.{Campaign}
 use Rattle.day.specs.declared.Day.{Day}
 use Rattle.campaigns.specs.declared.Phase.{Phase}
 use Rattle.campaigns.specs.declared.Phase.the-variants.{Filling, Running, Closed}
-use Rattle.campaigns.specs.declared.Plan.{Plan}
 use Rattle.campaigns.specs.Campaign.{sound-plan, empty, sound-campaign}
 use Rattle.day.specs.Day.{campaign, full, taken, claimed, budgeted}
 

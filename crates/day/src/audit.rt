@@ -5,7 +5,7 @@ use campaigns::Plan;
 use campaigns::pass::Sums;
 ghost use mathlib.Core.Path.{_≡_};
 ghost use mathlib.Core.Bool.{true};
-ghost use Prim.Native.Nat.{min, _-_, _≤_};
+ghost use Prim.Native.Nat.{min, _-_};
 ghost use Rattle.powers.specs.Power.{row-of};
 ghost use Rattle.campaigns.specs.Campaign.{depth-fits, width-fits, sound-plan};
 ghost use Rattle.campaigns.specs.Inner.{Rows};

@@ -2,7 +2,7 @@ use Rattle.campaigns.proofs.Laws.{price-least}
 use Rattle.campaigns.specs.Campaign.{priced}
 use mathlib.Core.Bool.{true}
 use mathlib.Core.Path.{_≡_, sym, _∙_}
-use borrow.Author.Tests.{not-true, not-false, eq-eqb, ne-eqb}
+use borrow.Author.Tests.{not-true, not-false}
 use Rattle.campaigns.specs.Campaign.{sound-campaign}
 use borrow.Author.Needs.{needs}
 use Rattle.campaigns.proofs.Campaign.sound.Statement.{statement}

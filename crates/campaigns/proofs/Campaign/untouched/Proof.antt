@@ -1,5 +1,3 @@
-use mathlib.Core.Path.{_∙_, sym}
-use mathlib.Core.Path.{refl}
 use borrow.Author.Needs.{needs}
 use Rattle.campaigns.proofs.Campaign.untouched.Statement.{statement}
 use Rattle.campaigns.proofs.Campaign.untouched.Tie as tie

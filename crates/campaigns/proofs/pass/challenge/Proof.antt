@@ -1,15 +1,11 @@
-use Prim.Native.Nat.{ℕ, _*_}
-use mathlib.Core.Path.{subst}
-use Rattle.campaigns.specs.Campaign.{score}
-use lib.Dec.{ltb}
-use mathlib.Core.Bool.{Bool, true, false, not, _||_}
+use mathlib.Core.Bool.{true, false}
 use Rattle.campaigns.proofs.Laws.{price-least, price-most}
 use Rattle.campaigns.specs.Inner.{challenged}
 use Rattle.campaigns.specs.Campaign.{can-pay}
 use borrow.Author.Tests.{not-true, not-false}
 use native.Mathlib.Omega.{arith}
 use native.Mathlib.Nat.{mul-le-mul}
-use mathlib.Core.Bool.{Bool, true, false}
+use mathlib.Core.Bool.{true, false}
 use mathlib.Core.Path.{_≡_, sym, _∙_}
 use borrow.Author.Needs.{needs}
 use Rattle.campaigns.proofs.pass.challenge.Statement.{statement}

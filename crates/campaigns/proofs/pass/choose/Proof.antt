@@ -3,15 +3,14 @@ use Rattle.campaigns.specs.Inner.{campaign-at, challenged, leader-of}
 use Rattle.campaigns.specs.Campaign.{priced}
 use Rattle.campaigns.specs.Choice.{best, choice}
 use Rattle.campaigns.specs.declared.pass.Leader.{Leader}
-use Rattle.campaigns.specs.declared.View.{View}
 use Rattle.campaigns.specs.declared.Campaign.{Campaign}
-use Rattle.sets.proofs.Walk.{Next, next-at}
+use Rattle.sets.proofs.Walk.{next-at}
 use Rattle.sets.specs.Set.{member}
 use borrow.Author.Needs.{needs}
 use native.Mathlib.Omega.{arith}
-use Prim.Native.Nat.{ℕ, _+_, _-_, _≤_, _<_}
+use Prim.Native.Nat.{_+_, _-_, _≤_, _<_}
 use mathlib.Core.Bool.{true}
-use mathlib.Core.Path.{_≡_, ap, sym, subst, _∙_}
+use mathlib.Core.Path.{_≡_, ap, sym, _∙_}
 use Rattle.campaigns.proofs.pass.choose.Statement.{statement}
 use Rattle.campaigns.proofs.pass.choose.Tie as tie
 use Rattle.campaigns.proofs.pass.choose.Reads as reads

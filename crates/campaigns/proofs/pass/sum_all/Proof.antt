@@ -1,6 +1,6 @@
-use Rattle.campaigns.proofs.Totals.{Held, campaign-held, held-small, waiting-most, sums-next, sums-partial}
+use Rattle.campaigns.proofs.Totals.{Held, campaign-held, held-small, sums-next, sums-partial}
 use Rattle.campaigns.proofs.Laws.{plan-sized}
-use Rattle.campaigns.specs.Inner.{campaign-at, Partial, Small, one-more, waiting, sums-of, no-sums, summed}
+use Rattle.campaigns.specs.Inner.{campaign-at, Partial, one-more, waiting, sums-of, summed}
 use Rattle.campaigns.specs.Campaign.{sound-campaign}
 use Rattle.campaigns.specs.declared.pass.Sums.{Sums}
 use Rattle.campaigns.specs.declared.Campaign.{Campaign}
@@ -11,8 +11,8 @@ use borrow.Author.Tests.{not-true, not-false}
 use borrow.Author.Needs.{needs}
 use native.Mathlib.Omega.{arith}
 use native.Mathlib.Numerals.{add-one}
-use Prim.Native.Nat.{ℕ, zero-le, _+_, _-_, _≤_, _<_}
-use mathlib.Core.Bool.{Bool, true, false, cond}
+use Prim.Native.Nat.{ℕ, _-_, _≤_}
+use mathlib.Core.Bool.{true, false}
 use mathlib.Core.Path.{_≡_, refl, ap, ap₂, sym, subst, _∙_}
 use Rattle.campaigns.proofs.pass.sum_all.Statement.{statement}
 use Rattle.campaigns.proofs.pass.sum_all.Tie as tie

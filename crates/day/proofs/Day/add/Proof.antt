@@ -6,10 +6,8 @@ use Rattle.day.specs.declared.Answer.the-variants.{Done}
 use Rattle.finite.proofs.Tests.{both-right}
 use borrow.Author.Tests.{leb-true, ltb-true}
 use lib.Dec.{leb}
-use Prim.Native.Nat.{_≤_}
 use native.Mathlib.Omega.{arith}
-use mathlib.Core.Bool.{_&&_}
-use mathlib.Core.Path.{_≡_, ap, _∙_}
+use mathlib.Core.Path.{ap, _∙_}
 use borrow.Author.Needs.{needs}
 use Rattle.day.proofs.Day.add.Statement.{statement}
 use Rattle.day.proofs.Day.add.Tie as tie

@@ -8,9 +8,9 @@ use Rattle.campaigns.specs.Campaign.{price-fits, budget-fits}
 use Rattle.finite.proofs.Tests.{both-right}
 use borrow.Author.Tests.{not-true, not-false, le-ltb, lt-ltb, leb-true, le-leb, lt-leb}
 use lib.Dec.{leb, ltb}
-use Prim.Native.Nat.{ℕ, _+_, _≤_, _<_}
+use Prim.Native.Nat.{_+_}
 use native.Mathlib.Omega.{arith}
-use mathlib.Core.Bool.{true, false}
+use mathlib.Core.Bool.{true}
 use mathlib.Core.Path.{_≡_, ap, sym, _∙_}
 use borrow.Author.Needs.{needs}
 use Rattle.day.proofs.Day.add_question.Statement.{statement}

@@ -9,11 +9,9 @@ use Rattle.day.specs.Day.{is-running, in-phase}
 use Rattle.day.specs.declared.audit.Audit.{Audit}
 use Rattle.day.specs.declared.Outcome.{Outcome}
 use Rattle.day.specs.declared.Day.{Day}
-use Rattle.day.specs.declared.Answer.{Answer}
 use borrow.Author.Tests.{not-true, not-false}
-use Prim.Native.Nat.{ℕ}
 use native.Mathlib.Omega.{arith}
-use mathlib.Core.Bool.{true, false}
+use mathlib.Core.Bool.{true}
 use mathlib.Core.Path.{_≡_, ap, sym, _∙_}
 use borrow.Author.Needs.{needs}
 use Rattle.day.proofs.Day.close.Statement.{statement}

@@ -1,4 +1,4 @@
-use Rattle.day.proofs.Marks.{Marked, Grown, after-grown, cut, cut-here, gap-marked, start-marked, step-marked, end-marked, named-below, stored}
+use Rattle.day.proofs.Marks.{Marked, after-grown, cut, cut-here, gap-marked, start-marked, step-marked, end-marked, named-below, stored}
 use Rattle.day.proofs.State.{Lengths, sound-facts, held-at}
 use Rattle.day.specs.Inner.{remade, marked}
 use Rattle.day.specs.Day.{campaign}
@@ -7,7 +7,7 @@ use Rattle.campaigns.proofs.Laws.{plan-sized}
 use Rattle.campaigns.specs.Campaign.{can-pay, after}
 use Rattle.campaigns.specs.Choice.{role-of}
 use Rattle.campaigns.specs.declared.Campaign.{Campaign}
-use Rattle.sets.proofs.Walk.{Next, next-at}
+use Rattle.sets.proofs.Walk.{next-at}
 use Rattle.sets.specs.Set.{member}
 use lib.Dec.{eqb}
 use borrow.Author.Needs.{needs}

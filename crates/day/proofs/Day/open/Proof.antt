@@ -3,7 +3,7 @@ use Rattle.day.specs.Calls.Call.{open-plan}
 use Rattle.day.specs.declared.Outcome.{Outcome}
 use Rattle.day.specs.declared.Day.{Day}
 use Rattle.day.specs.declared.Answer.the-variants.{Done}
-use mathlib.Core.Path.{_≡_, ap, _∙_}
+use mathlib.Core.Path.{ap, _∙_}
 use borrow.Author.Needs.{needs}
 use Rattle.day.proofs.Day.open.Statement.{statement}
 use Rattle.day.proofs.Day.open.Tie as tie

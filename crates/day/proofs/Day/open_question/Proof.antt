@@ -3,7 +3,7 @@ use Rattle.day.specs.Calls.{first-no}
 use Rattle.day.specs.Sound.{sound}
 use Rattle.day.specs.Day.{is-closed}
 use borrow.Author.Tests.{not-true, not-false}
-use mathlib.Core.Bool.{true, false}
+use mathlib.Core.Bool.{true}
 use mathlib.Core.Path.{_≡_, sym, _∙_}
 use borrow.Author.Needs.{needs}
 use Rattle.day.proofs.Day.open_question.Statement.{statement}

@@ -1,18 +1,15 @@
 use mathlib.Core.Path.{refl}
 use Rattle.day.specs.declared.Answer.the-variants.{Done}
-use Rattle.day.proofs.Questions.{refused-is, accepted-is, all-yes, audit-sound, audit-figures}
+use Rattle.day.proofs.Questions.{refused-is, accepted-is, all-yes, audit-sound}
 use Rattle.day.specs.Calls.Call.{start-day}
 use Rattle.day.specs.Calls.{first-no, questions}
 use Rattle.day.specs.Sound.{sound}
 use Rattle.day.specs.Day.{is-filling, in-phase}
-use Rattle.day.specs.declared.audit.Audit.{Audit}
 use Rattle.day.specs.declared.Outcome.{Outcome}
 use Rattle.day.specs.declared.Day.{Day}
-use Rattle.day.specs.declared.Answer.{Answer}
 use borrow.Author.Tests.{not-true, not-false}
-use Prim.Native.Nat.{ℕ}
 use native.Mathlib.Omega.{arith}
-use mathlib.Core.Bool.{true, false}
+use mathlib.Core.Bool.{true}
 use mathlib.Core.Path.{_≡_, ap, sym, _∙_}
 use borrow.Author.Needs.{needs}
 use Rattle.day.proofs.Day.start.Statement.{statement}

@@ -6,11 +6,9 @@ use Rattle.day.specs.Calls.{first-no, questions, tally-of}
 use Rattle.day.specs.Sound.{sound}
 use Rattle.day.specs.declared.Outcome.{Outcome}
 use Rattle.campaigns.specs.declared.Campaign.{Campaign}
-use lib.Dec.{ltb}
 use borrow.Author.Tests.{not-true, not-false, lt-ltb, le-ltb}
-use Prim.Native.Nat.{ℕ}
 use native.Mathlib.Omega.{arith}
-use mathlib.Core.Bool.{true, false}
+use mathlib.Core.Bool.{true}
 use mathlib.Core.Path.{_≡_, refl, ap, sym, _∙_}
 use borrow.Author.Needs.{needs}
 use Rattle.day.proofs.Day.tally.Statement.{statement}

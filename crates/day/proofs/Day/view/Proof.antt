@@ -5,17 +5,14 @@ use Rattle.day.proofs.Questions.{Yes, refused-is, accepted-is, asked-ye
 use Rattle.day.specs.Inner.{view-questions, marked}
 use Rattle.day.specs.Calls.Call.{show-view}
 use Rattle.day.specs.Calls.{first-no, questions, width-holds, player}
-use Rattle.day.specs.Day.{campaign}
 use Rattle.day.specs.declared.Outcome.{Outcome}
 use Rattle.day.specs.declared.Day.{Day}
 use Rattle.day.specs.declared.Answer.{Answer}
-use Rattle.campaigns.specs.Inner.{leader-of}
-use Rattle.campaigns.specs.declared.pass.Leader.{Leader}
 use Rattle.powers.specs.Power.{row-of}
 use borrow.Author.Tests.{ltb-true}
 use Prim.Native.Nat.{ℕ, min}
-use mathlib.Core.Bool.{Bool, true, false}
-use mathlib.Core.Path.{_≡_, ap, ap₂, sym, _∙_}
+use mathlib.Core.Bool.{Bool}
+use mathlib.Core.Path.{_≡_, ap, ap₂, _∙_}
 use borrow.Author.Needs.{needs}
 use Rattle.day.proofs.Day.view.Statement.{statement}
 use Rattle.day.proofs.Day.view.Tie as tie

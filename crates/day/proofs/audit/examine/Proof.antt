@@ -1,15 +1,13 @@
 use Rattle.day.proofs.Audits.{plan-part, campaign-part, few-of, views-of, plan-of, rows-of, audit-first, audit-second, audit-third, summed-is, sums-bounded, summed-tests}
-use Rattle.day.specs.Inner.{Bounded, audited, settled}
+use Rattle.day.specs.Inner.{Bounded, settled}
 use Rattle.day.specs.Sound.{phase-holds}
 use Rattle.day.specs.Day.{campaign, taken, budgeted}
 use Rattle.day.specs.declared.Day.{Day}
-use Rattle.campaigns.specs.Inner.{Rows, sums-of, empty-from}
-use Rattle.campaigns.specs.declared.pass.Sums.{Sums}
+use Rattle.campaigns.specs.Inner.{sums-of, empty-from}
 use borrow.Author.Tests.{not-true, not-false}
 use lib.Dec.{leb}
-use Prim.Native.Nat.{ℕ}
-use mathlib.Core.Bool.{Bool, true, false, _&&_}
-use mathlib.Core.Path.{_≡_, ap, ap₂, sym, subst, _∙_}
+use mathlib.Core.Bool.{Bool, true, _&&_}
+use mathlib.Core.Path.{_≡_, ap, sym, subst, _∙_}
 use borrow.Author.Needs.{needs}
 use Rattle.day.proofs.audit.examine.Statement.{statement}
 use Rattle.day.proofs.audit.examine.Tie as tie

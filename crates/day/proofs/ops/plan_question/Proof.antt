@@ -2,8 +2,7 @@ use Rattle.day.proofs.Questions.{listed-over, listed-under}
 use Rattle.day.specs.Calls.{first-no}
 use Rattle.campaigns.specs.Campaign.{depth-fits, width-fits}
 use borrow.Author.Tests.{not-true, not-false}
-use Prim.Native.Nat.{ℕ}
-use mathlib.Core.Bool.{true, false}
+use mathlib.Core.Bool.{true}
 use mathlib.Core.Path.{_≡_, sym, _∙_}
 use borrow.Author.Needs.{needs}
 use Rattle.day.proofs.ops.plan_question.Statement.{statement}

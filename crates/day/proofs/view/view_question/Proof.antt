@@ -1,11 +1,11 @@
 use Rattle.day.specs.Calls.{first-no}
 use Rattle.day.specs.Day.{is-running}
 use Rattle.sets.proofs.Walk.{within-next, within-not}
-use Rattle.sets.specs.Set.{size, within, next}
+use Rattle.sets.specs.Set.{size, within}
 use borrow.Author.Tests.{not-true, not-false, lt-ltb, le-ltb}
-use lib.Dec.{leb, ltb}
+use lib.Dec.{leb}
 use Prim.Native.Nat.{ℕ, _<_, _≤_}
-use mathlib.Core.Bool.{Bool, true, false, _&&_}
+use mathlib.Core.Bool.{true, _&&_}
 use mathlib.Core.Path.{_≡_, ap, sym, subst, _∙_}
 use borrow.Author.Needs.{needs}
 use Rattle.day.proofs.view.view_question.Statement.{statement}
