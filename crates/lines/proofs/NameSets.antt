@@ -38,7 +38,7 @@ module _ (v n : ℕ) where
         let q : (v + 2 ^ n) / 2 ^ n ≡ 1 = ap (λ (x : ℕ). x / 2 ^ n) e ∙ add-mul-div-right v 1 (pow-pos n) ∙ ap (λ (x : ℕ). x + 1) (div-eq-of-lt low) in
         ap (λ (x : ℕ). eqb (x % 2) 1) q
 
-    above : (j : ℕ) → n ≤ j → member v j ≡ false
+    pub above : (j : ℕ) → n ≤ j → member v j ≡ false
     unfolding member
     above j h = ap (λ (x : ℕ). eqb (x % 2) 1) (div-eq-of-lt (lt-of-lt-of-le low (pow-mono h)))
 
