@@ -193,12 +193,39 @@ fn byte(s: &[u8], i: usize) -> u8
     if i < s.len() { s[i] } else { 0 }
 }
 
+// A name: a numeral from 0 to 63 at the place at.
+fn name(s: &[u8], at: usize) -> Slot
+    requires { ⌜ length (now s) ≤ 200 ⌝ }
+    ensures { λ r. ⌜ Sees (now (s .entry)) r (slotAt 67 (place (now (s .entry)) at)) ⌝ }
+{
+    let a = byte(s, at);
+    if !is_digit(a) {
+        return missing();
+    }
+    let first = wide(a - 48);
+    let b = byte(s, at + 1);
+    if !is_digit(b) | (first == 0) {
+        return Slot {
+            number: first,
+            end: at + 1,
+        };
+    }
+    let n = first * 10 + wide(b - 48);
+    if is_digit(byte(s, at + 2)) | (n > 63) {
+        return missing();
+    }
+    Slot {
+        number: n,
+        end: at + 2,
+    }
+}
+
 // The set with the name at the place at, which is above all of its members.
 fn join_name(s: &[u8], at: usize, set: u64) -> Slot
     requires { ⌜ length (now s) ≤ 200 ⌝ }
     ensures { λ r. ⌜ Sees (now (s .entry)) r (joined set (slotAt 67 (place (now (s .entry)) at))) ⌝ }
 {
-    let name = number(s, at, b'C');
+    let name = name(s, at);
     if name.end > s.len() {
         return missing();
     }

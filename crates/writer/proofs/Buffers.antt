@@ -149,3 +149,16 @@ tail-step o out at n i rest b h small t =
           let few : rest < 10 = below rest small (omega (arith, m .1)) in
           m .0 ∙ ap (λ (x : List ℕ). x ++ t .tail) (name-one rest few);
     }
+
+-- two digits at a time
+pub tail-pair : (o out : List ℕ) (at n i rest : ℕ) → at + i ≤ length o → 1 < i → rest < 2 ^ 64 → Tail o out at n i rest
+    → Tail o (set (set out (at + (i - 2) + 1) (48 + rest % 100 % 10)) (at + (i - 2)) (48 + rest % 100 / 10)) at n (i - 2) (rest / 100)
+tail-pair o out at n i rest b h small t =
+    let one = tail-step o out at n i rest b (omega arith) small t in
+    let two = tail-step o (set out (at + (i - 1)) (48 + rest % 10)) at n (i - 1) (rest / 10) (omega arith) (omega arith) (omega arith) one in
+    let f₁ : at + (i - 2) + 1 ≡ at + (i - 1) = omega arith in
+    let f₂ : rest % 100 % 10 ≡ rest % 10 = omega arith in
+    let f₃ : rest % 100 / 10 ≡ rest / 10 % 10 = omega arith in
+    let f₄ : rest / 100 ≡ rest / 10 / 10 = omega arith in
+    let f₅ : i - 2 ≡ i - 1 - 1 = omega arith in
+    rw (f₁, f₂, f₃, f₄, f₅) two

@@ -129,7 +129,7 @@ fn put(out: &mut [u8], at: usize, word: &[u8]) -> usize
     at + i
 }
 
-// The numeral of n at the place at, from its last digit to its first.
+// The numeral of n at the place at, from its last digits to its first, two at a time.
 fn put_number(out: &mut [u8], at: usize, n: u64) -> usize
     requires { ⌜ at + length (numeral n) ≤ length (now out) ⌝ }
     ensures { λ r. ⌜ Put (now (out .entry)) (now (out .exit)) at r (numeral n) ⌝ }
@@ -137,11 +137,17 @@ fn put_number(out: &mut [u8], at: usize, n: u64) -> usize
     let len = places(n);
     let mut i = len;
     let mut rest = n;
-    while i > 0 {
-        i -= 1;
-        out[at + i] = (48 + rest % 10) as u8;
-        rest /= 10;
+    while i > 1 {
+        i -= 2;
+        let pair = rest % 100;
+        out[at + i + 1] = (48 + pair % 10) as u8;
+        out[at + i] = (48 + pair / 10) as u8;
+        rest /= 100;
     }
+    if i == 0 {
+        return at + len;
+    }
+    out[at] = (48 + rest % 10) as u8;
     at + len
 }
 

@@ -22,14 +22,14 @@ returns : tie.Need-returns
 returns c =
     let a = c .before .before .before .before .before .args in
     let l = a .s .now in
-    let x = c .before .before .before .number in
+    let x = c .before .before .before .name in
     misses l (c .missing .result) (joined (a .set) (slotAt 67 (place l (a .at)))) (c .missing .ensures .0) (omega (arith, c .missing .ensures .1))
     (ap (joined (a .set)) (seen-out l (x .result) (slotAt 67 (place l (a .at))) (x .ensures) (c .before .if1 .taken)))
 
 shl-bit : tie.Need-shl-bit
 shl-bit c =
     let a = c .before .before .before .before .before .args in
-    let x = c .before .before .before .number in
+    let x = c .before .before .before .name in
     omega (arith, name-small (a .s .now) (x .result) (place (a .s .now) (a .at)) (x .ensures) (c .before .if1 .left))
 
 -- the name is not above the others
@@ -37,7 +37,7 @@ returns-2 : tie.Need-returns-2
 returns-2 c =
     let a = c .before .before .before .before .before .before .before .args in
     let l = a .s .now in
-    let x = c .before .before .before .before .before .number in
+    let x = c .before .before .before .before .before .name in
     let n = x .result .number in
     let inside = c .before .before .before .if1 .left in
     misses l (c .missing2 .result) (joined (a .set) (slotAt 67 (place l (a .at)))) (c .missing2 .ensures .0) (omega (arith, c .missing2 .ensures .1))
@@ -47,7 +47,7 @@ returns-2 c =
 add-t8 : tie.Need-add-t8
 add-t8 c =
     let a = c .before .before .before .before .before .before .args in
-    let x = c .before .before .before .before .number in
+    let x = c .before .before .before .before .name in
     let h = name-small (a .s .now) (x .result) (place (a .s .now) (a .at)) (x .ensures) (c .before .before .if1 .left) in
     omega (arith, bit (x .result .number) h, pow-mono {i = x .result .number} {j = 63} (omega arith))
 
@@ -55,7 +55,7 @@ returns-3 : tie.Need-returns-3
 returns-3 c =
     let a = c .before .before .before .before .before .before .args in
     let l = a .s .now in
-    let x = c .before .before .before .before .number in
+    let x = c .before .before .before .before .name in
     let n = x .result .number in
     let inside = c .before .before .if1 .left in
     let b = bit n (name-small l (x .result) (place l (a .at)) (x .ensures) inside) in

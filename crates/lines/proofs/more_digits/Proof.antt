@@ -25,7 +25,7 @@ returns c =
     let l = a .s .now in
     let o = c .before .before .before .before .loop in
     let d : isDigit (getD l (o .i) 0) ≡ false = sym (c .before .is-digit .ensures) ∙ not-true _ (c .if1 .taken) in
-    sees-number l (o .number) (o .i) (digits (a .first) (drop (a .at) l)) (o .inv .2) (omega arith) (sym (o .inv .1) ∙ digits-stop l (o .i) (omega arith) (o .number) d)
+    sees-number l (o .number) (o .i) (digits (a .first) (drop (a .at) l)) (o .inv .2) (omega arith) (sym (o .inv .1) ∙ digits-stop l (o .i) (o .number) d)
 
 sub-wide : tie.Need-sub-wide Inv-loop μ-loop
 sub-wide c =

@@ -1,11 +1,11 @@
-use mathlib.Core.Path.{_≡_, refl, ap, sym, _∙_}
+use mathlib.Core.Path.{_≡_, refl, ap, sym, _∙_, subst}
 use mathlib.Core.List.{List}
 use Prim.Native.Nat.{ℕ, _+_, _-_, _/_, _%_, _^_, _≤_, _<_}
 use native.Mathlib.Omega.{arith}
 use lib.ListN.{length, set, length-set}
 use Rattle.lines.specs.Numeral.{numeral}
-use Rattle.writer.specs.Buffer.{over}
-use Rattle.writer.proofs.Buffers.{Tail, tail-start, tail-step}
+use Rattle.writer.specs.Buffer.{over, Put}
+use Rattle.writer.proofs.Buffers.{Tail, tail-start, tail-step, tail-pair}
 use Rattle.writer.proofs.put_number.Statement.{statement}
 use Rattle.writer.proofs.put_number.Tie as tie
 
@@ -28,21 +28,31 @@ loop-again c =
     let o = c .before .loop in (
       omega arith,
       o .inv .1,
-      tail-step (a .out .now) (o .out) (a .at) (a .n) (o .i) (o .rest) (omega (arith, o .inv .1)) (omega arith) (o .inv .3) (o .inv .2),
+      tail-pair (a .out .now) (o .out) (a .at) (a .n) (o .i) (o .rest) (omega (arith, o .inv .1)) (omega arith) (o .inv .3) (o .inv .2),
       omega arith,
-      length-set (o .out) (a .at + (o .i - 1)) (48 + o .rest % 10) ∙ o .inv .4,
+      simp length-set (o .inv .4),
     )
 
-returns : tie.Need-returns Inv-loop μ-loop
-returns c =
-    let a = c .before .before .before .before .args in
-    let o = c .before .loop in
-    let e : a .at + o .i ≡ a .at = omega arith in
+-- every digit stands
+whole : {o out : List ℕ} {at n len i rest : ℕ} → i ≡ 0 → len ≡ length (numeral n) → Tail o out at n i rest → length out ≡ length o → Put o out at (at + len) (numeral n)
+whole {o} {out} {at} {n} {len} {i} z e t same =
+    let p : at + i ≡ at = omega arith in
     record {
-      next = ap (λ (k : ℕ). a .at + k) (o .inv .1);
-      here = o .inv .2 .here ∙ ap (λ (k : ℕ). over (a .out .now) k (o .inv .2 .tail)) e ∙ ap (over (a .out .now) (a .at)) (sym (o .inv .2 .all (omega arith)));
-      same = o .inv .4;
+      next = ap (λ (k : ℕ). at + k) e;
+      here = t .here ∙ ap (λ (k : ℕ). over o k (t .tail)) p ∙ ap (over o at) (sym (t .all z));
+      same = same;
     }
+
+-- the first digit is left
+returns-2 : tie.Need-returns-2 Inv-loop μ-loop
+returns-2 c =
+    let a = c .before .before .before .before .before .args in
+    let o = c .before .before .loop in
+    let d = 48 + o .rest % 10 in
+    let p : a .at + (o .i - 1) ≡ a .at = omega arith in
+    let t = tail-step (a .out .now) (o .out) (a .at) (a .n) (o .i) (o .rest) (omega (arith, o .inv .1)) (omega arith) (o .inv .3) (o .inv .2) in
+    whole {i = o .i - 1} (omega arith) (o .inv .1)
+    (subst (λ (k : ℕ). Tail (a .out .now) (set (o .out) k d) (a .at) (a .n) (o .i - 1) (o .rest / 10)) p t) (length-set (o .out) (a .at) d ∙ o .inv .4)
 
 pub put-number-spec : {M : Type 1} → statement M
 put-number-spec =
@@ -58,7 +68,18 @@ put-number-spec =
     (λ c. omega arith)
     (λ c. omega arith)
     (λ c. omega arith)
+    (λ c. omega arith)
+    (λ c. omega arith)
+    (λ c. omega arith)
+    (λ c. simp length-set (omega arith))
+    (λ c. omega arith)
     loop-again
     (λ c. omega arith)
-    (λ c. c .before .loop .inv .4)
-    returns)
+    (λ c. c .before .before .loop .inv .4)
+    (λ c. let o = c .before .before .loop in whole (c .if1 .taken) (o .inv .1) (o .inv .2) (o .inv .4))
+    (λ c. omega arith)
+    (λ c. omega arith)
+    (λ c. omega arith)
+    (λ c. omega arith)
+    (λ c. simp length-set (c .before .before .loop .inv .4))
+    returns-2)
