@@ -1,0 +1,143 @@
+// Times the product's reader and writer against plain Rust on the same lines, in one run. A ratio is Rust's time over the product's.
+mod plain_lines;
+use plain_lines::Record;
+use std::hint::black_box;
+use std::time::Instant;
+
+extern "C" {
+    fn lines_read(s: *const u8, len: usize, numbers: *mut u64) -> u64;
+    fn lines_write(form: u64, numbers: *const u64, out: *mut u8, len: usize) -> u64;
+}
+
+struct Rng(u64);
+
+impl Rng {
+    fn next(&mut self) -> u64 {
+        self.0 ^= self.0 << 13;
+        self.0 ^= self.0 >> 7;
+        self.0 ^= self.0 << 17;
+        self.0
+    }
+
+    fn number(&mut self, max: u64) -> u64 {
+        let shift = self.next() % 64;
+        let n = self.next() >> shift;
+        if max == u64::MAX { n } else { n % (max + 1) }
+    }
+}
+
+const NAMES: [&str; 11] = ["plan", "campaign", "start", "view", "close", "ok", "play", "nobody", "refused", "closed", "tally"];
+const MOST: [[u64; 5]; 11] = {
+    const U: u64 = 4294967295;
+    const W: u64 = u64::MAX;
+    [[U, U, 0, 0, 0], [U, U, 0, 0, 0], [0; 5], [W, 0, 0, 0, 0], [0; 5], [0; 5], [63, U, 0, 0, 0], [0; 5], [17, 0, 0, 0, 0], [W, W, W, 0, 0], [63, U, U, U, U]]
+};
+
+type Made = (u64, [u64; 5]);
+
+fn record(rng: &mut Rng, form: usize) -> Made {
+    let mut n = [0; 5];
+    (0..5).for_each(|i| n[i] = rng.number(MOST[form][i]));
+    if form == 8 {
+        n[0] += 1;
+    }
+    (form as u64, n)
+}
+
+fn plain((form, n): Made) -> Record {
+    match form {
+        0 => Record::Plan { depth: n[0], width: n[1] },
+        1 => Record::Campaign { price: n[0], budget: n[1] },
+        2 => Record::Start,
+        3 => Record::View(n[0]),
+        4 => Record::Close,
+        5 => Record::Done,
+        6 => Record::Play { campaign: n[0], paid: n[1] },
+        7 => Record::Nobody,
+        8 => Record::Refused(n[0]),
+        9 => Record::Closed { takings: n[0], claim: n[1], full: n[2] },
+        _ => Record::Tally { campaign: n[0], plays: n[1], turns: n[2], age: n[3], named: n[4] },
+    }
+}
+
+fn line(r: Made) -> Vec<u8> {
+    let mut out = [0; 201];
+    let n = plain_lines::write_line(plain(r), &mut out).unwrap();
+    out[..n - 1].to_vec()
+}
+
+// the least of several rounds, in nanoseconds for each item; the two take turns
+fn race(name: &str, items: usize, mut ours: impl FnMut(), mut rust: impl FnMut()) {
+    let (mut a, mut b) = (f64::MAX, f64::MAX);
+    for _ in 0..40 {
+        let t = Instant::now();
+        ours();
+        a = a.min(t.elapsed().as_nanos() as f64);
+        let t = Instant::now();
+        rust();
+        b = b.min(t.elapsed().as_nanos() as f64);
+    }
+    let (a, b) = (a / items as f64, b / items as f64);
+    println!("{name:24} {a:7.1} ns   plain Rust {b:7.1} ns   ratio {:.2}", b / a);
+}
+
+fn read_race(name: &str, lines: &[Vec<u8>]) {
+    let ours = || {
+        for l in lines {
+            let mut n = [0u64; 5];
+            black_box(unsafe { lines_read(l.as_ptr(), l.len(), n.as_mut_ptr()) });
+            black_box(n);
+        }
+    };
+    let rust = || {
+        for l in lines {
+            let _ = black_box(plain_lines::read_line(l));
+        }
+    };
+    race(name, lines.len(), ours, rust);
+}
+
+fn write_race(name: &str, records: &[Made]) {
+    let plains: Vec<Record> = records.iter().map(|r| plain(*r)).collect();
+    let mut out = [0u8; 256];
+    let mut back = [0u8; 256];
+    let ours = || {
+        for r in records {
+            black_box(unsafe { lines_write(r.0, r.1.as_ptr(), out.as_mut_ptr(), out.len()) });
+        }
+    };
+    let rust = || {
+        for r in &plains {
+            let _ = black_box(plain_lines::write_line(*r, &mut back));
+        }
+    };
+    race(name, records.len(), ours, rust);
+}
+
+fn main() {
+    let mut rng = Rng(0x1234_5678_9abc_def1);
+    let mix: Vec<Made> = (0..2000).map(|_| { let f = rng.next() as usize % 11; record(&mut rng, f) }).collect();
+    let valid: Vec<Vec<u8>> = mix.iter().map(|r| line(*r)).collect();
+    let damaged: Vec<Vec<u8>> = valid
+        .iter()
+        .map(|l| {
+            let mut l = l.clone();
+            let at = rng.next() as usize % l.len();
+            l[at] = b"() 0xZ"[rng.next() as usize % 6];
+            l
+        })
+        .collect();
+    let views: Vec<Vec<u8>> = (0..2000).map(|_| { let a = rng.next(); let b = rng.next(); line((3, [a & b, 0, 0, 0, 0])) }).collect();
+    read_race("read valid", &valid);
+    read_race("read damaged", &damaged);
+    read_race("read views", &views);
+    for f in 0..11 {
+        let lines: Vec<Vec<u8>> = (0..500).map(|_| line(record(&mut rng, f))).collect();
+        read_race(&format!("read {}", NAMES[f]), &lines);
+    }
+    write_race("write all forms", &mix);
+    for f in 0..11 {
+        let records: Vec<Made> = (0..500).map(|_| record(&mut rng, f)).collect();
+        write_race(&format!("write {}", NAMES[f]), &records);
+    }
+}

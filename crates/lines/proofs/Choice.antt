@@ -1,0 +1,214 @@
+-- The first bytes of a line leave one form, and reading is trying that one.
+use mathlib.Core.Path.{_≡_, refl, sym, ap, _∙_, subst}
+use mathlib.Core.Bool.{Bool, true, false, cond}
+use mathlib.Core.List.{List, [], _∷_, append-nil}
+use mathlib.Core.Logic.{_⊎_, inl, inr}
+use Prim.Native.Nat.{ℕ, zero, suc, _≤_, _<_}
+use native.Mathlib.Omega.{arith}
+use native.Mathlib.Nat.{le-trans}
+use lib.Dec.{eqb, lit<, lit≤}
+use lib.ListN.{length, getD, drop}
+use Rattle.lines.specs.declared.Record.{Record}
+use Rattle.lines.specs.declared.Record.the-variants.{Plan, Campaign, Start, View, Close, Done, Play, Nobody, Refused, Closed, Tally}
+use Rattle.lines.specs.declared.Reading.{Reading}
+use Rattle.lines.specs.declared.Reading.the-variants.{Got, Refusal}
+use Rattle.lines.specs.Form.{template, numbers, isSlot, slotText, piece, after, filled, inSlots, text, inRange}
+use Rattle.lines.specs.Reading.{Rest, none, some, isDigit, restOf, numbersOf, made, isEnd, endedOr, heldOr, forms, firstOf}
+use Rattle.lines.proofs.Digits.{apart}
+use Rattle.lines.proofs.Templates.{fair, taken, most, sound, complete, filled-most}
+
+-- l is the text of r, whose numbers are in their ranges
+abbrev pub Is : List ℕ → Record → Type 0
+Is l r = (inRange r ≡ true) × (l ≡ text r)
+
+-- the form that the bytes at 1, 4 and 6 leave
+unfoldable pub chosen : List ℕ → Record
+chosen l =
+    cond (eqb (getD l 1 0) 118) (View 0)
+    (cond (eqb (getD l 1 0) 112) (cond (eqb (getD l 4 0) 110) (Plan 0 0) (Play 0 0))
+    (cond (eqb (getD l 1 0) 99) (cond (eqb (getD l 6 0) 41) Close (cond (eqb (getD l 6 0) 100) (Closed 0 0 0) (Campaign 0 0)))
+    (cond (eqb (getD l 1 0) 115) Start
+    (cond (eqb (getD l 1 0) 111) Done
+    (cond (eqb (getD l 1 0) 110) Nobody
+    (cond (eqb (getD l 1 0) 114) (Refused 0)
+    (Tally 0 0 0 0 0)))))))
+
+-- What a form of the list is, and what a record is to its form: a new form is a row in each of the two tables.
+
+-- a record of the form f has its template, its numbers are those that were read, and without them it is f
+abbrev Form : Record → Type 0
+Form f =
+    ((ns : List ℕ) → template (made f ns) ≡ template f)
+    × ((r : Rest) → numbers (made f (numbersOf (template f) r)) ≡ numbersOf (template f) r)
+    × ((ns : List ℕ) → made (made f ns) [] ≡ f)
+
+data AllForms : List Record → Type 0 where
+  done : AllForms []
+  form : {f : Record} {fs : List Record} → Form f → AllForms fs → AllForms (f ∷ fs)
+
+all-forms : AllForms forms
+unfolding forms template numbers made numbersOf
+all-forms =
+    (form (λ _. refl, λ _. refl, λ _. refl)
+    (form (λ _. refl, λ _. refl, λ _. refl)
+    (form (λ _. refl, λ _. refl, λ _. refl)
+    (form (λ _. refl, λ _. refl, λ _. refl)
+    (form (λ _. refl, λ _. refl, λ _. refl)
+    (form (λ _. refl, λ _. refl, λ _. refl)
+    (form (λ _. refl, λ _. refl, λ _. refl)
+    (form (λ _. refl, λ _. refl, λ _. refl)
+    (form (λ _. refl, λ _. refl, λ _. refl)
+    (form (λ _. refl, λ _. refl, λ _. refl)
+    (form (λ _. refl, λ _. refl, λ _. refl) done)))))))))))
+
+-- each slot of r's template can be told from what follows, no text of it is over 200 bytes, and r is made from its form and its numbers; the bytes of its text choose its form
+abbrev Known : Record → Type 0
+Known r =
+    (fair (template r) ≡ true) × (most (template r) ≤ 200) × (template (made r []) ≡ template r)
+    × (made (made r []) (taken (template r) (numbers r)) ≡ r) × (chosen (text r) ≡ made r [])
+
+known : (r : Record) → Known r
+unfolding template numbers made text filled piece after isDigit chosen
+known (Plan _ _) = (refl, lit≤ tt, refl, refl, refl)
+known (Campaign _ _) = (refl, lit≤ tt, refl, refl, refl)
+known Start = (refl, lit≤ tt, refl, refl, refl)
+known (View _) = (refl, lit≤ tt, refl, refl, refl)
+known Close = (refl, lit≤ tt, refl, refl, refl)
+known Done = (refl, lit≤ tt, refl, refl, refl)
+known (Play _ _) = (refl, lit≤ tt, refl, refl, refl)
+known Nobody = (refl, lit≤ tt, refl, refl, refl)
+known (Refused _) = (refl, lit≤ tt, refl, refl, refl)
+known (Closed _ _ _) = (refl, lit≤ tt, refl, refl, refl)
+known (Tally _ _ _ _ _) = (refl, lit≤ tt, refl, refl, refl)
+
+-- the text of a record has at most 200 bytes
+pub text-most : (r : Record) → length (text r) ≤ 200
+unfolding text
+text-most r = le-trans (filled-most (template r) (numbers r)) (known r .1)
+
+-- One form.
+
+-- whether the line fills the template of the form f, and what it then reads as
+abbrev fills : Record → List ℕ → Bool
+fills f l = isEnd (restOf (template f) (some l))
+
+abbrev read : Record → List ℕ → Record
+read f l = made f (numbersOf (template f) (some l))
+
+end-of : (r : Rest) → isEnd r ≡ true → r ≡ some []
+end-of none h = apart h
+end-of (some []) h = refl
+end-of (some (b ∷ l)) h = apart h
+
+-- a line that fills a template is the text of what it reads as
+read-is : (f : Record) (l : List ℕ) → Form f → fills f l ≡ true → Is l (read f l)
+unfolding text inRange
+read-is f l p h =
+    let s = sound (template f) l [] (end-of (restOf (template f) (some l)) h) in
+    let t : (ns : List ℕ) → filled (template f) ns ≡ filled (template (read f l)) ns = λ ns. ap (λ (x : List ℕ). filled x ns) (sym (p .0 (numbersOf (template f) (some l)))) in (
+      ap (λ (x : List ℕ). inSlots x (numbers (read f l))) (p .0 (numbersOf (template f) (some l))) ∙ ap (inSlots (template f)) (p .1 (some l)) ∙ s .range,
+      s .text ∙ append-nil (filled (template f) (numbersOf (template f) (some l))) ∙ ap (filled (template f)) (sym (p .1 (some l))) ∙ t (numbers (read f l)),
+    )
+
+-- the text of a record fills the template of its form, and reads as the record
+text-read : (r : Record) → inRange r ≡ true → (fills (made r []) (text r) ≡ true) × (read (made r []) (text r) ≡ r)
+unfolding text inRange
+text-read r h =
+    let k = known r in
+    let c = complete (template r) (numbers r) (k .0) h in (
+      ap (λ (t : List ℕ). isEnd (restOf t (some (text r)))) (k .2) ∙ ap isEnd (c .all),
+      ap (λ (t : List ℕ). made (made r []) (numbersOf t (some (text r)))) (k .2) ∙ ap (made (made r [])) (c .numbers) ∙ k .3,
+    )
+
+-- a form whose template the line fills is the chosen one
+fills-chosen : (f : Record) (l : List ℕ) → Form f → fills f l ≡ true → f ≡ chosen l
+fills-chosen f l p h = sym (p .2 (numbersOf (template f) (some l))) ∙ sym (known (read f l) .4) ∙ ap chosen (sym (read-is f l p h .1))
+
+-- All forms.
+
+data In (p : Record) : List Record → Type 0 where
+  here : {f : Record} {fs : List Record} → p ≡ f → In p (f ∷ fs)
+  there : {f : Record} {fs : List Record} → In p fs → In p (f ∷ fs)
+
+module _ (l : List ℕ) where
+  none-fills : {fs : List Record} → AllForms fs → fills (chosen l) l ≡ false → firstOf fs l ≡ Refusal 17
+  unfolding firstOf heldOr endedOr
+  none-fills done h = refl
+  none-fills (form {f} {fs} p a) h = go (fills f l) refl (none-fills a h)
+    where
+      go : (t : Bool) → fills f l ≡ t → firstOf fs l ≡ Refusal 17 → cond t (Got (read f l)) (firstOf fs l) ≡ Refusal 17
+      go true e ih = apart (sym h ∙ ap (λ (x : Record). fills x l) (sym (fills-chosen f l p e)) ∙ e)
+      go false e ih = ih
+
+  one-fills : {fs : List Record} → AllForms fs → In (chosen l) fs → fills (chosen l) l ≡ true → firstOf fs l ≡ Got (read (chosen l) l)
+  unfolding firstOf heldOr endedOr
+  one-fills (form {f} {fs} p a) i h = go (fills f l) refl i (λ j. one-fills a j h)
+    where
+      go : (t : Bool) → fills f l ≡ t → In (chosen l) (f ∷ fs) → (In (chosen l) fs → firstOf fs l ≡ Got (read (chosen l) l))
+          → cond t (Got (read f l)) (firstOf fs l) ≡ Got (read (chosen l) l)
+      go true e i ih = ap (λ (x : Record). Got (read x l)) (fills-chosen f l p e)
+      go false e (here q) ih = apart (sym e ∙ ap (λ (x : Record). fills x l) (sym q) ∙ h)
+      go false e (there j) ih = ih j
+
+either : {fs : List Record} {x y : Record} (t : Bool) → In x fs → In y fs → In (cond t x y) fs
+either true p q = p
+either false p q = q
+
+nth : (fs : List Record) (n : ℕ) → n < length fs → In (getD fs n Start) fs
+nth [] n h = absurd (omega arith)
+nth (f ∷ fs) zero h = here refl
+nth (f ∷ fs) (suc n) h = there (nth fs n (omega arith))
+
+chosen-in : (l : List ℕ) → In (chosen l) forms
+unfolding chosen forms
+chosen-in l =
+    either (eqb (getD l 1 0) 118) (nth forms 3 (lit< tt))
+    (either (eqb (getD l 1 0) 112) (either (eqb (getD l 4 0) 110) (nth forms 0 (lit< tt)) (nth forms 6 (lit< tt)))
+    (either (eqb (getD l 1 0) 99) (either (eqb (getD l 6 0) 41) (nth forms 4 (lit< tt)) (either (eqb (getD l 6 0) 100) (nth forms 9 (lit< tt)) (nth forms 1 (lit< tt))))
+    (either (eqb (getD l 1 0) 115) (nth forms 2 (lit< tt))
+    (either (eqb (getD l 1 0) 111) (nth forms 5 (lit< tt))
+    (either (eqb (getD l 1 0) 110) (nth forms 7 (lit< tt))
+    (either (eqb (getD l 1 0) 114) (nth forms 8 (lit< tt)) (nth forms 10 (lit< tt))))))))
+
+form-of : {p : Record} {fs : List Record} → AllForms fs → In p fs → Form p
+form-of (form f a) (here q) = subst Form (sym q) f
+form-of (form f a) (there j) = form-of a j
+
+-- reading is holding the line to the chosen form
+pub first-chosen : (l : List ℕ) → firstOf forms l ≡ heldOr (Refusal 17) (chosen l) l
+unfolding heldOr endedOr
+first-chosen l = go (fills (chosen l) l) refl
+  where
+    go : (t : Bool) → fills (chosen l) l ≡ t → firstOf forms l ≡ cond (fills (chosen l) l) (Got (read (chosen l) l)) (Refusal 17)
+    go true e = one-fills l all-forms (chosen-in l) e ∙ rw e
+    go false e = none-fills l all-forms e ∙ rw e
+
+-- what the chosen form reads
+pub held-is : (l : List ℕ) (r : Record) → firstOf forms l ≡ Got r → Is l r
+unfolding heldOr endedOr
+held-is l r h = go (fills (chosen l) l) refl (sym (first-chosen l) ∙ h)
+  where
+    go : (t : Bool) → fills (chosen l) l ≡ t → cond (fills (chosen l) l) (Got (read (chosen l) l)) (Refusal 17) ≡ Got r → Is l r
+    go true e q =
+        let z : Got (read (chosen l) l) ≡ Got r = ap (λ (t : Bool). cond t (Got (read (chosen l) l)) (Refusal 17)) (sym e) ∙ q in
+        let y : read (chosen l) l ≡ r = cc in
+        subst (Is l) y (read-is (chosen l) l (form-of all-forms (chosen-in l)) e)
+    go false e q =
+        let z : Refusal 17 ≡ Got r = ap (λ (t : Bool). cond t (Got (read (chosen l) l)) (Refusal 17)) (sym e) ∙ q in
+        let y : _≡_ {A = ℕ} 0 1 = cc in absurd (omega arith)
+
+pub held-text : (r : Record) → inRange r ≡ true → firstOf forms (text r) ≡ Got r
+unfolding heldOr endedOr
+held-text r h =
+    let t = text-read r h in
+    first-chosen (text r) ∙ ap (λ (f : Record). heldOr (Refusal 17) f (text r)) (known r .4)
+    ∙ ap (λ (x : Bool). cond x (Got (read (made r []) (text r))) (Refusal 17)) (t .0) ∙ ap Got (t .1)
+
+-- a line that no form reads is refused with 17
+pub held-number : (l : List ℕ) (n : ℕ) → firstOf forms l ≡ Refusal n → n ≡ 17
+unfolding heldOr endedOr
+held-number l n h = go (fills (chosen l) l) (sym (first-chosen l) ∙ h)
+  where
+    go : (t : Bool) → cond t (Got (read (chosen l) l)) (Refusal 17) ≡ Refusal n → n ≡ 17
+    go true q = let y : _≡_ {A = ℕ} 0 1 = cc in absurd (omega arith)
+    go false q = let y : 17 ≡ n = cc in sym y

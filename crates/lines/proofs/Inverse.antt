@@ -1,0 +1,56 @@
+-- Reading is the inverse of `text`: demand 2's "exactly one line of text, and that line reads back as that record; other text is refused".
+use mathlib.Core.Path.{_≡_, refl, sym, ap, _∙_}
+use mathlib.Core.Bool.{Bool, true, false, cond}
+use mathlib.Core.List.{List}
+use mathlib.Core.Logic.{_⊎_, inl, inr}
+use Prim.Native.Nat.{ℕ, _≤_, _<_}
+use native.Mathlib.Omega.{arith}
+use lib.Dec.{ltb}
+use lib.ListN.{length}
+use borrow.Author.Tests.{ltb-true, ltb-false, le-ltb}
+use Rattle.lines.specs.declared.Record.{Record}
+use Rattle.lines.specs.declared.Reading.{Reading}
+use Rattle.lines.specs.declared.Reading.the-variants.{Got, Refusal}
+use Rattle.lines.specs.Form.{text, inRange}
+use Rattle.lines.specs.Reading.{forms, firstOf, reading}
+use Rattle.lines.proofs.Choice.{Is, text-most, held-is, held-text, held-number}
+
+pub reading-short : (l : List ℕ) → length l ≤ 200 → reading l ≡ firstOf forms l
+unfolding reading
+reading-short l h = rw (le-ltb 200 (length l) h)
+
+-- a record in its ranges reads back from its text
+pub text-reads : (r : Record) → inRange r ≡ true → reading (text r) ≡ Got r
+text-reads r h = reading-short (text r) (text-most r) ∙ held-text r h
+
+-- what reads as a record is that record's text, and its numbers are in their ranges
+pub read-text : (l : List ℕ) (r : Record) → reading l ≡ Got r → Is l r
+unfolding reading
+read-text l r e = go (ltb 200 (length l)) e
+  where
+    go : (t : Bool) → cond t (Refusal 16) (firstOf forms l) ≡ Got r → Is l r
+    go true q = let y : _≡_ {A = ℕ} 0 1 = cc in absurd (omega arith)
+    go false q = held-is l r q
+
+-- no two records share a text
+pub text-once : (r s : Record) → inRange r ≡ true → inRange s ≡ true → text r ≡ text s → r ≡ s
+text-once r s h k e = let p : Got r ≡ Got s = sym (text-reads r h) ∙ ap reading e ∙ text-reads s k in cc
+
+-- no two texts read as one record
+pub record-once : (l m : List ℕ) (r : Record) → reading l ≡ Got r → reading m ≡ Got r → l ≡ m
+record-once l m r p q = read-text l r p .1 ∙ sym (read-text m r q .1)
+
+-- a line is refused with 16 if it is over 200 bytes, else with 17 and only where it is no record's text
+pub refused : (l : List ℕ) (n : ℕ) → reading l ≡ Refusal n
+    → ((n ≡ 16) × (200 < length l)) ⊎ ((n ≡ 17) × (length l ≤ 200) × ((r : Record) → Is l r → ⊥))
+unfolding reading
+refused l n e = go (ltb 200 (length l)) refl e
+  where
+    go : (t : Bool) → ltb 200 (length l) ≡ t → cond t (Refusal 16) (firstOf forms l) ≡ Refusal n → ((n ≡ 16) × (200 < length l)) ⊎ ((n ≡ 17) × (length l ≤ 200) × ((r : Record) → Is l r → ⊥))
+    go true f q = let y : 16 ≡ n = cc in inl (sym y, ltb-true 200 (length l) f)
+    go false f q = inr (held-number l n q, ltb-false 200 (length l) f, λ r p. other r p)
+      where
+        other : (r : Record) → Is l r → ⊥
+        other r p =
+            let z : Refusal n ≡ Got r = sym q ∙ ap (firstOf forms) (p .1) ∙ held-text r (p .0) in
+            let y : _≡_ {A = ℕ} 0 1 = cc in omega arith

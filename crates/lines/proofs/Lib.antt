@@ -1,0 +1,7 @@
+pub mod Digits
+pub mod Places
+pub mod Numerals
+pub mod NameSets
+pub mod Templates
+pub mod Choice
+pub mod Inverse

@@ -1,0 +1,348 @@
+-- Laws of the reader, one place of a line at a time.
+use mathlib.Core.Path.{_≡_, refl, sym, ap, _∙_, subst}
+use mathlib.Core.Bool.{Bool, true, false, cond, _&&_}
+use mathlib.Core.List.{List, [], _∷_}
+use mathlib.Core.Logic.{_⊎_, inl, inr}
+use Prim.Native.Nat.{ℕ, suc, _+_, _*_, _-_, _^_, _≤_, _<_}
+use native.Mathlib.Omega.{arith}
+use native.Mathlib.Numerals.{add-one}
+use lib.Dec.{ltb, leb, eqb}
+use lib.ListN.{length, drop, getD, length-drop, drop-of-length-le, List·getD-eq-default}
+use lib.Seq.{drop-cons, drop-length}
+use borrow.Author.Tests.{lt-ltb, le-ltb, le-leb, lt-leb, leb-true, leb-false, eqb-true, eqb-false, eq-eqb, ne-eqb}
+use Rattle.lines.specs.Form.{inSlot}
+use Rattle.lines.specs.declared.Slot.{Slot}
+use Rattle.lines.specs.declared.Record.{Record}
+use Rattle.lines.specs.declared.Reading.{Reading}
+use Rattle.lines.specs.declared.Reading.the-variants.{Got, Refusal}
+use Rattle.lines.specs.Reading.{Rest, none, some, Seen, seen, unseen, value, behind, isDigit, digits, numeralAt, ranged, joined, andThen, namesAt, slotAt, strip, isEnd, endedOr}
+use Rattle.lines.specs.Place.{place, stripped, Sees}
+use Rattle.lines.proofs.Digits.{apart, digit-yes, digit-below, digit-above, digit-from, digits-least, ranged-yes, ranged-no, widest}
+
+pub place-in : (l : List ℕ) (at : ℕ) → at ≤ length l → place l at ≡ some (drop at l)
+unfolding place
+place-in l at h = simp (le-leb at (length l) h)
+
+pub place-out : (l : List ℕ) (at : ℕ) → length l < at → place l at ≡ none
+unfolding place
+place-out l at h = simp (lt-leb at (length l) h)
+
+pub place-start : (l : List ℕ) → place l 0 ≡ some l
+place-start l = place-in l 0 (omega arith)
+
+pub place-end : (l : List ℕ) (at : ℕ) → at ≡ length l → place l at ≡ some []
+place-end l at h = ap (place l) h ∙ place-in l (length l) (omega arith) ∙ ap some (drop-length l)
+
+module _ (l : List ℕ) (at : ℕ) (h : at < length l) where
+  drop-next : drop at l ≡ getD l at 0 ∷ drop (at + 1) l
+  drop-next = drop-cons l at 0 h ∙ ap (λ (k : ℕ). getD l at 0 ∷ drop k l) (sym (add-one at))
+
+  pub place-next : place l at ≡ some (getD l at 0 ∷ drop (at + 1) l)
+  place-next = place-in l at (omega arith) ∙ ap some drop-next
+
+-- Words.
+
+pub stripped-none : (w : List ℕ) → stripped w none ≡ none
+unfolding stripped strip
+stripped-none [] = refl
+stripped-none (b ∷ w) = stripped-none w
+
+pub strip-hit : (b c : ℕ) (l : List ℕ) → c ≡ b → strip b (some (c ∷ l)) ≡ some l
+unfolding strip
+strip-hit b c l e = simp (eq-eqb c b e)
+
+strip-miss : (b c : ℕ) (l : List ℕ) → (c ≡ b → ⊥) → strip b (some (c ∷ l)) ≡ none
+unfolding strip
+strip-miss b c l e = simp (ne-eqb c b e)
+
+pub stripped-short : (w l : List ℕ) → length l < length w → stripped w (some l) ≡ none
+unfolding stripped strip
+stripped-short [] l h = absurd (omega arith)
+stripped-short (b ∷ w) [] h = stripped-none w
+stripped-short (b ∷ w) (c ∷ l) h = go (eqb c b) (stripped-short w l (omega arith))
+  where
+    go : (t : Bool) → stripped w (some l) ≡ none → stripped w (cond t (some l) none) ≡ none
+    go true ih = ih
+    go false ih = stripped-none w
+
+module _ (w l : List ℕ) (i j : ℕ) (hw : i < length w) (hl : j < length l) where
+  stripped-front : stripped (drop i w) (some (drop j l)) ≡ stripped (drop (i + 1) w) (strip (getD w i 0) (some (getD l j 0 ∷ drop (j + 1) l)))
+  unfolding stripped
+  stripped-front = rw (drop-next w i hw, drop-next l j hl)
+
+  pub stripped-step : getD l j 0 ≡ getD w i 0 → stripped (drop i w) (some (drop j l)) ≡ stripped (drop (i + 1) w) (some (drop (j + 1) l))
+  stripped-step e = stripped-front ∙ ap (stripped (drop (i + 1) w)) (strip-hit (getD w i 0) (getD l j 0) (drop (j + 1) l) e)
+
+  pub stripped-miss : (getD l j 0 ≡ getD w i 0 → ⊥) → stripped (drop i w) (some (drop j l)) ≡ none
+  stripped-miss e = stripped-front ∙ ap (stripped (drop (i + 1) w)) (strip-miss (getD w i 0) (getD l j 0) (drop (j + 1) l) e) ∙ stripped-none (drop (i + 1) w)
+
+pub stripped-end : (w : List ℕ) (i : ℕ) (r : Rest) → length w ≤ i → stripped (drop i w) r ≡ r
+unfolding stripped
+stripped-end w i r h = rw (drop-of-length-le w h)
+
+-- The end of the line.
+
+pub ends : (l : List ℕ) (at : ℕ) (p : Rest) (r : Record) → place l at ≡ p → at ≡ length l → Got r ≡ endedOr (Refusal 17) p r
+unfolding endedOr
+ends l at p r e h = sym (ap (λ (a : Rest). cond (isEnd a) (Got r) (Refusal 17)) (sym e ∙ place-end l at h))
+
+pub ends-not : (l : List ℕ) (at : ℕ) (p : Rest) (r : Record) → place l at ≡ p → (at ≡ length l → ⊥) → Refusal 17 ≡ endedOr (Refusal 17) p r
+unfolding endedOr
+ends-not l at p r e h = go (leb at (length l)) refl ∙ ap (λ (a : Rest). cond (isEnd a) (Got r) (Refusal 17)) e
+  where
+    go : (t : Bool) → leb at (length l) ≡ t → Refusal 17 ≡ cond (isEnd (place l at)) (Got r) (Refusal 17)
+    go true f = sym (ap (λ (a : Rest). cond (isEnd a) (Got r) (Refusal 17)) (place-next l at (omega (arith, leb-true at (length l) f))))
+    go false f = sym (ap (λ (a : Rest). cond (isEnd a) (Got r) (Refusal 17)) (place-out l at (leb-false at (length l) f)))
+
+-- What is seen, by its number and its place.
+
+module _ (l : List ℕ) (x : Slot) (s : Seen) where
+  pub sees : x .end ≤ length l → s ≡ seen (x .number) (drop (x .end) l) → Sees l x s
+  sees h e = record { number = sym (ap value e); end = place-in l (x .end) h ∙ sym (ap behind e) }
+
+  pub misses : x .number ≡ 0 → length l < x .end → s ≡ unseen → Sees l x s
+  misses z h e = record { number = z ∙ sym (ap value e); end = place-out l (x .end) h ∙ sym (ap behind e) }
+
+  module _ (p : Sees l x s) where
+    pub seen-out : length l < x .end → s ≡ unseen
+    seen-out h = go s (sym (place-out l (x .end) h) ∙ p .end)
+      where
+        go : (s : Seen) → none ≡ behind s → s ≡ unseen
+        go unseen e = refl
+        go (seen n m) e = let y : _≡_ {A = ℕ} 0 1 = cc in absurd (omega arith)
+
+    pub seen-in : x .end ≤ length l → s ≡ seen (x .number) (drop (x .end) l)
+    seen-in h = go s (p .number) (sym (place-in l (x .end) h) ∙ p .end)
+      where
+        go : (s : Seen) → x .number ≡ value s → some (drop (x .end) l) ≡ behind s → s ≡ seen (x .number) (drop (x .end) l)
+        go unseen a e = let y : _≡_ {A = ℕ} 0 1 = cc in absurd (omega arith)
+        go (seen n m) a e = cc
+
+-- what is kept of x: x itself, or nothing
+pub keeps : (x y : Slot) (slot : ℕ) → (inSlot slot (x .number) ≡ true → y ≡ x) → (inSlot slot (x .number) ≡ false → (y .number ≡ 0) × (y .end ≡ 201))
+    → (l : List ℕ) (t : Seen) → length l ≤ 200 → Sees l x t → Sees l y (ranged slot t)
+keeps x y slot same lost l t b p = go (inSlot slot (x .number)) refl t p
+  where
+    go : (k : Bool) → inSlot slot (x .number) ≡ k → (t : Seen) → Sees l x t → Sees l y (ranged slot t)
+    go true e unseen q = subst (λ (z : Slot). Sees l z unseen) (sym (same e)) q
+    go true e (seen n m) q = subst (λ (z : Slot). Sees l z (ranged slot (seen n m))) (sym (same e)) (subst (Sees l x) (sym (ranged-yes slot n m (ap (inSlot slot) (sym (q .number)) ∙ e))) q)
+    go false e unseen q = misses l y unseen (lost e .0) (omega (arith, lost e .1)) refl
+    go false e (seen n m) q = misses l y (ranged slot (seen n m)) (lost e .0) (omega (arith, lost e .1)) (ranged-no slot n m (ap (inSlot slot) (sym (q .number)) ∙ e))
+
+-- Digits.
+
+module _ (l : List ℕ) (i : ℕ) (h : i < length l) (a : ℕ) where
+  pub digits-step : isDigit (getD l i 0) ≡ true → digits a (drop i l) ≡ digits (a * 10 + (getD l i 0 - 48)) (drop (i + 1) l)
+  unfolding digits
+  digits-step e = rw (drop-next l i h, e)
+
+pub digits-end : (l : List ℕ) (i a : ℕ) → length l ≤ i → digits a (drop i l) ≡ seen a (drop i l)
+unfolding digits
+digits-end l i a h = subst (λ (m : List ℕ). digits a m ≡ seen a m) (sym (drop-of-length-le l h)) refl
+
+pub digits-stop : (l : List ℕ) (i a : ℕ) → isDigit (getD l i 0) ≡ false → digits a (drop i l) ≡ seen a (drop i l)
+unfolding digits
+digits-stop l i a e = go (leb (i + 1) (length l)) refl
+  where
+    go : (t : Bool) → leb (i + 1) (length l) ≡ t → digits a (drop i l) ≡ seen a (drop i l)
+    go true q =
+        let h : i < length l = omega (arith, leb-true (i + 1) (length l) q) in
+        subst (λ (m : List ℕ). digits a m ≡ seen a m) (sym (drop-next l i h)) (rw e)
+    go false q = digits-end l i a (omega (arith, leb-false (i + 1) (length l) q))
+
+-- a place with a digit is in the line
+pub digit-inside : (l : List ℕ) (i : ℕ) → isDigit (getD l i 0) ≡ true → i < length l
+unfolding isDigit
+digit-inside l i e = go (leb (i + 1) (length l)) refl
+  where
+    go : (t : Bool) → leb (i + 1) (length l) ≡ t → i < length l
+    go true q = omega (arith, leb-true (i + 1) (length l) q)
+    go false q = apart (sym (ap isDigit (List·getD-eq-default l 0 (omega (arith, leb-false (i + 1) (length l) q)))) ∙ e)
+
+-- a numeral of 64 bits that ends at the place i
+pub sees-number : (l : List ℕ) (a i : ℕ) (s : Seen) → a < 2 ^ 64 → i ≤ length l → s ≡ seen a (drop i l) → Sees l (record { number = a; end = i }) (ranged 77 s)
+sees-number l a i s h b e = sees l (record { number = a; end = i }) (ranged 77 s) b (ap (ranged 77) e ∙ ranged-yes 77 a (drop i l) (widest a h))
+
+-- A slot at a place.
+
+module _ (slot : ℕ) (l : List ℕ) (at : ℕ) where
+  pub slot-out : length l < at → slotAt slot (place l at) ≡ unseen
+  unfolding slotAt
+  slot-out h = ap (slotAt slot) (place-out l at h)
+
+  module _ (number : (slot ≡ 83 → ⊥)) where
+    slot-number : (m : List ℕ) → slotAt slot (some m) ≡ ranged slot (numeralAt m)
+    unfolding slotAt
+    slot-number m = simp (ne-eqb slot 83 number)
+
+    pub number-end : length l ≤ at → slotAt slot (place l at) ≡ unseen
+    unfolding numeralAt
+    number-end h = go (leb at (length l)) refl
+      where
+        go : (t : Bool) → leb at (length l) ≡ t → slotAt slot (place l at) ≡ unseen
+        go true e = ap (slotAt slot) (place-in l at (leb-true at (length l) e) ∙ ap some (drop-of-length-le l h)) ∙ slot-number []
+        go false e = slot-out (leb-false at (length l) e)
+
+    module _ (h : at < length l) where
+      number-here : slotAt slot (place l at) ≡ ranged slot (numeralAt (getD l at 0 ∷ drop (at + 1) l))
+      number-here = ap (slotAt slot) (place-next l at h) ∙ slot-number (getD l at 0 ∷ drop (at + 1) l)
+
+      pub number-zero : getD l at 0 ≡ 48 → slotAt slot (place l at) ≡ ranged slot (seen 0 (drop (at + 1) l))
+      unfolding numeralAt
+      number-zero e = number-here ∙ simp e
+
+      pub number-lead : 49 ≤ getD l at 0 → getD l at 0 ≤ 57 → slotAt slot (place l at) ≡ ranged slot (digits (getD l at 0 - 48) (drop (at + 1) l))
+      unfolding numeralAt
+      number-lead a b = number-here ∙ simp (ne-eqb (getD l at 0) 48 (λ p. omega arith), digit-yes (getD l at 0) (omega arith) b)
+
+      pub number-other : (getD l at 0 < 48) ⊎ (57 < getD l at 0) → slotAt slot (place l at) ≡ unseen
+      unfolding numeralAt
+      number-other (inl a) = number-here ∙ simp (ne-eqb (getD l at 0) 48 (λ p. omega arith), digit-below (getD l at 0) a)
+      number-other (inr a) = number-here ∙ simp (ne-eqb (getD l at 0) 48 (λ p. omega arith), digit-above (getD l at 0) a)
+
+-- A name, of one or two digits.
+
+name-yes : (n : ℕ) (m : List ℕ) → n ≤ 63 → ranged 67 (seen n m) ≡ seen n m
+unfolding inSlot
+name-yes n m h = ranged-yes 67 n m (le-leb n 63 h)
+
+name-large : (s : Seen) → 63 < value s → ranged 67 s ≡ unseen
+unfolding inSlot
+name-large unseen h = refl
+name-large (seen n m) h = ranged-no 67 n m (lt-leb n 63 h)
+
+-- the number of the digits at at and behind it
+abbrev pub two : List ℕ → ℕ → ℕ
+two l at = (getD l at 0 - 48) * 10 + (getD l (at + 1) 0 - 48)
+
+pub name-none : (l : List ℕ) (at : ℕ) → isDigit (getD l at 0) ≡ false → slotAt 67 (place l at) ≡ unseen
+name-none l at e = go (leb (at + 1) (length l)) refl
+  where
+    other : (getD l at 0 < 48) ⊎ (57 < getD l at 0)
+    other = by (leb 48 (getD l at 0)) (leb (getD l at 0) 57) refl refl
+      where
+        by : (x y : Bool) → leb 48 (getD l at 0) ≡ x → leb (getD l at 0) 57 ≡ y → (getD l at 0 < 48) ⊎ (57 < getD l at 0)
+        by false y p q = inl (leb-false 48 (getD l at 0) p)
+        by true false p q = inr (leb-false (getD l at 0) 57 q)
+        by true true p q = apart (sym e ∙ digit-yes (getD l at 0) (leb-true 48 (getD l at 0) p) (leb-true (getD l at 0) 57 q))
+
+    go : (t : Bool) → leb (at + 1) (length l) ≡ t → slotAt 67 (place l at) ≡ unseen
+    go true q = number-other 67 l at (λ p. omega arith) (omega (arith, leb-true (at + 1) (length l) q)) other
+    go false q = number-end 67 l at (λ p. omega arith) (omega (arith, leb-false (at + 1) (length l) q))
+
+module _ (l : List ℕ) (at : ℕ) (d : isDigit (getD l at 0) ≡ true) where
+  pub name-one : (isDigit (getD l (at + 1) 0) ≡ false) ⊎ (getD l at 0 - 48 ≡ 0) → slotAt 67 (place l at) ≡ seen (getD l at 0 - 48) (drop (at + 1) l)
+  name-one w = go (eqb (getD l at 0) 48) refl w
+    where
+      f : (48 ≤ getD l at 0) × (getD l at 0 ≤ 57)
+      f = digit-from (getD l at 0) d
+
+      go : (z : Bool) → eqb (getD l at 0) 48 ≡ z → (isDigit (getD l (at + 1) 0) ≡ false) ⊎ (getD l at 0 - 48 ≡ 0) → slotAt 67 (place l at) ≡ seen (getD l at 0 - 48) (drop (at + 1) l)
+      go true e w =
+          let z = eqb-true (getD l at 0) 48 e in
+          let o : 0 ≡ getD l at 0 - 48 = omega arith in
+          number-zero 67 l at (λ p. omega arith) (digit-inside l at d) z ∙ name-yes 0 (drop (at + 1) l) (omega arith) ∙ ap (λ (x : ℕ). seen x (drop (at + 1) l)) o
+      go false e (inl w) =
+          number-lead 67 l at (λ p. omega arith) (digit-inside l at d) (omega (arith, f, eqb-false (getD l at 0) 48 e)) (f .1)
+          ∙ ap (ranged 67) (digits-stop l (at + 1) (getD l at 0 - 48) w) ∙ name-yes (getD l at 0 - 48) (drop (at + 1) l) (omega (arith, f))
+      go false e (inr w) = absurd (omega (arith, f, eqb-false (getD l at 0) 48 e))
+
+  module _ (lead : (getD l at 0 - 48 ≡ 0 → ⊥)) (d′ : isDigit (getD l (at + 1) 0) ≡ true) where
+    two-digits : slotAt 67 (place l at) ≡ ranged 67 (digits (two l at) (drop (at + 1 + 1) l))
+    two-digits =
+        let f = digit-from (getD l at 0) d in
+        number-lead 67 l at (λ p. omega arith) (digit-inside l at d) (omega arith) (f .1)
+        ∙ ap (ranged 67) (digits-step l (at + 1) (digit-inside l (at + 1) d′) (getD l at 0 - 48) d′)
+
+    pub name-two : isDigit (getD l (at + 2) 0) ≡ false → two l at ≤ 63 → slotAt 67 (place l at) ≡ seen (two l at) (drop (at + 2) l)
+    name-two e h =
+        let s : at + 1 + 1 ≡ at + 2 = omega arith in
+        two-digits ∙ ap (λ (k : ℕ). ranged 67 (digits (two l at) (drop k l))) s ∙ ap (ranged 67) (digits-stop l (at + 2) (two l at) e) ∙ name-yes (two l at) (drop (at + 2) l) h
+
+    pub name-not : (isDigit (getD l (at + 2) 0) ≡ true) ⊎ (63 < two l at) → slotAt 67 (place l at) ≡ unseen
+    name-not (inr h) = two-digits ∙ name-large (digits (two l at) (drop (at + 1 + 1) l)) (omega (arith, digits-least (drop (at + 1 + 1) l) (two l at)))
+    name-not (inl e) =
+        let s : at + 1 + 1 ≡ at + 2 = omega arith in
+        let n = two l at * 10 + (getD l (at + 2) 0 - 48) in
+        two-digits ∙ ap (λ (k : ℕ). ranged 67 (digits (two l at) (drop k l))) s ∙ ap (ranged 67) (digits-step l (at + 2) (digit-inside l (at + 2) e) (two l at) e)
+        ∙ name-large (digits n (drop (at + 2 + 1) l)) (omega (arith, digits-least (drop (at + 2 + 1) l) n))
+
+-- Names.
+
+-- the number that is seen in a slot is in its range
+pub slot-range : (slot : ℕ) (r : Rest) (n : ℕ) (m : List ℕ) → (slot ≡ 83 → ⊥) → slotAt slot r ≡ seen n m → inSlot slot n ≡ true
+unfolding slotAt
+slot-range slot none n m h e = let y : _≡_ {A = ℕ} 0 1 = cc in absurd (omega arith)
+slot-range slot (some l) n m h e = go (numeralAt l) (sym (slot-number slot l 0 h l) ∙ e)
+  where
+    go : (s : Seen) → ranged slot s ≡ seen n m → inSlot slot n ≡ true
+    go unseen q = let y : _≡_ {A = ℕ} 0 1 = cc in absurd (omega arith)
+    go (seen k l) q = by (inSlot slot k) refl q
+      where
+        by : (t : Bool) → inSlot slot k ≡ t → cond t (seen k l) unseen ≡ seen n m → inSlot slot n ≡ true
+        by true f q = let z : k ≡ n = ap value q in ap (inSlot slot) (sym z) ∙ f
+        by false f q = let y : _≡_ {A = ℕ} 0 1 = cc in absurd (omega arith)
+
+pub name-small : (l : List ℕ) (x : Slot) (r : Rest) → Sees l x (slotAt 67 r) → x .end ≤ length l → x .number < 64
+unfolding inSlot
+name-small l x r p h = omega (arith, leb-true (x .number) 63 (slot-range 67 r (x .number) (drop (x .end) l) (λ q. omega arith) (seen-in l x (slotAt 67 r) p h)))
+
+pub joins : (set : ℕ) (s : Seen) (n : ℕ) (m : List ℕ) → s ≡ seen n m → set < 2 ^ n → joined set s ≡ seen (set + 2 ^ n) m
+joins set s n m e h = ap (joined set) e ∙ simp (lt-ltb set (2 ^ n) h)
+
+pub joins-not : (set : ℕ) (s : Seen) (n : ℕ) (m : List ℕ) → s ≡ seen n m → 2 ^ n ≤ set → joined set s ≡ unseen
+joins-not set s n m e h = ap (joined set) e ∙ simp (le-ltb set (2 ^ n) h)
+
+-- the names that are left, of which there are fewer than k
+unfoldable pub namesFrom : ℕ → ℕ → Rest → Seen
+namesFrom k set none = unseen
+namesFrom k set (some l) = namesAt k set l
+
+pub names-all : (r : Rest) → namesFrom 65 0 r ≡ slotAt 83 r
+unfolding namesFrom slotAt
+names-all none = refl
+names-all (some l) = refl
+
+pub names-out : (k set : ℕ) (r : Rest) → k ≡ 0 → namesFrom k set r ≡ unseen
+unfolding namesFrom namesAt
+names-out k set none h = refl
+names-out k set (some l) h = ap (λ (n : ℕ). namesAt n set l) h
+
+names-on : (k : ℕ) (l : List ℕ) (x : Slot) (t : Seen) → Sees l x t → andThen t (namesAt k) ≡ namesFrom k (x .number) (place l (x .end))
+unfolding namesFrom
+names-on k l x unseen p = sym (ap (namesFrom k (x .number)) (p .end))
+names-on k l x (seen n m) p = sym (ap (namesFrom k (x .number)) (p .end) ∙ ap (λ (v : ℕ). namesAt k v m) (p .number))
+
+module _ (k set : ℕ) (l : List ℕ) (i : ℕ) (hk : 0 < k) where
+  fuel : k ≡ suc (k - 1)
+  fuel = omega arith
+
+  names-at : (h : i < length l) → namesFrom k set (place l i) ≡ namesAt (suc (k - 1)) set (getD l i 0 ∷ drop (i + 1) l)
+  unfolding namesFrom
+  names-at h = ap (namesFrom k set) (place-next l i h) ∙ ap (λ (n : ℕ). namesAt n set (getD l i 0 ∷ drop (i + 1) l)) fuel
+
+  -- no name follows: the set is read, or nothing where the place is behind the line
+  pub names-stop : (s : Seen) → namesFrom k set (place l i) ≡ s → (getD l i 0 ≡ 32 → ⊥) → (length l < i → set ≡ 0) → Sees l (record { number = set; end = i }) s
+  unfolding namesFrom namesAt
+  names-stop s e n z = by-place (leb (i + 1) (length l)) (leb i (length l)) refl refl
+    where
+      by-place : (t u : Bool) → leb (i + 1) (length l) ≡ t → leb i (length l) ≡ u → Sees l (record { number = set; end = i }) s
+      by-place true u q q′ =
+          let h : i < length l = omega (arith, leb-true (i + 1) (length l) q) in
+          sees l (record { number = set; end = i }) s (omega arith) (sym e ∙ names-at h ∙ simp (ne-eqb (getD l i 0) 32 n) (ap (seen set) (sym (drop-next l i h))))
+      by-place false true q q′ =
+          let b : length l ≤ i = omega (arith, leb-false (i + 1) (length l) q) in
+          let d : drop i l ≡ [] = drop-of-length-le l b in
+          sees l (record { number = set; end = i }) s (leb-true i (length l) q′)
+          (sym e ∙ ap (namesFrom k set) (place-in l i (leb-true i (length l) q′) ∙ ap some d) ∙ ap (λ (n : ℕ). namesAt n set []) fuel ∙ ap (seen set) (sym d))
+      by-place false false q q′ =
+          let b = leb-false i (length l) q′ in
+          misses l (record { number = set; end = i }) s (z b) b (sym e ∙ ap (namesFrom k set) (place-out l i b))
+
+  -- a name that follows joins the set
+  pub names-next : (x : Slot) → i < length l → getD l i 0 ≡ 32 → Sees l x (joined set (slotAt 67 (place l (i + 1)))) → namesFrom k set (place l i) ≡ namesFrom (k - 1) (x .number) (place l (x .end))
+  unfolding namesAt slotAt
+  names-next x h e p =
+      names-at h ∙ simp (eq-eqb (getD l i 0) 32 e)
+      (ap (λ (r : Rest). andThen (joined set (slotAt 67 r)) (namesAt (k - 1))) (sym (place-in l (i + 1) (omega arith)))
+      ∙ names-on (k - 1) l x (joined set (slotAt 67 (place l (i + 1)))) p)

@@ -1,0 +1,20 @@
+use borrow.Author.Needs.{needs}
+use Rattle.lines.specs.Form.{template}
+use Rattle.lines.specs.Reading.{step, restOf, numbersOf, made, heldOr}
+use Rattle.lines.specs.Place.{stripped}
+use Rattle.lines.proofs.Places.{place-start}
+use Rattle.lines.proofs.read_campaign.Statement.{statement}
+use Rattle.lines.proofs.read_campaign.Tie as tie
+
+pub read-campaign-spec : {M : Type 1} → statement M
+unfolding heldOr template restOf numbersOf step made stripped
+read-campaign-spec =
+    tie.close
+    (tie.spec
+    (λ c. search needs)
+    (λ c κs. search needs)
+    (λ c. search needs)
+    (λ c κs. search needs)
+    (λ c. search needs)
+    (λ c κs. search needs)
+    (λ c. cc (place-start (c .before .before .before .before .before .before .before .args .s .now))))

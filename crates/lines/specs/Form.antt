@@ -1,0 +1,91 @@
+-- The forms of document 01's bracket lines, the ranges of their numbers, and the text of a record.
+use Prim.Native.Nat.{ℕ, zero, suc}
+use Prim.Native.Char.{code}
+use Prim.Native.String.{String, [] as []ˢ, _∷_ as _∷ˢ_}
+use mathlib.Core.Bool.{Bool, true, cond, _&&_}
+use mathlib.Core.List.{List, [], _∷_, _++_}
+use lib.Dec.{leb, eqb}
+use lib.ListN.{getD, drop}
+use Rattle.sets.specs.Set.{member}
+use Rattle.lines.specs.Numeral.{numeral}
+use Rattle.lines.specs.declared.Record.{Record}
+use Rattle.lines.specs.declared.Record.the-variants.{Plan, Campaign, Start, View, Close, Done, Play, Nobody, Refused, Closed, Tally}
+
+abbrev pub bytes : String → List ℕ
+bytes []ˢ = []
+bytes (c ∷ˢ s) = code c ∷ bytes s
+
+-- A form's template: its line as it reads, with an upper-case letter for each slot.
+--   N a number, C a campaign number, R a refusal number, M takings, claim or full, S the names of a view
+unfoldable pub template : Record → List ℕ
+template (Plan _ _) = bytes "(plan (depth N) (width N))"
+template (Campaign _ _) = bytes "(campaign (price N) (budget N))"
+template Start = bytes "(start)"
+template (View _) = bytes "(viewS)"
+template Close = bytes "(close)"
+template Done = bytes "(ok)"
+template (Play _ _) = bytes "(play C (paid N))"
+template Nobody = bytes "(nobody)"
+template (Refused _) = bytes "(refused R)"
+template (Closed _ _ _) = bytes "(closed (takings M) (claim M) (full M))"
+template (Tally _ _ _ _ _) = bytes "(tally C (plays N) (turns N) (age N) (named N))"
+
+-- a record's numbers, in the order of its slots; a view is a 64-bit set, and so a number
+unfoldable pub numbers : Record → List ℕ
+numbers (Plan depth width) = depth ∷ width ∷ []
+numbers (Campaign price budget) = price ∷ budget ∷ []
+numbers Start = []
+numbers (View set) = set ∷ []
+numbers Close = []
+numbers Done = []
+numbers (Play campaign paid) = campaign ∷ paid ∷ []
+numbers Nobody = []
+numbers (Refused number) = number ∷ []
+numbers (Closed takings claim full) = takings ∷ claim ∷ full ∷ []
+numbers (Tally campaign plays turns age named) = campaign ∷ plays ∷ turns ∷ age ∷ named ∷ []
+
+-- an upper-case letter
+abbrev pub isSlot : ℕ → Bool
+isSlot b = leb 65 b && leb b 90
+
+-- the range of each slot: N to 4294967295, C 0 to 63, R 1 to 18, M and S 64 bits
+unfoldable pub inSlot : ℕ → ℕ → Bool
+inSlot slot n =
+    cond (eqb slot 78) (leb n 4294967295)
+    (cond (eqb slot 67) (leb n 63)
+    (cond (eqb slot 82) (leb 1 n && leb n 18)
+    (leb n 18446744073709551615)))
+
+-- the names of the set's members below n, rising, with a space before each
+unfoldable pub names : ℕ → ℕ → List ℕ
+names zero set = []
+names (suc i) set = names i set ++ cond (member set i) (32 ∷ numeral i) []
+
+-- the text of the number n in a slot
+unfoldable pub slotText : ℕ → ℕ → List ℕ
+slotText slot n = cond (eqb slot 83) (names 64 n) (numeral n)
+
+-- A template is filled from the left: a slot takes the next number, any other byte stands for itself.
+unfoldable pub piece : ℕ → List ℕ → List ℕ
+piece b ns = cond (isSlot b) (slotText b (getD ns 0 0)) (b ∷ [])
+
+-- the numbers that are left after b
+unfoldable pub after : ℕ → List ℕ → List ℕ
+after b ns = cond (isSlot b) (drop 1 ns) ns
+
+unfoldable pub filled : List ℕ → List ℕ → List ℕ
+filled [] ns = []
+filled (b ∷ t) ns = piece b ns ++ filled t (after b ns)
+
+-- each number is in the range of its slot
+unfoldable pub inSlots : List ℕ → List ℕ → Bool
+inSlots [] ns = true
+inSlots (b ∷ t) ns = cond (isSlot b) (inSlot b (getD ns 0 0)) true && inSlots t (after b ns)
+
+-- the text of a record: its line without the byte 10
+unfoldable pub text : Record → List ℕ
+text r = filled (template r) (numbers r)
+
+-- every number of the record is in its range
+unfoldable pub inRange : Record → Bool
+inRange r = inSlots (template r) (numbers r)

@@ -1,0 +1,4 @@
+pub mod Numeral
+pub mod Form
+pub mod Reading
+pub mod Place

@@ -1,0 +1,28 @@
+use mathlib.Core.Path.{sym}
+use mathlib.Core.List.{append-assoc}
+use native.Mathlib.Omega.{arith}
+use borrow.Author.Needs.{needs}
+use Rattle.lines.specs.Form.{template, numbers, piece, after, filled}
+use Rattle.lines.specs.declared.Record.the-variants.{Refused}
+use Rattle.writer.proofs.Buffers.{start, then, ends}
+use Rattle.writer.proofs.Lengths.{line-filled}
+use Rattle.writer.proofs.put_refused.Statement.{statement}
+use Rattle.writer.proofs.put_refused.Tie as tie
+
+pub put-refused-spec : {M : Type 1} → statement M
+unfolding template numbers filled piece after
+put-refused-spec =
+    tie.close
+    (tie.spec
+    (λ c. search needs)
+    (λ c κs. omega arith)
+    (λ c κs. omega arith)
+    (λ c. search needs)
+    (λ c κs. omega arith)
+    (λ c. search needs)
+    (λ c.
+    let p2 = c .before .before in
+    let s1 = p2 .before .before .before .before .before in
+    let p1 = s1 .before .before .before .before in
+    let a = p1 .before .before .before .before .args in
+    ends (then (then (then (start (a .out .now) 0) (p1 .put .ensures)) (s1 .put-slot .ensures)) (p2 .put2 .ensures)) (simp append-assoc (sym (line-filled (Refused (a .number)))))))

@@ -1,0 +1,27 @@
+use mathlib.Core.Path.{_≡_, ap, sym, subst}
+use native.Mathlib.Omega.{arith}
+use lib.ListN.{length}
+use borrow.Author.Needs.{needs}
+use Rattle.writer.specs.Buffer.{Put}
+use Rattle.writer.proofs.Lengths.{text-names, text-number}
+use Rattle.writer.proofs.put_slot.Statement.{statement}
+use Rattle.writer.proofs.put_slot.Tie as tie
+
+pub put-slot-spec : {M : Type 1} → statement M
+put-slot-spec =
+    tie.close
+    (tie.spec
+    (λ c κs.
+    let a = c .before .before .before .args in
+    omega (arith, ap length (text-names (a .slot) (a .n) (c .before .if1 .taken)), c .before .before .before .pre))
+    (λ c. search needs)
+    (λ c.
+    let a = c .before .before .before .before .before .before .args in
+    subst (Put (a .out .now) _ (a .at) _) (sym (text-names (a .slot) (a .n) (c .before .before .before .before .if1 .taken))) (c .before .before .put-names .ensures))
+    (λ c κs.
+    let a = c .before .before .before .args in
+    omega (arith, ap length (text-number (a .slot) (a .n) (c .before .if1 .left)), c .before .before .before .pre))
+    (λ c. search needs)
+    (λ c.
+    let a = c .before .before .before .before .before .before .args in
+    subst (Put (a .out .now) _ (a .at) _) (sym (text-number (a .slot) (a .n) (c .before .before .before .before .if1 .left))) (c .before .before .put-number .ensures)))

@@ -1,0 +1,61 @@
+use mathlib.Core.Path.{_≡_, refl, ap, sym, _∙_}
+use mathlib.Core.Bool.{Bool, true, false, cond}
+use mathlib.Core.List.{List, [], _∷_, _++_}
+use Prim.Native.Nat.{ℕ, _≤_, _<_}
+use native.Mathlib.Omega.{arith}
+use lib.Dec.{leb, eqb}
+use lib.ListN.{length, drop}
+use borrow.Author.Needs.{needs}
+use borrow.Author.Tests.{le-leb, lt-leb, not-true, not-false}
+use Rattle.lines.specs.Form.{inRange}
+use Rattle.lines.specs.declared.Record.{Record}
+use Rattle.writer.specs.declared.Writing.{Writing}
+use Rattle.writer.specs.declared.Writing.the-variants.{Length, Refusal}
+use Rattle.writer.specs.declared.Size.{Size}
+use Rattle.writer.specs.Buffer.{over, Put, Sized}
+use Rattle.writer.specs.Writing.{line, question, writing, written}
+use Rattle.writer.proofs.Buffers.{over-front}
+use Rattle.writer.proofs.write_line.Statement.{statement}
+use Rattle.writer.proofs.write_line.Tie as tie
+
+-- the two refusals and the line, where z is the size of r
+module _ (r : Record) (z : Size) (d : List ℕ) (p : Sized r z) where
+  out-of-range : z .ok ≡ false → (Refusal 17 ≡ writing r d) × (d ≡ written r d)
+  unfolding writing written question
+  out-of-range h = let e : inRange r ≡ false = sym (p .ok) ∙ h in (rw e, rw e)
+
+  no-room : z .ok ≡ true → length d < z .len → (Refusal 18 ≡ writing r d) × (d ≡ written r d)
+  unfolding writing written question
+  no-room h l =
+      let e : inRange r ≡ true = sym (p .ok) ∙ h in
+      let f : leb (length (line r)) (length d) ≡ false = lt-leb (length (line r)) (length d) (omega (arith, p .len)) in
+      (rw (e, f), rw (e, f))
+
+  wrote : {out : List ℕ} {to : ℕ} → z .ok ≡ true → z .len ≤ length d → Put d out 0 to (line r) → (Length (z .len) ≡ writing r d) × (out ≡ written r d)
+  unfolding writing written question
+  wrote h l q =
+      let e : inRange r ≡ true = sym (p .ok) ∙ h in
+      let b : length (line r) ≤ length d = omega (arith, p .len) in
+      let f : leb (length (line r)) (length d) ≡ true = le-leb (length (line r)) (length d) b in
+      (rw (e, f) (ap Length (p .len)), rw (e, f) (q .here ∙ over-front d (line r) b))
+
+pub write-line-spec : {M : Type 1} → statement M
+write-line-spec =
+    tie.close
+    (tie.spec
+    (λ c κs. tt)
+    (λ c.
+    let a = c .before .before .before .before .args in
+    let z = c .before .before .size-of in
+    out-of-range (a .r) (z .result) (a .out .now) (z .ensures) (not-true _ (c .if1 .taken)))
+    (λ c.
+    let a = c .before .before .before .before .before .before .args in
+    let z = c .before .before .before .before .size-of in
+    no-room (a .r) (z .result) (a .out .now) (z .ensures) (not-false _ (c .before .before .if1 .left)) (c .if2 .taken))
+    (λ c κs. omega (arith, c .before .before .before .before .before .size-of .ensures .len))
+    (λ c. search needs)
+    (λ c.
+    let a = c .before .before .before .before .before .before .before .before .before .before .args in
+    let z = c .before .before .before .before .before .before .before .before .size-of in
+    wrote (a .r) (z .result) (a .out .now) (z .ensures)
+    (not-false _ (c .before .before .before .before .before .before .if1 .left)) (c .before .before .before .before .if2 .left) (c .before .before .put-record .ensures)))
