@@ -1,5 +1,5 @@
 -- Names for the contracts of the inner functions of the operations.
-use mathlib.Core.Bool.{Bool, true, false, cond, _&&_}
+use mathlib.Core.Bool.{true, false, cond, _&&_}
 use mathlib.Core.List.{List, [], _∷_}
 use mathlib.Core.Path.{_≡_}
 use Prim.Native.Nat.{ℕ, _+_, _*_, _≤_, _<_}
@@ -50,10 +50,10 @@ settled pl s =
 abbrev pub plan-questions : Plan → List Question
 plan-questions pl = question 3 (depth-fits pl) ∷ question 4 (width-fits pl) ∷ question 5 (power-fits pl) ∷ []
 
--- the questions of a view, by the parts of the state that they ask about
-abbrev pub view-questions : Bool → Phase → Plan → (count accepted : ℕ) → View → List Question
-view-questions ok p pl n a w =
-    question 1 ok ∷ question 11 (is-running p) ∷ question 12 (ltb a 4_096) ∷ question 13 (within n (w .set)) ∷
+-- questions 11 to 14 of a view, by the parts of the state that they ask about
+abbrev pub view-questions : Phase → Plan → (count accepted : ℕ) → View → List Question
+view-questions p pl n a w =
+    question 11 (is-running p) ∷ question 12 (ltb a 4_096) ∷ question 13 (within n (w .set)) ∷
     question 14 (leb 1 (size (w .set)) && leb (size (w .set)) (pl .width)) ∷ []
 
 -- the campaigns after a view that leader l plays, and the state that holds them

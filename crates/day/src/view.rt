@@ -10,6 +10,7 @@ ghost use mathlib.Core.Path.{_≡_};
 ghost use mathlib.Core.Bool.{true};
 ghost use Prim.Native.Nat.{_<_};
 ghost use Rattle.sets.specs.Set.{within};
+ghost use Rattle.campaigns.specs.Inner.{Rows};
 ghost use Rattle.day.specs.Day.{is-running};
 ghost use Rattle.day.specs.Sound.{sound};
 ghost use Rattle.day.specs.Calls.{first-no, call};
@@ -26,20 +27,10 @@ pub fn running(phase: Phase) -> bool
     }
 }
 
-// The number of the first question that a view fails, or 0.
-fn view_question(
-    sound: bool,
-    phase: Phase,
-    plan: Plan,
-    count: u64,
-    accepted: u64,
-    view: View,
-) -> u64
-    ensures { λ r. ⌜ r ≡ first-no (view-questions sound phase plan count accepted view) ⌝ }
+// The number of the first of questions 11 to 14 that a view fails, or 0.
+fn view_question(phase: Phase, plan: Plan, count: u64, accepted: u64, view: View) -> u64
+    ensures { λ r. ⌜ r ≡ first-no (view-questions phase plan count accepted view) ⌝ }
 {
-    if !sound {
-        return 1;
-    }
     if !running(phase) {
         return 11;
     }
@@ -90,36 +81,23 @@ impl Day {
         self
     }
 
-    pub fn view(self, view: View) -> Outcome
+    // The view of a sound state, whose rows of powers the caller has taken.
+    fn shown<'a>(self, view: View, up: &'a [u64; 33], down: &'a [u64; 33]) -> Outcome
+        requires { ⌜ sound self ≡ true ⌝ }
+        requires { ⌜ Rows (self .plan) (now up) (now down) ⌝ }
         ensures { λ r. ⌜ r ≡ call self (show-view view) ⌝ }
     {
         let phase = self.phase;
         let plan = self.plan;
-        let up = powers::row(plan.width);
-        let down = powers::row(crate::ops::less_one(plan.width));
-        let audit = crate::audit::examine(
-            phase,
-            plan,
-            self.count,
-            self.accepted,
-            &up,
-            &down,
-            &self.prices,
-            &self.budgets,
-            &self.plays,
-            &self.turns,
-            &self.ages,
-            &self.named,
-        );
-        let question = view_question(audit.sound, phase, plan, self.count, self.accepted, view);
+        let question = view_question(phase, plan, self.count, self.accepted, view);
         if question != 0 {
             return self.refused(question);
         }
         let leader = campaigns::pass::choose(
             view,
             plan,
-            &up,
-            &down,
+            up,
+            down,
             &self.prices,
             &self.budgets,
             &self.plays,
@@ -141,5 +119,44 @@ impl Day {
             day: day,
             answer: Answer::Nobody,
         }
+    }
+
+    // The view of a state that is known to be sound, as every state is that these operations hand back from a sound
+    // one: question 1 need not be asked again.
+    pub fn view_sound(self, view: View) -> Outcome
+        requires { ⌜ sound self ≡ true ⌝ }
+        ensures { λ r. ⌜ r ≡ call self (show-view view) ⌝ }
+    {
+        let plan = self.plan;
+        let up = powers::row(plan.width);
+        let down = powers::row(crate::ops::less_one(plan.width));
+        self.shown(view, &up, &down)
+    }
+
+    pub fn view(self, view: View) -> Outcome
+        ensures { λ r. ⌜ r ≡ call self (show-view view) ⌝ }
+    {
+        let phase = self.phase;
+        let plan = self.plan;
+        let up = powers::row(plan.width);
+        let down = powers::row(crate::ops::less_one(plan.width));
+        let audit = crate::audit::examine(
+            phase,
+            plan,
+            self.count,
+            self.accepted,
+            &up,
+            &down,
+            &self.prices,
+            &self.budgets,
+            &self.plays,
+            &self.turns,
+            &self.ages,
+            &self.named,
+        );
+        if !audit.sound {
+            return self.refused(1);
+        }
+        self.shown(view, &up, &down)
     }
 }

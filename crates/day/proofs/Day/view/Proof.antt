@@ -1,106 +1,67 @@
-use Rattle.day.proofs.Shown.{leading, leader-is, marked-is, played-is, nobody-is, named-ready}
 use Rattle.day.proofs.Audits.{rows-of}
 use Rattle.day.proofs.State.{sound-facts}
-use Rattle.day.proofs.Questions.{Yes, refused-is, accepted-is, asked-yes, audit-sound}
-use Rattle.day.specs.Inner.{view-questions, marked}
+use Rattle.day.proofs.Questions.{refused-is, audit-sound}
 use Rattle.day.specs.Calls.Call.{show-view}
-use Rattle.day.specs.Calls.{first-no, questions, width-holds, player}
-use Rattle.day.specs.declared.Outcome.{Outcome}
-use Rattle.day.specs.declared.Day.{Day}
-use Rattle.day.specs.declared.Answer.{Answer}
+use Rattle.day.specs.Calls.{first-no, questions}
+use Rattle.day.specs.Sound.{sound}
 use Rattle.powers.specs.Power.{row-of}
-use borrow.Author.Tests.{ltb-true}
+use borrow.Author.Tests.{not-true, not-false}
 use Prim.Native.Nat.{ℕ, min}
-use mathlib.Core.Bool.{Bool}
-use mathlib.Core.Path.{_≡_, ap, ap₂, _∙_}
+use native.Mathlib.Omega.{arith}
+use mathlib.Core.Bool.{true}
+use mathlib.Core.Path.{_≡_, ap, sym, _∙_}
 use borrow.Author.Needs.{needs}
 use Rattle.day.proofs.Day.view.Statement.{statement}
 use Rattle.day.proofs.Day.view.Tie as tie
 use Rattle.day.proofs.Day.view.Reads as reads
 use Rattle.day.proofs.Day.view.Lts as lts
-use Rattle.campaigns.proofs.pass.choose.Reads as choose-reads
-use Rattle.day.proofs.Day.marked.Reads as marked-reads
 use Rattle.day.proofs.Day.refused.Reads as refused-reads
+use Rattle.day.proofs.Day.shown.Reads as shown-reads
 use Rattle.day.proofs.audit.examine.Reads as examine-reads
 use Rattle.day.proofs.ops.less_one.Reads as less-one-reads
-use Rattle.day.proofs.view.view_question.Reads as view-question-reads
 use Rattle.powers.proofs.row.Reads as row-reads
 
-asked : (c : tie.After-view-question) → c .view-question .result ≡ first-no (questions (c .before .before .before .before .before .before .before .before .before .before .before .before .before .before .before .args .t1) (show-view (c .before .before .before .before .before .before .before .before .before .before .before .before .before .before .before .args .view)))
-unfolding width-holds
-asked c =
-    let s = c .before .before .before .before .before .before .before .before .before .before .before .before .before .before .before .args .t1 in
-    c .view-question .ensures
-    ∙ ap (λ (b : Bool). first-no (view-questions b (s .phase) (s .plan) (s .count) (s .accepted) (c .before .before .before .before .before .before .before .before .before .before .before .before .before .before .before .args .view))) (audit-sound s (c .before .examine .result) (c .before .examine .ensures))
+asked-1 : (c : tie.Then1) → 1 ≡ first-no (questions (c .before .before .before .before .before .before .before .before .before .before .before .before .before .before .before .before .args .t1) (show-view (c .before .before .before .before .before .before .before .before .before .before .before .before .before .before .before .before .args .view)))
+unfolding first-no
+asked-1 c = rw (sym (audit-sound (c .before .before .before .before .before .before .before .before .before .before .before .before .before .before .before .before .args .t1) (c .before .before .examine .result) (c .before .before .examine .ensures)) ∙ not-true (c .before .before .examine .result .sound) (c .if1 .taken))
 
-yes : (c : tie.Else1) → Yes (questions (c .before .before .before .before .before .before .before .before .before .before .before .before .before .before .before .before .args .t1) (show-view (c .before .before .before .before .before .before .before .before .before .before .before .before .before .before .before .before .args .view)))
-yes c = asked-yes (c .before .before .before .before .before .before .before .before .before .before .before .before .before .before .before .before .args .t1) (show-view (c .before .before .before .before .before .before .before .before .before .before .before .before .before .before .before .before .args .view)) (c .before .view-question .result) (asked (c .before)) (c .if1 .left)
+is-sound : (c : tie.Else1) → sound (c .before .before .before .before .before .before .before .before .before .before .before .before .before .before .before .before .args .t1) ≡ true
+is-sound c = sym (audit-sound (c .before .before .before .before .before .before .before .before .before .before .before .before .before .before .before .before .args .t1) (c .before .before .examine .result) (c .before .before .examine .ensures)) ∙ not-false (c .before .before .examine .result .sound) (c .if1 .left)
 
-led : (c : tie.After-choose) → c .choose .result ≡ leading (c .before .before .before .before .before .before .before .before .before .before .before .before .before .before .before .before .before .before .before .before .before .before .before .before .before .before .args .t1) (c .before .before .before .before .before .before .before .before .before .before .before .before .before .before .before .before .before .before .before .before .before .before .before .before .before .before .args .view) (player (c .before .before .before .before .before .before .before .before .before .before .before .before .before .before .before .before .before .before .before .before .before .before .before .before .before .before .args .t1) (c .before .before .before .before .before .before .before .before .before .before .before .before .before .before .before .before .before .before .before .before .before .before .before .before .before .before .args .view))
-led c =
-    let y = yes (c .before .before .before .before .before .before .before .before .before .before) in
-    leader-is (c .before .before .before .before .before .before .before .before .before .before .before .before .before .before .before .before .before .before .before .before .before .before .before .before .before .before .args .t1) (c .before .before .before .before .before .before .before .before .before .before .before .before .before .before .before .before .before .before .before .before .before .before .before .before .before .before .args .view) (c .choose .result) (sound-facts (c .before .before .before .before .before .before .before .before .before .before .before .before .before .before .before .before .before .before .before .before .before .before .before .before .before .before .args .t1) (y .0) .few) (y .1 .1 .1 .0) (c .choose .ensures)
-
-abbrev handed : Day → Answer → Outcome
-handed d a = record { day = d; answer = a }
-
--- src/view.rt:98:18
+-- src/view.rt:141:18
 row-requires : tie.Need-row-requires
 row-requires c κs = search needs
 
--- src/view.rt:99:32
+-- src/view.rt:142:32
 less-one-requires : tie.Need-less-one-requires
 less-one-requires c κs = search needs
 
--- src/view.rt:99:20
+-- src/view.rt:142:20
 row-requires-2 : tie.Need-row-requires-2
 row-requires-2 c κs = search needs
 
--- src/view.rt:100:13
+-- src/view.rt:143:13
 examine-requires : tie.Need-examine-requires
 examine-requires c κs = (c .before .before .before .before .before .before .before .before .before .before .before .row .ensures, c .before .before .before .before .before .before .before .before .before .row2 .ensures ∙ ap (λ (x : ℕ). row-of (min x 16)) (c .before .before .before .before .before .before .before .before .before .before .less-one .ensures))
 
--- src/view.rt:114:13
-view-question-requires : tie.Need-view-question-requires
-view-question-requires c κs = search needs
-
--- src/view.rt:116:13
+-- src/view.rt:158:13
 refused-requires : tie.Need-refused-requires
 refused-requires c κs = search needs
 
--- src/view.rt:116:13
+-- src/view.rt:158:13
 returns : tie.Need-returns
-returns c = c .refused .ensures ∙ refused-is (c .before .before .before .before .before .before .before .before .before .before .before .before .before .before .before .before .before .args .t1) (show-view (c .before .before .before .before .before .before .before .before .before .before .before .before .before .before .before .before .before .args .view)) (c .before .before .view-question .result) (asked (c .before .before)) (c .before .if1 .taken)
+returns c = c .refused .ensures ∙ refused-is (c .before .before .before .before .before .before .before .before .before .before .before .before .before .before .before .before .before .args .t1) (show-view (c .before .before .before .before .before .before .before .before .before .before .before .before .before .before .before .before .before .args .view)) 1 (asked-1 (c .before)) (λ e. omega arith)
 
--- src/view.rt:118:13
-choose-requires : tie.Need-choose-requires
-choose-requires c κs =
-    let s = c .before .before .before .before .before .before .before .before .before .before .before .before .before .before .before .before .before .before .before .before .before .before .before .before .before .args .t1 in
-    let y = yes (c .before .before .before .before .before .before .before .before .before) in
-    let h = sound-facts s (y .0) in (
-      rows-of (s .plan) (c .before .before .before .before .before .before .before .before .before .before .before .before .before .before .before .before .before .before .before .before .before .before .before .row .result) (c .before .before .before .before .before .before .before .before .before .before .before .before .before .before .before .before .before .before .before .before .before .row2 .result) (h .plan-sound) (c .before .before .before .before .before .before .before .before .before .before .before .before .before .before .before .before .before .before .before .before .before .before .before .row .ensures) (c .before .before .before .before .before .before .before .before .before .before .before .before .before .before .before .before .before .before .before .before .before .row2 .ensures ∙ ap (λ (x : ℕ). row-of (min x 16)) (c .before .before .before .before .before .before .before .before .before .before .before .before .before .before .before .before .before .before .before .before .before .before .less-one .ensures)),
-      named-ready s (c .before .before .before .before .before .before .before .before .before .before .before .before .before .before .before .before .before .before .before .before .before .before .before .before .before .args .view) h (y .1 .1 .1 .0),
-    )
+-- src/view.rt:160:9
+shown-requires : tie.Need-shown-requires
+shown-requires c κs =
+    let s = c .before .before .before .before .before .before .before .before .before .before .before .before .before .before .before .before .before .before .args .t1 in
+    let h = is-sound (c .before .before) in
+    (h, rows-of (s .plan) (c .before .before .before .before .before .before .before .before .before .before .before .before .before .before .before .before .row .result) (c .before .before .before .before .before .before .before .before .before .before .before .before .before .before .row2 .result) (sound-facts s h .plan-sound) (c .before .before .before .before .before .before .before .before .before .before .before .before .before .before .before .before .row .ensures) (c .before .before .before .before .before .before .before .before .before .before .before .before .before .before .row2 .ensures ∙ ap (λ (x : ℕ). row-of (min x 16)) (c .before .before .before .before .before .before .before .before .before .before .before .before .before .before .before .less-one .ensures)))
 
--- src/view.rt:130:13
-marked-requires : tie.Need-marked-requires
-marked-requires c κs = let y = yes (c .before .before .before .before .before .before .before .before .before .before) in (y .0, (ltb-true (c .before .before .before .before .before .before .before .before .before .before .before .before .before .before .before .before .before .before .before .before .before .before .before .before .before .before .args .t1 .accepted) 4_096 (y .1 .1 .0), y .1 .1 .1 .0))
-
--- src/view.rt:132:13
+-- src/view.rt:136:5
 returns-2 : tie.Need-returns-2
-returns-2 c =
-    let s = c .before .before .before .before .before .before .before .before .before .before .before .before .before .before .before .before .before .before .before .before .before .before .before .before .before .before .before .before .args .t1 in
-    let w = c .before .before .before .before .before .before .before .before .before .before .before .before .before .before .before .before .before .before .before .before .before .before .before .before .before .before .before .before .args .view in
-    ap₂ handed (c .before .marked .ensures ∙ marked-is s w (c .before .before .choose .result) (yes (c .before .before .before .before .before .before .before .before .before .before .before .before) .1 .0) (led (c .before .before))) (played-is s w (c .before .before .choose .result) (led (c .before .before)) (c .if2 .taken))
-    ∙ accepted-is s (show-view w) (c .before .before .before .before .before .before .before .before .before .before .before .before .before .view-question .result) (asked (c .before .before .before .before .before .before .before .before .before .before .before .before .before)) (c .before .before .before .before .before .before .before .before .before .before .before .before .if1 .left)
-
--- src/view.rt:93:5
-returns-3 : tie.Need-returns-3
-returns-3 c =
-    let s = c .before .before .before .before .before .before .before .before .before .before .before .before .before .before .before .before .before .before .before .before .before .before .before .before .before .before .before .before .args .t1 in
-    let w = c .before .before .before .before .before .before .before .before .before .before .before .before .before .before .before .before .before .before .before .before .before .before .before .before .before .before .before .before .args .view in
-    ap₂ handed (c .before .marked .ensures ∙ marked-is s w (c .before .before .choose .result) (yes (c .before .before .before .before .before .before .before .before .before .before .before .before) .1 .0) (led (c .before .before))) (nobody-is s w (c .before .before .choose .result) (led (c .before .before)) (c .if2 .left))
-    ∙ accepted-is s (show-view w) (c .before .before .before .before .before .before .before .before .before .before .before .before .before .view-question .result) (asked (c .before .before .before .before .before .before .before .before .before .before .before .before .before)) (c .before .before .before .before .before .before .before .before .before .before .before .before .if1 .left)
+returns-2 c = search needs
 
 pub view-spec : {M : Type 1} → statement M
 view-spec =
@@ -110,10 +71,7 @@ view-spec =
     less-one-requires
     row-requires-2
     examine-requires
-    view-question-requires
     refused-requires
     returns
-    choose-requires
-    marked-requires
-    returns-2
-    returns-3)
+    shown-requires
+    returns-2)

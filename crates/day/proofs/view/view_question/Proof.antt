@@ -16,67 +16,61 @@ use Rattle.day.proofs.view.running.Reads as running-reads
 use Rattle.sets.proofs.count.Reads as count-reads
 use Rattle.sets.proofs.next_from.Reads as next-from-reads
 
-runs : (c : tie.Else2) → is-running (c .before .before .before .args .phase) ≡ true
-runs c = sym (c .before .running .ensures) ∙ not-false (c .before .running .result) (c .if2 .left)
+runs : (c : tie.Else1) → is-running (c .before .before .args .phase) ≡ true
+runs c = sym (c .before .running .ensures) ∙ not-false (c .before .running .result) (c .if1 .left)
 
-inside : (c : tie.Else4) → within (c .before .before .before .before .before .before .args .count) (c .before .before .before .before .before .before .args .view .set) ≡ true
-inside c = within-next (c .before .before .before .before .before .before .args .view .set) (c .before .before .before .before .before .before .args .count) (subst (λ (x : ℕ). 64 ≤ x) (c .before .next-from .ensures) (c .if4 .left))
+inside : (c : tie.Else3) → within (c .before .before .before .before .before .args .count) (c .before .before .before .before .before .args .view .set) ≡ true
+inside c = within-next (c .before .before .before .before .before .args .view .set) (c .before .before .before .before .before .args .count) (subst (λ (x : ℕ). 64 ≤ x) (c .before .next-from .ensures) (c .if3 .left))
 
-counted : (c : tie.After-struct-known) → (leb 1 (c .before .count .result) && leb (c .before .count .result) (c .before .before .before .before .before .before .before .before .args .plan .width)) ≡ (leb 1 (size (c .before .before .before .before .before .before .before .before .args .view .set)) && leb (size (c .before .before .before .before .before .before .before .before .args .view .set)) (c .before .before .before .before .before .before .before .before .args .plan .width))
-counted c = ap (λ (x : ℕ). leb 1 x && leb x (c .before .before .before .before .before .before .before .before .args .plan .width)) (c .before .count .ensures)
+counted : (c : tie.After-struct-known) → (leb 1 (c .before .count .result) && leb (c .before .count .result) (c .before .before .before .before .before .before .before .args .plan .width)) ≡ (leb 1 (size (c .before .before .before .before .before .before .before .args .view .set)) && leb (size (c .before .before .before .before .before .before .before .args .view .set)) (c .before .before .before .before .before .before .before .args .plan .width))
+counted c = ap (λ (x : ℕ). leb 1 x && leb x (c .before .before .before .before .before .before .before .args .plan .width)) (c .before .count .ensures)
 
--- src/view.rt:41:9
-returns : tie.Need-returns
-unfolding first-no
-returns c = rw (not-true (c .before .args .sound) (c .if1 .taken))
-
--- src/view.rt:43:9
+-- src/view.rt:34:9
 running-requires : tie.Need-running-requires
 running-requires c κs = search needs
 
--- src/view.rt:44:9
+-- src/view.rt:35:9
+returns : tie.Need-returns
+unfolding first-no
+returns c = rw (sym (c .before .running .ensures) ∙ not-true (c .before .running .result) (c .if1 .taken))
+
+-- src/view.rt:38:9
 returns-2 : tie.Need-returns-2
 unfolding first-no
-returns-2 c = rw (not-false (c .before .before .before .args .sound) (c .before .before .if1 .left), sym (c .before .running .ensures) ∙ not-true (c .before .running .result) (c .if2 .taken))
+returns-2 c = rw (runs (c .before), le-ltb (c .before .before .before .args .accepted) 4_096 (c .if2 .taken))
 
--- src/view.rt:47:9
-returns-3 : tie.Need-returns-3
-unfolding first-no
-returns-3 c = rw (not-false (c .before .before .before .before .args .sound) (c .before .before .before .if1 .left), runs (c .before), le-ltb (c .before .before .before .before .args .accepted) 4_096 (c .if3 .taken))
-
--- src/view.rt:50:8
+-- src/view.rt:41:8
 next-from-requires : tie.Need-next-from-requires
 next-from-requires c κs = search needs
 
--- src/view.rt:51:9
-returns-4 : tie.Need-returns-4
+-- src/view.rt:42:9
+returns-3 : tie.Need-returns-3
 unfolding first-no
-returns-4 c = rw (not-false (c .before .before .before .before .before .before .args .sound) (c .before .before .before .before .before .if1 .left), runs (c .before .before .before), lt-ltb (c .before .before .before .before .before .before .args .accepted) 4_096 (c .before .before .if3 .left), within-not (c .before .before .before .before .before .before .args .view .set) (c .before .before .before .before .before .before .args .count) (subst (λ (x : ℕ). x < 64) (c .before .next-from .ensures) (c .if4 .taken)))
+returns-3 c = rw (runs (c .before .before .before), lt-ltb (c .before .before .before .before .before .args .accepted) 4_096 (c .before .before .if2 .left), within-not (c .before .before .before .before .before .args .view .set) (c .before .before .before .before .before .args .count) (subst (λ (x : ℕ). x < 64) (c .before .next-from .ensures) (c .if3 .taken)))
 
--- src/view.rt:53:9
+-- src/view.rt:44:9
 count-requires : tie.Need-count-requires
 count-requires c κs = search needs
 
--- src/view.rt:55:9
+-- src/view.rt:46:9
+returns-4 : tie.Need-returns-4
+unfolding first-no
+returns-4 c = rw (runs (c .before .before .before .before .before .before), lt-ltb (c .before .before .before .before .before .before .before .before .args .accepted) 4_096 (c .before .before .before .before .before .if2 .left), inside (c .before .before .before), sym (counted (c .before)) ∙ not-true (leb 1 (c .before .before .count .result) && leb (c .before .before .count .result) (c .before .before .before .before .before .before .before .before .args .plan .width)) (c .if4 .taken))
+
+-- src/view.rt:31:1
 returns-5 : tie.Need-returns-5
 unfolding first-no
-returns-5 c = rw (not-false (c .before .before .before .before .before .before .before .before .before .args .sound) (c .before .before .before .before .before .before .before .before .if1 .left), runs (c .before .before .before .before .before .before), lt-ltb (c .before .before .before .before .before .before .before .before .before .args .accepted) 4_096 (c .before .before .before .before .before .if3 .left), inside (c .before .before .before), sym (counted (c .before)) ∙ not-true (leb 1 (c .before .before .count .result) && leb (c .before .before .count .result) (c .before .before .before .before .before .before .before .before .before .args .plan .width)) (c .if5 .taken))
-
--- src/view.rt:30:1
-returns-6 : tie.Need-returns-6
-unfolding first-no
-returns-6 c = rw (not-false (c .before .before .before .before .before .before .before .before .before .args .sound) (c .before .before .before .before .before .before .before .before .if1 .left), runs (c .before .before .before .before .before .before), lt-ltb (c .before .before .before .before .before .before .before .before .before .args .accepted) 4_096 (c .before .before .before .before .before .if3 .left), inside (c .before .before .before), sym (counted (c .before)) ∙ not-false (leb 1 (c .before .before .count .result) && leb (c .before .before .count .result) (c .before .before .before .before .before .before .before .before .before .args .plan .width)) (c .if5 .left))
+returns-5 c = rw (runs (c .before .before .before .before .before .before), lt-ltb (c .before .before .before .before .before .before .before .before .args .accepted) 4_096 (c .before .before .before .before .before .if2 .left), inside (c .before .before .before), sym (counted (c .before)) ∙ not-false (leb 1 (c .before .before .count .result) && leb (c .before .before .count .result) (c .before .before .before .before .before .before .before .before .args .plan .width)) (c .if4 .left))
 
 pub view-question-spec : {M : Type 1} → statement M
 view-question-spec =
     tie.close
     (tie.spec
-    returns
     running-requires
+    returns
     returns-2
-    returns-3
     next-from-requires
-    returns-4
+    returns-3
     count-requires
-    returns-5
-    returns-6)
+    returns-4
+    returns-5)
