@@ -69,7 +69,7 @@ fn line(r: Made) -> Vec<u8> {
 // the least of several rounds, in nanoseconds for each item; the two take turns
 fn race(name: &str, items: usize, mut ours: impl FnMut(), mut rust: impl FnMut()) {
     let (mut a, mut b) = (f64::MAX, f64::MAX);
-    for _ in 0..40 {
+    for _ in 0..400 {
         let t = Instant::now();
         ours();
         a = a.min(t.elapsed().as_nanos() as f64);

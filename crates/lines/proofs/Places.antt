@@ -308,6 +308,10 @@ unfolding namesFrom namesAt
 names-out k set none h = refl
 names-out k set (some l) h = ap (λ (n : ℕ). namesAt n set l) h
 
+pub names-lost : (k set : ℕ) (l : List ℕ) (i : ℕ) → length l < i → namesFrom k set (place l i) ≡ unseen
+unfolding namesFrom
+names-lost k set l i h = ap (namesFrom k set) (place-out l i h)
+
 names-on : (k : ℕ) (l : List ℕ) (x : Slot) (t : Seen) → Sees l x t → andThen t (namesAt k) ≡ namesFrom k (x .number) (place l (x .end))
 unfolding namesFrom
 names-on k l x unseen p = sym (ap (namesFrom k (x .number)) (p .end))

@@ -257,6 +257,9 @@ fn names(s: &[u8], at: usize) -> Slot
         let next = join_name(s, i + 1, set);
         set = next.number;
         i = next.end;
+        if i > s.len() {
+            return missing();
+        }
         left -= 1;
     }
     missing()

@@ -1,14 +1,14 @@
 use mathlib.Core.Path.{_≡_, refl, ap, sym, _∙_}
 use mathlib.Core.Bool.{Bool, true, false}
 use mathlib.Core.List.{List}
-use Prim.Native.Nat.{ℕ, _+_, _<_}
+use Prim.Native.Nat.{ℕ, _+_, _-_, _<_}
 use native.Mathlib.Omega.{arith}
 use lib.Dec.{ltb}
 use lib.ListN.{length, getD, List·getD-eq-default}
 use borrow.Author.Tests.{ltb-true, ltb-false}
-use Rattle.lines.specs.Reading.{value, joined, slotAt}
+use Rattle.lines.specs.Reading.{slotAt}
 use Rattle.lines.specs.Place.{place}
-use Rattle.lines.proofs.Places.{misses, seen-out, namesFrom, names-all, names-out, names-stop, names-next}
+use Rattle.lines.proofs.Places.{misses, namesFrom, names-all, names-out, names-stop, names-next, names-lost}
 use Rattle.lines.proofs.names.Statement.{statement}
 use Rattle.lines.proofs.names.Tie as tie
 
@@ -38,24 +38,32 @@ add-join-name : tie.Need-add-join-name Inv-loop μ-loop
 add-join-name c =
     omega (arith, inside (c .before .before .before .before .before .args .s .now) (c .before .before .before .loop .i) (c .before .byte .result) (c .before .byte .ensures) (c .if1 .left))
 
-loop-again : tie.Need-loop-again Inv-loop μ-loop
-loop-again c =
+-- what a name that follows makes of the names that are left
+goes-on : (c : tie.After-join-name Inv-loop μ-loop) → let o = c .before .before .before .before .loop in let a = c .before .before .before .before .before .before .args in
+    namesFrom (o .left - 1) (c .join-name .result .number) (place (a .s .now) (c .join-name .result .end)) ≡ slotAt 83 (place (a .s .now) (a .at))
+goes-on c =
     let l = c .before .before .before .before .before .before .args .s .now in
     let o = c .before .before .before .before .loop in
     let b = c .before .before .byte in
-    let x = c .join-name in
-    let h = inside l (o .i) (b .result) (b .ensures) (c .before .if1 .left) in (
-      sym (names-next (o .left) (o .set) l (o .i) (c .before .before .before .loop-test .taken) (x .result) h (sym (b .ensures) ∙ c .before .if1 .left) (x .ensures)) ∙ o .inv .0,
-      λ q. x .ensures .number ∙ ap value (seen-out l (x .result) (joined (o .set) (slotAt 67 (place l (o .i + 1)))) (x .ensures) q),
-    )
+    let h = inside l (o .i) (b .result) (b .ensures) (c .before .if1 .left) in
+    sym (names-next (o .left) (o .set) l (o .i) (c .before .before .before .loop-test .taken) (c .join-name .result) h (sym (b .ensures) ∙ c .before .if1 .left) (c .join-name .ensures)) ∙ o .inv .0
 
--- more names than a set has members
+-- no name is there, or it is not above the others
 returns-2 : tie.Need-returns-2 Inv-loop μ-loop
 returns-2 c =
+    let a = c .before .before .before .before .before .before .before .before .args in
+    let l = a .s .now in
+    let x = c .before .before .join-name .result in
+    misses l (c .missing .result) (slotAt 83 (place l (a .at))) (c .missing .ensures .0) (omega (arith, c .missing .ensures .1))
+    (sym (goes-on (c .before .before)) ∙ names-lost (c .before .before .before .before .before .before .loop .left - 1) (x .number) l (x .end) (c .before .if2 .taken))
+
+-- more names than a set has members
+returns-3 : tie.Need-returns-3 Inv-loop μ-loop
+returns-3 c =
     let a = c .before .before .before .before .args in
     let l = a .s .now in
     let o = c .before .before .loop in
-    misses l (c .missing .result) (slotAt 83 (place l (a .at))) (c .missing .ensures .0) (omega (arith, c .missing .ensures .1))
+    misses l (c .missing2 .result) (slotAt 83 (place l (a .at))) (c .missing2 .ensures .0) (omega (arith, c .missing2 .ensures .1))
     (sym (o .inv .0) ∙ names-out (o .left) (o .set) (place l (o .i)) (omega arith))
 
 pub names-spec : {M : Type 1} → statement M
@@ -69,8 +77,10 @@ names-spec =
     returns
     add-join-name
     (λ c κs. c .before .before .before .before .before .pre)
-    (λ c. omega arith)
-    (λ c. omega arith)
-    loop-again
     (λ c κs. tt)
-    returns-2)
+    returns-2
+    (λ c. omega arith)
+    (λ c. omega arith)
+    (λ c. (goes-on (c .before), λ q. absurd (omega arith)))
+    (λ c κs. tt)
+    returns-3)

@@ -17,4 +17,8 @@ read-campaign-spec =
     (λ c κs. search needs)
     (λ c. search needs)
     (λ c κs. search needs)
-    (λ c. cc (place-start (c .before .before .before .before .before .before .before .args .s .now))))
+    (λ c.
+    let a = c .before .before .before .before .before .before .before .args in
+    let x1 = c .before .before .before .before .field .ensures in
+    let x2 = c .before .before .field2 .ensures in
+    rw (← place-start (a .s .now), ← x1 .end, ← x2 .end, ← x1 .number, ← x2 .number) (c .ended .ensures)))

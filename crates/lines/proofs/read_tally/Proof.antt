@@ -25,16 +25,9 @@ read-tally-spec =
     (λ c κs. search needs)
     (λ c.
     let a = c .before .before .before .before .before .before .before .before .before .before .before .before .before .args in
-    rw (
-      ← place-start (a .s .now),
-      ← c .before .before .before .before .before .before .before .before .before .before .field .ensures .end,
-      ← c .before .before .before .before .before .before .before .before .field2 .ensures .end,
-      ← c .before .before .before .before .before .before .field3 .ensures .end,
-      ← c .before .before .before .before .field4 .ensures .end,
-      ← c .before .before .field5 .ensures .end,
-      ← c .before .before .before .before .before .before .before .before .before .before .field .ensures .number,
-      ← c .before .before .before .before .before .before .before .before .field2 .ensures .number,
-      ← c .before .before .before .before .before .before .field3 .ensures .number,
-      ← c .before .before .before .before .field4 .ensures .number,
-      ← c .before .before .field5 .ensures .number,
-    ) (c .ended .ensures)))
+    let x1 = c .before .before .before .before .before .before .before .before .before .before .field .ensures in
+    let x2 = c .before .before .before .before .before .before .before .before .field2 .ensures in
+    let x3 = c .before .before .before .before .before .before .field3 .ensures in
+    let x4 = c .before .before .before .before .field4 .ensures in
+    let x5 = c .before .before .field5 .ensures in
+    rw (← place-start (a .s .now), ← x1 .end, ← x2 .end, ← x3 .end, ← x4 .end, ← x5 .end, ← x1 .number, ← x2 .number, ← x3 .number, ← x4 .number, ← x5 .number) (c .ended .ensures)))

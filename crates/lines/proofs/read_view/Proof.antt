@@ -15,4 +15,7 @@ read-view-spec =
     (λ c κs. search needs)
     (λ c. search needs)
     (λ c κs. search needs)
-    (λ c. cc (place-start (c .before .before .before .before .before .args .s .now))))
+    (λ c.
+    let a = c .before .before .before .before .before .args in
+    let x1 = c .before .before .field .ensures in
+    rw (← place-start (a .s .now), ← x1 .end, ← x1 .number) (c .ended .ensures)))
