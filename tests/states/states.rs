@@ -231,7 +231,8 @@ pub fn broken(day: &Day) -> Vec<Broken> {
         }),
         changed("Filling with an age", day, |d| {
             d.phase = Phase::Filling;
-            (d.views, d.depth, d.width) = (0, 2, 2);
+            // of width 1, so that the age claims nothing
+            (d.views, d.depth, d.width) = (0, 2, 1);
             uncount(d);
             d.campaigns[0].age = 1;
         }),
