@@ -1,0 +1,29 @@
+use borrow.Author.Needs.{needs}
+use native.Mathlib.Omega.{arith}
+use mathlib.Core.Path.{_≡_, refl, ap, sym, _∙_}
+use borrow.Author.Tests.{ne-eqb, eq-eqb}
+use Rattle.harness.specs.Words.{call-of, phase-of, reply-of}
+use Rattle.harness.proofs.words.phase_of.Statement.{statement}
+use Rattle.harness.proofs.words.phase_of.Tie as tie
+use Rattle.harness.proofs.words.phase_of.Reads as reads
+use Rattle.harness.proofs.words.phase_of.Lts as lts
+
+-- src/words.rt:66:1
+returns : tie.Need-returns
+unfolding phase-of
+returns c = simp (c .match .keys1)
+
+-- src/words.rt:66:1
+returns-2 : tie.Need-returns-2
+unfolding phase-of
+returns-2 c = simp (c .match .keys2)
+
+-- src/words.rt:66:1
+returns-3 : tie.Need-returns-3
+unfolding phase-of
+returns-3 c =
+    let k = c .before .args .tag in
+    rw (ne-eqb k 0 (c .match .rest .0 .1), ne-eqb k 1 (c .match .rest .1))
+
+pub phase-of-spec : {M : Type 1} → statement M
+phase-of-spec = tie.close (tie.spec returns returns-2 returns-3)

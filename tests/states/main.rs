@@ -1,0 +1,467 @@
+//! The proved operations against the second program's, on states that need not be those of any day.
+
+mod library;
+mod model;
+mod random;
+mod states;
+
+use library::{operate, OUTCOME, STATE};
+use model::{Call, KINDS};
+use random::Random;
+use second::day::{Day, Phase, MAX_BUDGET, MAX_PRICE, MAX_VIEWS};
+use states::{EDGES, PLANS};
+
+/// What the lent words hold before a call, so that a word left untouched is seen.
+const BLANK: u64 = 0x5a5a_5a5a_5a5a_5a5a;
+/// The words of a state or the lengths of the slices are none that the library reads.
+const UNREADABLE: u64 = 1;
+
+#[derive(Default)]
+struct Tally {
+    groups: u64,
+    calls: u64,
+    accepted: u64,
+    unsound: u64,
+}
+
+impl Tally {
+    /// One call on one state, by both; gives what both hand back.
+    fn compare(&mut self, day: &Day, call: Call) -> [u64; OUTCOME] {
+        let state = model::words(day);
+        let mut out = [BLANK; OUTCOME];
+        let status = operate(&state, call.kind, call.a, call.b, &mut out);
+        let (due_status, due) = if model::fits(&state) {
+            (0, model::outcome(day, call))
+        } else {
+            (UNREADABLE, [BLANK; OUTCOME])
+        };
+        if (status, out) != (due_status, due) {
+            self.differ(day, call, (status, &out), (due_status, &due));
+        }
+        self.calls += 1;
+        match due[STATE..STATE + 2] {
+            [0, 1] => self.unsound += 1,
+            [1..=5, _] => self.accepted += 1,
+            _ => {}
+        }
+        due
+    }
+
+    fn differ(&self, day: &Day, call: Call, found: (u64, &[u64]), due: (u64, &[u64])) -> ! {
+        println!("state: {day:?}");
+        println!("call: {call:?}");
+        println!("library: status {}, {:?}", found.0, found.1);
+        println!("second program: status {}, {:?}", due.0, due.1);
+        println!("{} passed, 1 failed", self.groups);
+        std::process::exit(1);
+    }
+
+    /// A call that must be refused with question 1.
+    fn refused(&mut self, rule: &str, day: &Day, call: Call) {
+        let due = self.compare(day, call);
+        if due[STATE..STATE + 2] != [0, 1] {
+            println!("state: {day:?}\nnot refused with 1, though it breaks a rule: {rule}");
+            println!("{} passed, 1 failed", self.groups);
+            std::process::exit(1);
+        }
+    }
+
+    fn end(&mut self, group: &str, before: (u64, u64, u64)) {
+        self.groups += 1;
+        let (calls, accepted, unsound) = before;
+        println!(
+            "{group}: {} calls, {} accepted, {} on unsound states",
+            self.calls - calls,
+            self.accepted - accepted,
+            self.unsound - unsound
+        );
+    }
+
+    fn group(&mut self, name: &str, body: impl FnOnce(&mut Tally)) {
+        let before = (self.calls, self.accepted, self.unsound);
+        body(self);
+        self.end(name, before);
+    }
+}
+
+/// A call with arguments that fit the state, are next to a limit, or are any number.
+fn made_call(random: &mut Random, day: &Day) -> Call {
+    let kind = random.below(KINDS);
+    let edge = |random: &mut Random| random.pick(&EDGES);
+    let (a, b) = match (kind, random.below(4)) {
+        (0, 0..=1) => random.pick(&PLANS),
+        (0, 2) => (random.below(35), random.below(19)),
+        (1, 0..=1) => {
+            let price = random.spread(1, MAX_PRICE);
+            (price, random.spread(price, MAX_BUDGET))
+        }
+        (3, 0..=2) => {
+            let size = 1 + random.below(day.width.min(17));
+            (random.set(day.count.min(64), size), 0)
+        }
+        (4, 0..=2) => (random.below(day.count.min(64) + 1), 0),
+        _ => (edge(random), edge(random)),
+    };
+    Call { kind, a, b }
+}
+
+/// Each kind of call with arguments at the limits.
+fn edge_calls(day: &Day) -> Vec<Call> {
+    let n = day.count.min(64);
+    let planned = if n == 64 { u64::MAX } else { (1 << n) - 1 };
+    let mut calls = vec![];
+    for depth in [0, 1, 32, 33, u64::MAX] {
+        for width in [0, 1, 2, 16, 17, u64::MAX] {
+            calls.push(Call {
+                kind: 0,
+                a: depth,
+                b: width,
+            });
+        }
+    }
+    for (depth, width) in [(8, 16), (9, 16), (20, 3), (21, 3), (16, 4), (17, 4)] {
+        calls.push(Call {
+            kind: 0,
+            a: depth,
+            b: width,
+        });
+    }
+    let sum: u128 = day.campaigns.iter().map(|c| u128::from(c.budget)).sum();
+    let room = MAX_BUDGET.saturating_sub(sum.min(u128::from(MAX_BUDGET)) as u64);
+    for price in [0, 1, MAX_PRICE, MAX_PRICE + 1, u64::MAX] {
+        for budget in [
+            0,
+            1,
+            price.wrapping_sub(1),
+            price,
+            room,
+            room + 1,
+            MAX_BUDGET,
+            MAX_BUDGET + 1,
+            u64::MAX,
+        ] {
+            calls.push(Call {
+                kind: 1,
+                a: price,
+                b: budget,
+            });
+        }
+    }
+    calls.push(Call {
+        kind: 2,
+        a: 0,
+        b: 0,
+    });
+    let first = |k: u64| planned & if k >= 64 { u64::MAX } else { (1 << k) - 1 };
+    let d = day.width.min(64);
+    for set in [
+        0,
+        1,
+        planned,
+        first(d),
+        first(d + 1),
+        planned.wrapping_add(1),
+        1 << 63,
+        u64::MAX,
+    ] {
+        calls.push(Call {
+            kind: 3,
+            a: set,
+            b: 0,
+        });
+    }
+    for campaign in [0, n.wrapping_sub(1), n, 63, 64, u64::MAX] {
+        calls.push(Call {
+            kind: 4,
+            a: campaign,
+            b: 0,
+        });
+    }
+    calls.push(Call {
+        kind: 5,
+        a: 0,
+        b: 0,
+    });
+    calls
+}
+
+/// The six kinds, with arguments that would be accepted in the right phase.
+fn plain_calls() -> [Call; 6] {
+    [
+        (0, 2, 2),
+        (1, 5, 10),
+        (2, 0, 0),
+        (3, 1, 0),
+        (4, 0, 0),
+        (5, 0, 0),
+    ]
+    .map(|(kind, a, b)| Call { kind, a, b })
+}
+
+fn all_edges(tally: &mut Tally, day: &Day) {
+    for call in edge_calls(day) {
+        tally.compare(day, call);
+    }
+}
+
+/// Calls on the state that the call before handed back, as a day runs.
+fn days(tally: &mut Tally, seed: u64) {
+    let mut random = Random::new(seed);
+    for _ in 0..700 {
+        let n = states::size(&mut random);
+        let mut day = Day::blank();
+        let plan = random.pick(&PLANS);
+        tally.compare(
+            &day,
+            Call {
+                kind: 0,
+                a: plan.0,
+                b: plan.1,
+            },
+        );
+        day = states::filled(&mut random, n);
+        for _ in 0..6 {
+            tally.compare(&day, made_call(&mut random, &day));
+        }
+        tally.compare(
+            &day,
+            Call {
+                kind: 2,
+                a: 0,
+                b: 0,
+            },
+        );
+        day = day.start().0;
+        for _ in 0..80 {
+            let set = random.set(n, day.width);
+            tally.compare(
+                &day,
+                Call {
+                    kind: 3,
+                    a: set,
+                    b: 0,
+                },
+            );
+            day = day.view(set).0;
+            if random.one_in(4) {
+                tally.compare(&day, made_call(&mut random, &day));
+            }
+        }
+        tally.compare(
+            &day,
+            Call {
+                kind: 5,
+                a: 0,
+                b: 0,
+            },
+        );
+        day = day.close().0;
+        for _ in 0..4 {
+            tally.compare(&day, made_call(&mut random, &day));
+        }
+    }
+}
+
+fn mutations(tally: &mut Tally, seed: u64) {
+    let mut random = Random::new(seed);
+    for _ in 0..4_000 {
+        let n = states::size(&mut random);
+        let views = random.below(30);
+        let base = match random.below(6) {
+            0 => states::filled(&mut random, n),
+            1 => states::run(&mut random, n, views).close().0,
+            2 => states::made_up(&mut random),
+            _ => states::run(&mut random, n, views),
+        };
+        for _ in 0..30 {
+            let mut day = base.clone();
+            for _ in 0..1 + random.below(3) / 2 {
+                states::mutate(&mut random, &mut day);
+            }
+            tally.compare(&day, made_call(&mut random, &day));
+        }
+    }
+}
+
+/// Sound states that no day reaches, up to the last turn that the total claim leaves room for.
+fn unreachable(tally: &mut Tally, seed: u64) {
+    let mut random = Random::new(seed);
+    for _ in 0..5_000 {
+        let day = states::made_up(&mut random);
+        for _ in 0..6 {
+            tally.compare(&day, made_call(&mut random, &day));
+        }
+        for call in plain_calls() {
+            tally.compare(&day, call);
+        }
+    }
+}
+
+fn broken_rules(tally: &mut Tally, seed: u64) {
+    let mut random = Random::new(seed);
+    for _ in 0..60 {
+        let day = states::sturdy(&mut random);
+        assert!(day.is_sound());
+        for (rule, broken) in states::broken(&day) {
+            for call in plain_calls() {
+                tally.refused(rule, &broken, call);
+            }
+        }
+    }
+}
+
+/// One turn, one age or one play past what full allows.
+fn claims(tally: &mut Tally, seed: u64) {
+    let mut random = Random::new(seed);
+    let mut past = 0;
+    for _ in 0..4_000 {
+        let day = states::made_up(&mut random);
+        let n = day.count as usize;
+        for at in 0..n.min(6) {
+            let mut next = day.clone();
+            let c = &mut next.campaigns[at];
+            if random.one_in(2) && c.turns < c.named {
+                c.turns += 1;
+            } else {
+                c.age += 1;
+            }
+            past += u64::from(!next.is_sound());
+            for kind in [2, 3, 5] {
+                tally.compare(&next, Call { kind, a: 1, b: 0 });
+            }
+        }
+    }
+    assert!(past > 1_000);
+}
+
+fn overflow(tally: &mut Tally) {
+    let day = states::overflow();
+    for call in plain_calls() {
+        tally.refused("total claim above full", &day, call);
+    }
+    // the same by closing, and with fewer turns, down to a state that is sound
+    let mut turns = 4_096;
+    while turns > 0 {
+        turns /= 2;
+        let mut fewer = day.clone();
+        fewer.campaigns[1].turns = turns;
+        all_edges(tally, &fewer);
+        states::close(&mut fewer);
+        all_edges(tally, &fewer);
+    }
+}
+
+/// Full plans, full days and spent campaigns.
+fn limits(tally: &mut Tally, seed: u64) {
+    let mut random = Random::new(seed);
+    for (depth, width) in PLANS {
+        for n in [0, 1, 2, 63, 64] {
+            let mut day = Day::blank().open(depth, width).0;
+            for i in 0..n {
+                let left = MAX_BUDGET - day.campaigns.iter().map(|c| c.budget).sum::<u64>();
+                let budget = if i + 1 == n {
+                    left
+                } else {
+                    left.min(MAX_BUDGET / 64)
+                };
+                day = day.add(random.pick(&[1, 2, 999_983, MAX_PRICE]), budget).0;
+            }
+            all_edges(tally, &day);
+            day = day.start().0;
+            all_edges(tally, &day);
+            for views in [MAX_VIEWS - 2, MAX_VIEWS - 1, MAX_VIEWS] {
+                let mut late = day.clone();
+                late.views = views;
+                for c in &mut late.campaigns[..n as usize] {
+                    c.plays = (c.budget / c.price).min(views) - random.below(2);
+                    c.turns = c.plays;
+                    c.named = views;
+                    c.age = random.pick(&[0, depth - 1]);
+                }
+                all_edges(tally, &late);
+                late.campaigns.iter_mut().for_each(|c| c.age = 0);
+                all_edges(tally, &late);
+                states::close(&mut late);
+                all_edges(tally, &late);
+            }
+        }
+    }
+}
+
+/// Slices of another length, an unknown phase and numbers too wide: nothing is written.
+fn unreadable(tally: &mut Tally) {
+    let good = model::words(&Day::blank());
+    let mut check = |state: &[u64], len: usize, due: u64| {
+        let mut out = vec![BLANK; len];
+        for kind in 0..KINDS {
+            let status = operate(state, kind, 1, 1, &mut out);
+            let untouched = out.iter().all(|&w| w == BLANK);
+            if status != due || untouched != (due == UNREADABLE) {
+                println!("words: {state:?}, kind {kind}, status {status}, {len} words lent");
+                println!("{} passed, 1 failed", tally.groups);
+                std::process::exit(1);
+            }
+            tally.calls += 1;
+            out.fill(BLANK);
+        }
+    };
+    check(&good, OUTCOME, 0);
+    for len in [0, 1, STATE - 1, STATE + 1, OUTCOME] {
+        check(&vec![0; len], OUTCOME, UNREADABLE);
+    }
+    for len in [0, 1, STATE, OUTCOME - 1, OUTCOME + 1] {
+        check(&good, len, UNREADABLE);
+    }
+    for tag in [3, 4, 1 << 32, u64::MAX] {
+        let mut state = good;
+        state[0] = tag;
+        check(&state, OUTCOME, UNREADABLE);
+    }
+    for at in 6..STATE {
+        let limit = if at < 134 { 1u64 << 32 } else { 1 << 16 };
+        for (value, due) in [(limit - 1, 0), (limit, UNREADABLE), (u64::MAX, UNREADABLE)] {
+            let mut state = good;
+            state[at] = value;
+            check(&state, OUTCOME, due);
+        }
+    }
+}
+
+/// The blank state, and its phase and takings changed.
+fn blank(tally: &mut Tally) {
+    for phase in [
+        Phase::Closed(0),
+        Phase::Closed(1),
+        Phase::Closed(u64::MAX),
+        Phase::Filling,
+        Phase::Running,
+    ] {
+        let mut day = Day::blank();
+        day.phase = phase;
+        all_edges(tally, &day);
+        for (depth, width) in PLANS {
+            (day.depth, day.width) = (depth, width);
+            all_edges(tally, &day);
+        }
+    }
+}
+
+fn main() {
+    let mut tally = Tally::default();
+    tally.group("the blank state", blank);
+    tally.group("words that are no state", unreadable);
+    tally.group("claims beyond 64 bits", overflow);
+    for seed in 1..=3 {
+        tally.group("days", |t| days(t, seed));
+        tally.group("one rule broken", |t| broken_rules(t, 10 + seed));
+        tally.group("states that no day reaches", |t| unreachable(t, 20 + seed));
+        tally.group("claims next to full", |t| claims(t, 30 + seed));
+        tally.group("limits", |t| limits(t, 40 + seed));
+        tally.group("one number or two changed", |t| mutations(t, 50 + seed));
+    }
+    println!(
+        "{} calls compared: {} accepted, {} on unsound states",
+        tally.calls, tally.accepted, tally.unsound
+    );
+    println!("{} passed, 0 failed", tally.groups);
+}

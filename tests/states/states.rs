@@ -1,0 +1,314 @@
+//! States to try: real days, made-up ones, and ones with a rule broken.
+
+use crate::random::Random;
+use second::day::{Campaign, Day, Phase, MAX_BUDGET, MAX_CAMPAIGNS, MAX_PRICE, MAX_VIEWS};
+
+/// The plans at the edge of question 5, and some inside.
+pub const PLANS: [(u64, u64); 22] = [
+    (1, 1),
+    (2, 1),
+    (31, 1),
+    (32, 1),
+    (1, 2),
+    (2, 2),
+    (31, 2),
+    (32, 2),
+    (3, 3),
+    (19, 3),
+    (20, 3),
+    (16, 4),
+    (13, 5),
+    (12, 6),
+    (11, 7),
+    (10, 8),
+    (10, 9),
+    (9, 10),
+    (8, 13),
+    (8, 16),
+    (1, 16),
+    (4, 4),
+];
+
+/// Money and counts next to the limits, and the ends of the widths that hold them.
+pub const EDGES: [u64; 28] = [
+    0,
+    1,
+    2,
+    3,
+    15,
+    16,
+    17,
+    31,
+    32,
+    33,
+    63,
+    64,
+    65,
+    MAX_VIEWS - 1,
+    MAX_VIEWS,
+    MAX_VIEWS + 1,
+    (1 << 16) - 1,
+    1 << 16,
+    MAX_PRICE - 1,
+    MAX_PRICE,
+    MAX_PRICE + 1,
+    MAX_BUDGET - 1,
+    MAX_BUDGET,
+    MAX_BUDGET + 1,
+    (1 << 32) - 1,
+    1 << 32,
+    u64::MAX - 1,
+    u64::MAX,
+];
+
+/// Terms for a plan of n campaigns: cheap and dear, few plays and many.
+fn terms(random: &mut Random, n: u64) -> (u64, u64) {
+    let share = MAX_BUDGET / n.max(1);
+    let price = random.spread(1, MAX_PRICE.min(share));
+    let plays = random.spread(1, share / price);
+    let rest = random.below(price);
+    (price, (price * plays + rest).min(share))
+}
+
+/// A plan with n campaigns, still in Filling.
+pub fn filled(random: &mut Random, n: u64) -> Day {
+    let (depth, width) = random.pick(&PLANS);
+    let mut day = Day::blank().open(depth, width).0;
+    let same = terms(random, n);
+    for _ in 0..n {
+        let (price, budget) = if random.one_in(4) {
+            same
+        } else {
+            terms(random, n)
+        };
+        day = day.add(price, budget).0;
+    }
+    day
+}
+
+/// A day that has run for some views.
+pub fn run(random: &mut Random, n: u64, views: u64) -> Day {
+    let mut day = filled(random, n).start().0;
+    for _ in 0..views {
+        let set = random.set(day.count, day.width);
+        day = day.view(set).0;
+    }
+    day
+}
+
+pub fn size(random: &mut Random) -> u64 {
+    random.pick(&[0, 1, 1, 2, 2, 3, 5, 8, 16, 33, 63, 64])
+}
+
+/// The counts of a sound state that no day reaches: any plays, turns at least the plays, then ages and further turns for
+/// as long as the total claim stays within full.
+pub fn made_up(random: &mut Random) -> Day {
+    let n = size(random);
+    let mut day = filled(random, n);
+    day.phase = Phase::Running;
+    day.views = random.pick(&[1, 2, 40, MAX_VIEWS - 1, MAX_VIEWS]);
+    for i in 0..n as usize {
+        let c = &mut day.campaigns[i];
+        c.plays = random.spread(0, (c.budget / c.price).min(day.views));
+        c.turns = c.plays;
+        c.named = random.spread(c.turns, day.views);
+    }
+    for _ in 0..2 * n {
+        let i = random.below(n) as usize;
+        let was = day.campaigns[i];
+        if random.one_in(2) {
+            day.campaigns[i].age = random.below(day.depth);
+        } else {
+            day.campaigns[i].turns = random.spread(was.turns, was.named);
+        }
+        if !day.is_sound() {
+            day.campaigns[i] = was;
+        }
+    }
+    if random.one_in(3) {
+        close(&mut day);
+    }
+    day
+}
+
+/// Closed with the takings of its counts.
+pub fn close(day: &mut Day) {
+    let takings = day.campaigns.iter().map(|c| c.price * c.plays).sum();
+    day.phase = Phase::Closed(takings);
+}
+
+fn field(c: &mut Campaign, which: u64) -> &mut u64 {
+    match which {
+        0 => &mut c.price,
+        1 => &mut c.budget,
+        2 => &mut c.plays,
+        3 => &mut c.turns,
+        4 => &mut c.age,
+        _ => &mut c.named,
+    }
+}
+
+/// Another number: next to the one there, at an edge, or any.
+fn other(random: &mut Random, was: u64) -> u64 {
+    match random.below(8) {
+        0..=1 => was.wrapping_add(1),
+        2..=3 => was.wrapping_sub(1),
+        4..=5 => random.pick(&EDGES),
+        6 => random.spread(0, 1 << 16),
+        _ => random.next() >> random.below(64),
+    }
+}
+
+/// The state with one number changed.
+pub fn mutate(random: &mut Random, day: &mut Day) {
+    let at = if random.one_in(4) {
+        random.below(MAX_CAMPAIGNS)
+    } else {
+        random.below((day.count + 1).min(MAX_CAMPAIGNS))
+    };
+    match random.below(10) {
+        0 => day.depth = other(random, day.depth),
+        1 => day.width = other(random, day.width),
+        2 => day.count = other(random, day.count),
+        3 => day.views = other(random, day.views),
+        4 => {
+            day.phase = match random.below(3) {
+                0 => Phase::Filling,
+                1 => Phase::Running,
+                _ => match day.phase {
+                    Phase::Closed(takings) => Phase::Closed(other(random, takings)),
+                    _ => Phase::Closed(random.spread(0, MAX_BUDGET)),
+                },
+            }
+        }
+        _ => {
+            let which = random.below(6);
+            let value = field(&mut day.campaigns[at as usize], which);
+            *value = other(random, *value);
+        }
+    }
+}
+
+/// A state with the name of the rule that it breaks.
+pub type Broken = (&'static str, Day);
+
+fn changed(rule: &'static str, day: &Day, change: impl FnOnce(&mut Day)) -> Broken {
+    let mut day = day.clone();
+    change(&mut day);
+    (rule, day)
+}
+
+/// Every rule of soundness broken alone, in a sound state that is Running with at least two campaigns, fewer than 64
+/// of them and fewer than 4,096 views.
+pub fn broken(day: &Day) -> Vec<Broken> {
+    let n = day.count as usize;
+    let mut all = vec![
+        changed("depth 0", day, |d| d.depth = 0),
+        changed("depth 33", day, |d| d.depth = 33),
+        changed("depth 2^64 - 1", day, |d| d.depth = u64::MAX),
+        changed("width 0", day, |d| d.width = 0),
+        changed("width 17", day, |d| d.width = 17),
+        changed("width 2^64 - 1", day, |d| d.width = u64::MAX),
+        changed("power 3^21", day, |d| (d.depth, d.width) = (21, 3)),
+        changed("power 16^9", day, |d| (d.depth, d.width) = (9, 16)),
+        changed("power 16^32", day, |d| (d.depth, d.width) = (32, 16)),
+        changed("65 campaigns", day, |d| d.count = 65),
+        changed("2^64 - 1 campaigns", day, |d| d.count = u64::MAX),
+        changed("a campaign that is all zero", day, |d| d.count += 1),
+        changed("an entry past the last", day, |d| d.count -= 1),
+        changed("4097 views", day, |d| d.views = 4_097),
+        changed("2^64 - 1 views", day, |d| d.views = u64::MAX),
+        changed("Closed with other takings", day, |d| {
+            close(d);
+            if let Phase::Closed(takings) = &mut d.phase {
+                *takings += 1;
+            }
+        }),
+        changed("Filling with a view", day, |d| {
+            d.phase = Phase::Filling;
+            d.views = 1;
+            uncount(d);
+        }),
+        changed("Filling with an age", day, |d| {
+            d.phase = Phase::Filling;
+            // of width 1, so that the age claims nothing
+            (d.views, d.depth, d.width) = (0, 2, 1);
+            uncount(d);
+            d.campaigns[0].age = 1;
+        }),
+    ];
+    for which in 0..6 {
+        for at in [n, 63] {
+            all.push(changed("an entry past the last", day, |d| {
+                *field(&mut d.campaigns[at], which) = 1;
+            }));
+        }
+    }
+    for at in [0, n - 1] {
+        let c = day.campaigns[at];
+        let one = |rule, change: &dyn Fn(&mut Campaign)| {
+            changed(rule, day, |d| change(&mut d.campaigns[at]))
+        };
+        all.push(one("price 0", &|c| (c.price, c.plays) = (0, 0)));
+        all.push(one("price above 1,000,000", &|c| c.price = MAX_PRICE + 1));
+        all.push(one("budget below price", &|c| c.budget = c.price - 1));
+        all.push(one("budget above 2,000,000,000", &|c| {
+            c.budget = MAX_BUDGET + 1
+        }));
+        all.push(changed("sum of budgets", day, |d| {
+            let others = d.campaigns.iter().map(|c| c.budget).sum::<u64>() - c.budget;
+            d.campaigns[at].budget = MAX_BUDGET + 1 - others;
+        }));
+        all.push(one("age at depth", &|c| c.age = day.depth));
+        all.push(one("age 65535", &|c| c.age = 65_535));
+        all.push(one("plays above turns", &|c| {
+            c.turns = c.plays.saturating_sub(1)
+        }));
+        all.push(one("turns above named", &|c| c.turns = c.named + 1));
+        all.push(one("named above views", &|c| c.named = day.views + 1));
+        all.push(one("plays above whole plays", &|c| {
+            c.budget = c.price * c.plays - 1
+        }));
+    }
+    all
+}
+
+fn uncount(day: &mut Day) {
+    for c in &mut day.campaigns {
+        (c.plays, c.turns, c.age, c.named) = (0, 0, 0, 0);
+    }
+}
+
+/// A running day whose every campaign has at least two plays, and cents and views left.
+pub fn sturdy(random: &mut Random) -> Day {
+    loop {
+        let n = 2 + random.below(6);
+        let (depth, width) = random.pick(&[(1, 2), (2, 2), (3, 2), (2, 3), (4, 4), (8, 16)]);
+        let mut day = Day::blank().open(depth, width).0;
+        for _ in 0..n {
+            let price = 2 + random.below(90);
+            day = day.add(price, price * (3 + random.below(60)) + 1).0;
+        }
+        day = day.start().0;
+        for _ in 0..60 * n {
+            let set = random.set(n, width);
+            day = day.view(set).0;
+        }
+        if day.campaigns[..n as usize].iter().all(|c| c.plays >= 2) {
+            return day;
+        }
+    }
+}
+
+/// A state whose claims add up to more than 64 bits hold, and so little above full that a sum that wraps would pass.
+pub fn overflow() -> Day {
+    let mut day = Day::blank().open(32, 2).0;
+    day = day.add(1_000_000, 1_999_000_000).0;
+    day = day.add(1_000_000, 1_000_000).0;
+    day = day.start().0;
+    day.views = 4_096;
+    for (c, (plays, turns)) in day.campaigns.iter_mut().zip([(1_999, 1_999), (0, 4_096)]) {
+        (c.plays, c.turns, c.named) = (plays, turns, 4_096);
+    }
+    day
+}
