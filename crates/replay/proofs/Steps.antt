@@ -1,5 +1,5 @@
 -- The calls one by one: the takings fit, the words in hand decode one call at a time, and the last state and takings are the list's.
-use mathlib.Core.Path.{_≡_, refl, ap, ap₂, sym, _∙_, subst}
+use mathlib.Core.Path.{_≡_, refl, ap, ap₂, sym, _∙_, subst, subst⁻¹}
 use mathlib.Core.Bool.{Bool, true, false, cond}
 use mathlib.Core.List.{List, [], _∷_, _++_}
 use Prim.Native.Nat.{ℕ, zero, suc, _+_, _-_, _*_, _^_, _≤_, _<_}
@@ -75,7 +75,7 @@ module _ (s : Day) (p : ℕ) (b : p ≤ 1_000_000 * s .accepted) where
       call-elim (λ (o : Outcome). p + paid-in (o .answer) < 2 ^ 64) s (show-view w) (λ q. omega arith)
       (λ y. omega (arith, pays-most s w (sound-facts s (y .0)), ltb-true (s .accepted) 4_096 (y .1 .1 .0)))
 
-pub all-bounded : (cs : List Call) (r : Replayed) → Bounded r → Bounded (after-all r cs)
+all-bounded : (cs : List Call) (r : Replayed) → Bounded r → Bounded (after-all r cs)
 unfolding after-all
 all-bounded [] r b = b
 all-bounded (c ∷ cs) r b = all-bounded cs (after r c) (bounded (r .day) (r .paid) b c)
@@ -85,7 +85,7 @@ unfolding after-all
 after-append [] ds r = refl
 after-append (c ∷ cs) ds r = after-append cs ds (after r c)
 
--- three words in hand at i
+-- three words in hand
 module _ (ws : List ℕ) where
   cons : (j k : ℕ) → k ≡ suc j → j < length ws → drop j ws ≡ getD ws j 0 ∷ drop k ws
   cons j k e h = rw e (drop-cons ws j 0 h)
@@ -96,12 +96,18 @@ module _ (ws : List ℕ) where
       ∙ ap (λ (l : List ℕ). getD ws i 0 ∷ l) (cons (i + 1) (i + 2) (omega arith) (omega arith)
       ∙ ap (λ (l : List ℕ). getD ws (i + 1) 0 ∷ l) (cons (i + 2) (i + 3) (omega arith) (omega arith)))
 
-pub decode-step : (ws : List ℕ) (i : ℕ) → i + 3 ≤ length ws → (r : Replayed)
-    → after-all r (decode (drop i ws)) ≡ after-all (after-all r (call-in (getD ws i 0) (getD ws (i + 1) 0) (getD ws (i + 2) 0))) (decode (drop (i + 3) ws))
-unfolding decode
-decode-step ws i h r =
-    ap (λ (l : List ℕ). after-all r (decode l)) (three ws i h)
-    ∙ after-append (call-in (getD ws i 0) (getD ws (i + 1) 0) (getD ws (i + 2) 0)) (decode (drop (i + 3) ws)) r
+-- and a turn of the loop: what is left to run comes to the same, and the takings stay bounded
+module _ (ws : List ℕ) (i : ℕ) (h : i + 3 ≤ length ws) (r next whole : Replayed) (e : next ≡ after-all r (call-in (getD ws i 0) (getD ws (i + 1) 0) (getD ws (i + 2) 0))) where
+  pub same-end : after-all r (decode (drop i ws)) ≡ whole → after-all next (decode (drop (i + 3) ws)) ≡ whole
+  unfolding decode
+  same-end q =
+      ap (λ (x : Replayed). after-all x (decode (drop (i + 3) ws))) e
+      ∙ sym (after-append (call-in (getD ws i 0) (getD ws (i + 1) 0) (getD ws (i + 2) 0)) (decode (drop (i + 3) ws)) r)
+      ∙ sym (ap (λ (l : List ℕ). after-all r (decode l)) (three ws i h))
+      ∙ q
+
+  pub still-bounded : Bounded r → Bounded next
+  still-bounded b = subst⁻¹ Bounded e (all-bounded (call-in (getD ws i 0) (getD ws (i + 1) 0) (getD ws (i + 2) 0)) r b)
 
 -- fewer than three
 decode-short : (l : List ℕ) → length l < 3 → decode l ≡ []
@@ -152,12 +158,12 @@ entered-paid h (show-view w) a = paid-by (accepted a) (with-call h (show-view w)
 entered-paid h (ask-tally i) a = paid-by (accepted a) h h ∙ either-way (accepted a) (h .paid)
 entered-paid h close-day a = paid-by (accepted a) h h ∙ either-way (accepted a) (h .paid)
 
-pub after-final : (cs : List Call) (s : Day) (p : ℕ) → after-all (at s p) cs .day ≡ final s cs
+after-final : (cs : List Call) (s : Day) (p : ℕ) → after-all (at s p) cs .day ≡ final s cs
 unfolding after-all final
 after-final [] s p = refl
 after-final (c ∷ cs) s p = after-final cs (call s c .day) (takings-after p c (call s c .answer))
 
-pub after-paid : (cs : List Call) (s : Day) (h : History) → after-all (at s (h .paid)) cs .paid ≡ continued h (transcript s cs) .paid
+after-paid : (cs : List Call) (s : Day) (h : History) → after-all (at s (h .paid)) cs .paid ≡ continued h (transcript s cs) .paid
 unfolding after-all transcript continued
 after-paid [] s h = refl
 after-paid (c ∷ cs) s h =

@@ -5,7 +5,7 @@ use lib.ListN.{getD, length, drop}
 use Rattle.replay.specs.declared.Replayed.{Replayed}
 use Rattle.replay.specs.Replay.{call-in, decode}
 use Rattle.replay.specs.Inner.{at, after-all}
-use Rattle.replay.proofs.Steps.{Bounded, all-bounded, decode-step, decode-end, replayed}
+use Rattle.replay.proofs.Steps.{Bounded, same-end, still-bounded, decode-end, replayed}
 use Rattle.replay.proofs.replay.Statement.{statement}
 use Rattle.replay.proofs.replay.Tie as tie
 use Rattle.replay.proofs.replay.Reads as reads
@@ -75,11 +75,11 @@ loop-again : tie.Need-loop-again Inv-loop μ-loop
 loop-again c =
     let ws = c .before .before .before .before .before .before .before .before .args .calls .now in
     let l = c .before .before .before .before .before .before .loop in
-    let e = c .before .step .ensures in
+    let start = at (c .before .before .before .before .before .before .before .before .args .day) 0 in
     let h : l .i + 3 ≤ length ws = omega arith in (
       h,
-      ap (λ (r : Replayed). after-all r (decode (drop (l .i + 3) ws))) e ∙ sym (decode-step ws (l .i) h (at (l .state) (l .paid))) ∙ l .inv .1,
-      rw e (all-bounded (call-in (getD ws (l .i) 0) (getD ws (l .i + 1) 0) (getD ws (l .i + 2) 0)) (at (l .state) (l .paid)) (l .inv .2)),
+      same-end ws (l .i) h (at (l .state) (l .paid)) (c .before .step .result) (after-all start (decode ws)) (c .before .step .ensures) (l .inv .1),
+      still-bounded ws (l .i) h (at (l .state) (l .paid)) (c .before .step .result) (after-all start (decode ws)) (c .before .step .ensures) (l .inv .2),
     )
 
 -- src/lib.rt:131:1
