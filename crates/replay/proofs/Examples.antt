@@ -1,6 +1,6 @@
 -- The two days, by computation.
-use mathlib.Core.Path.{_≡_, refl, ap, sym, _∙_, subst⁻¹}
-use mathlib.Core.List.{List, [], _∷_}
+use mathlib.Core.Path.{_≡_, refl, ap, _∙_, subst⁻¹}
+use mathlib.Core.List.{List}
 use Prim.Native.Nat.{ℕ}
 use Rattle.finite.specs.Finite.{sum, count, every, table}
 use Rattle.sets.specs.Set.{member, size, within}
@@ -14,8 +14,7 @@ use Rattle.day.specs.Calls.{first-no, width-holds, Call, call}
 use Rattle.laws.specs.Transcript.{transcript, final}
 use Rattle.floor.specs.History.{Starts, continued, history}
 use Rattle.floor.specs.History.Starts.{from-blank, from-opening}
-use Rattle.replay.specs.declared.Replayed.{Replayed}
-use Rattle.replay.specs.Replay.{call-in, decode, Replays}
+use Rattle.replay.specs.Replay.{call-in, decode}
 use Rattle.replay.specs.Examples.{Example, Examples, listing, listed, next-day}
 
 example : (s : Day) (words : List ℕ) (calls : List Call) (paid : ℕ) → decode words ≡ calls → Starts s calls → history (transcript s calls) .paid ≡ paid → Example s words calls paid

@@ -1,9 +1,8 @@
 -- The calls one by one: the takings fit, the words in hand decode one call at a time, and the last state and takings are the list's.
-use mathlib.Core.Path.{_≡_, refl, ap, ap₂, sym, _∙_, subst, subst⁻¹}
+use mathlib.Core.Path.{_≡_, refl, ap, sym, _∙_, subst, subst⁻¹}
 use mathlib.Core.Bool.{Bool, true, false, cond}
 use mathlib.Core.List.{List, [], _∷_, _++_}
-use Prim.Native.Nat.{ℕ, zero, suc, _+_, _-_, _*_, _^_, _≤_, _<_}
-use native.Mathlib.Nat.{le-trans, mul-le-mul-left}
+use Prim.Native.Nat.{ℕ, suc, _+_, _*_, _^_, _≤_, _<_}
 use native.Mathlib.Omega.{arith}
 use lib.Dec.{eqb}
 use lib.ListN.{getD, length, take, drop, length-drop, drop-of-length-le}
@@ -25,7 +24,7 @@ use Rattle.day.specs.Calls.Call.{open-plan, add-campaign, start-day, show-view,
 use Rattle.day.proofs.Questions.{Yes, call-elim}
 use Rattle.day.proofs.State.{Sound, sound-facts, held-at}
 use Rattle.laws.specs.Choice.{Right}
-use Rattle.laws.specs.Transcript.{Exchange, transcript, final}
+use Rattle.laws.specs.Transcript.{transcript, final}
 use Rattle.laws.proofs.Choice.{player-right}
 use Rattle.floor.specs.History.{accepted, paid-in, History, opening, with-call, entered, continued, history}
 use Rattle.floor.specs.Floor.{Floor}

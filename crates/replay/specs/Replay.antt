@@ -24,6 +24,23 @@ decode (kind ∷ []) = []
 decode (kind ∷ a ∷ []) = []
 decode (kind ∷ a ∷ b ∷ words) = call-in kind a b ++ decode words
 
+-- the words of calls
+abbrev pub words-of : Call → List ℕ
+words-of (open-plan pl) = 0 ∷ pl .depth ∷ pl .width ∷ []
+words-of (add-campaign t) = 1 ∷ t .price ∷ t .budget ∷ []
+words-of start-day = 2 ∷ 0 ∷ 0 ∷ []
+words-of (show-view w) = 3 ∷ w .set ∷ 0 ∷ []
+words-of (ask-tally i) = 4 ∷ i ∷ 0 ∷ []
+words-of close-day = 5 ∷ 0 ∷ 0 ∷ []
+
+abbrev pub encode : List Call → List ℕ
+encode [] = []
+encode (c ∷ cs) = words-of c ++ encode cs
+
+-- there is no list of calls but some words encode it
+abbrev pub Every-list : Type 0
+Every-list = (cs : List Call) → decode (encode cs) ≡ cs
+
 -- what replaying words from the state s hands back
 pub record Replays (s : Day) (words : List ℕ) (r : Replayed) : Type 0 where
   -- the state at the end of the calls

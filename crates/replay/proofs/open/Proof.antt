@@ -1,37 +1,27 @@
-use mathlib.Core.Path.{_≡_, sym, _∙_}
+-- An opening: its answer tells whether the takings begin again.
+use mathlib.Core.Path.{sym, _∙_}
 use Rattle.replay.proofs.Steps.{opened, not-opened}
 use borrow.Author.Needs.{needs}
 use Rattle.replay.proofs.open.Statement.{statement}
 use Rattle.replay.proofs.open.Tie as tie
-use Rattle.replay.proofs.open.Reads as reads
-use Rattle.replay.proofs.open.Lts as lts
-use Rattle.day.proofs.Day.open.Reads as open-reads
-use Rattle.replay.proofs.keep.Reads as keep-reads
-use Rattle.replay.proofs.number.Reads as number-reads
 
--- src/lib.rt:75:9
 open-requires : tie.Need-open-requires
 open-requires c κs = search needs
 
--- src/lib.rt:77:8
 number-requires : tie.Need-number-requires
 number-requires c κs = search needs
 
--- src/lib.rt:78:9
 keep-requires : tie.Need-keep-requires
 keep-requires c κs = search needs
 
--- src/lib.rt:78:9
 returns : tie.Need-returns
 returns c =
     let a = c .before .before .before .before .args in
     c .keep .ensures ∙ opened (a .day) (a .paid) (a .plan) (c .before .before .before .«open» .result) (c .before .before .before .«open» .ensures) (sym (c .before .before .number .ensures) ∙ c .before .if1 .taken)
 
--- src/lib.rt:80:5
 keep-requires-2 : tie.Need-keep-requires-2
 keep-requires-2 c κs = search needs
 
--- src/lib.rt:72:1
 returns-2 : tie.Need-returns-2
 returns-2 c =
     let a = c .before .before .before .before .args in

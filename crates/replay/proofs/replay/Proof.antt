@@ -1,16 +1,13 @@
+-- The loop keeps that what is left to run, from here, comes to what the whole list comes to from the start.
 use mathlib.Core.Path.{_≡_, refl, ap, sym, _∙_}
-use Prim.Native.Nat.{ℕ, _+_, _-_, _≤_}
+use Prim.Native.Nat.{_+_, _-_, _≤_}
 use native.Mathlib.Omega.{arith}
-use lib.ListN.{getD, length, drop}
-use Rattle.replay.specs.declared.Replayed.{Replayed}
-use Rattle.replay.specs.Replay.{call-in, decode}
+use lib.ListN.{length, drop}
+use Rattle.replay.specs.Replay.{decode}
 use Rattle.replay.specs.Inner.{at, after-all}
 use Rattle.replay.proofs.Steps.{Bounded, same-end, still-bounded, decode-end, replayed}
 use Rattle.replay.proofs.replay.Statement.{statement}
 use Rattle.replay.proofs.replay.Tie as tie
-use Rattle.replay.proofs.replay.Reads as reads
-use Rattle.replay.proofs.replay.Lts as lts
-use Rattle.replay.proofs.step.Reads as step-reads
 
 abbrev Inv-loop : tie.InvT-loop
 Inv-loop calls state₀ paid₀ i₀ state paid i = (i ≤ length calls) × (after-all (at state paid) (decode (drop i calls)) ≡ after-all (at state₀ paid₀) (decode calls)) × Bounded (at state paid)
@@ -18,59 +15,45 @@ Inv-loop calls state₀ paid₀ i₀ state paid i = (i ≤ length calls) × (aft
 abbrev μ-loop : tie.MeasureT-loop
 μ-loop calls state₀ paid₀ i₀ state paid i = length calls - i
 
--- src/lib.rt:137:5
 loop-holds : tie.Need-loop-holds Inv-loop μ-loop
 loop-holds c = (omega arith, refl, omega arith)
 
--- src/lib.rt:137:16
 sub-loop : tie.Need-sub-loop Inv-loop μ-loop
 sub-loop c = omega arith
 
--- src/lib.rt:138:38
 mul-step : tie.Need-mul-step Inv-loop μ-loop
 mul-step c = omega arith
 
--- src/lib.rt:138:38
 shared-slice-read-step : tie.Need-shared-slice-read-step Inv-loop μ-loop
 shared-slice-read-step c = omega arith
 
--- src/lib.rt:138:54
 add-step : tie.Need-add-step Inv-loop μ-loop
 add-step c = omega arith
 
--- src/lib.rt:138:48
 mul-step-2 : tie.Need-mul-step-2 Inv-loop μ-loop
 mul-step-2 c = omega arith
 
--- src/lib.rt:138:48
 shared-slice-read-step-2 : tie.Need-shared-slice-read-step-2 Inv-loop μ-loop
 shared-slice-read-step-2 c = omega arith
 
--- src/lib.rt:138:68
 add-step-2 : tie.Need-add-step-2 Inv-loop μ-loop
 add-step-2 c = omega arith
 
--- src/lib.rt:138:62
 mul-step-3 : tie.Need-mul-step-3 Inv-loop μ-loop
 mul-step-3 c = omega arith
 
--- src/lib.rt:138:62
 shared-slice-read-step-3 : tie.Need-shared-slice-read-step-3 Inv-loop μ-loop
 shared-slice-read-step-3 c = omega arith
 
--- src/lib.rt:138:13
 step-requires : tie.Need-step-requires Inv-loop μ-loop
 step-requires c κs = c .before .before .before .before .loop .inv .2
 
--- src/lib.rt:141:9
 add-i : tie.Need-add-i Inv-loop μ-loop
 add-i c = omega arith
 
--- src/lib.rt:137:5
 loop-less : tie.Need-loop-less Inv-loop μ-loop
 loop-less c = omega arith
 
--- src/lib.rt:137:5
 loop-again : tie.Need-loop-again Inv-loop μ-loop
 loop-again c =
     let ws = c .before .before .before .before .before .before .before .before .args .calls .now in
@@ -82,7 +65,6 @@ loop-again c =
       still-bounded ws (l .i) h (at (l .state) (l .paid)) (c .before .step .result) (after-all start (decode ws)) (c .before .step .ensures) (l .inv .2),
     )
 
--- src/lib.rt:131:1
 returns : tie.Need-returns Inv-loop μ-loop
 unfolding after-all
 returns c =

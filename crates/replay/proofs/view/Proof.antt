@@ -1,3 +1,4 @@
+-- A view: what is paid is added, and fits since the takings so far are bounded by the accepted views.
 use mathlib.Core.Path.{_≡_, ap, _∙_}
 use Prim.Native.Nat.{ℕ, _+_}
 use native.Mathlib.Omega.{arith}
@@ -10,21 +11,13 @@ use Rattle.replay.proofs.Steps.{view-fits}
 use borrow.Author.Needs.{needs}
 use Rattle.replay.proofs.view.Statement.{statement}
 use Rattle.replay.proofs.view.Tie as tie
-use Rattle.replay.proofs.view.Reads as reads
-use Rattle.replay.proofs.view.Lts as lts
-use Rattle.day.proofs.Day.view.Reads as view-reads
-use Rattle.replay.proofs.keep.Reads as keep-reads
-use Rattle.replay.proofs.paid_in.Reads as paid-in-reads
 
--- src/lib.rt:67:9
 view-requires : tie.Need-view-requires
 view-requires c κs = search needs
 
--- src/lib.rt:69:9
 paid-in-requires : tie.Need-paid-in-requires
 paid-in-requires c κs = search needs
 
--- src/lib.rt:70:19
 add-keep : tie.Need-add-keep
 add-keep c =
     let s = c .before .before .args .day in
@@ -32,11 +25,9 @@ add-keep c =
     let e : c .paid-in .result ≡ paid-in (call s (show-view w) .answer) = c .paid-in .ensures ∙ ap (λ (o : Outcome). paid-in (o .answer)) (c .before .view .ensures) in
     omega (arith, view-fits s (c .before .before .args .paid) (c .before .before .pre) w (omega arith))
 
--- src/lib.rt:70:5
 keep-requires : tie.Need-keep-requires
 keep-requires c κs = search needs
 
--- src/lib.rt:63:1
 returns : tie.Need-returns
 returns c =
     let p = c .before .before .before .args .paid in
