@@ -1,4 +1,4 @@
--- Every list of calls is encoded by some words.
+-- Every list of calls is encoded by its words.
 use mathlib.Core.Path.{refl, ap}
 use mathlib.Core.List.{List, [], _∷_}
 use Rattle.day.specs.Calls.{Call}

@@ -79,6 +79,9 @@ unfolding after-all
 all-bounded [] r b = b
 all-bounded (c ∷ cs) r b = all-bounded cs (after r c) (bounded (r .day) (r .paid) b c)
 
+pub still-bounded : (cs : List Call) (r next : Replayed) → next ≡ after-all r cs → Bounded r → Bounded next
+still-bounded cs r next e b = subst⁻¹ Bounded e (all-bounded cs r b)
+
 after-append : (cs ds : List Call) (r : Replayed) → after-all r (cs ++ ds) ≡ after-all (after-all r cs) ds
 unfolding after-all
 after-append [] ds r = refl
@@ -95,18 +98,15 @@ module _ (ws : List ℕ) where
       ∙ ap (λ (l : List ℕ). getD ws i 0 ∷ l) (cons (i + 1) (i + 2) (omega arith) (omega arith)
       ∙ ap (λ (l : List ℕ). getD ws (i + 1) 0 ∷ l) (cons (i + 2) (i + 3) (omega arith) (omega arith)))
 
--- and a turn of the loop: what is left to run comes to the same, and the takings stay bounded
-module _ (ws : List ℕ) (i : ℕ) (h : i + 3 ≤ length ws) (r next whole : Replayed) (e : next ≡ after-all r (call-in (getD ws i 0) (getD ws (i + 1) 0) (getD ws (i + 2) 0))) where
-  pub same-end : after-all r (decode (drop i ws)) ≡ whole → after-all next (decode (drop (i + 3) ws)) ≡ whole
-  unfolding decode
-  same-end q =
-      ap (λ (x : Replayed). after-all x (decode (drop (i + 3) ws))) e
-      ∙ sym (after-append (call-in (getD ws i 0) (getD ws (i + 1) 0) (getD ws (i + 2) 0)) (decode (drop (i + 3) ws)) r)
-      ∙ sym (ap (λ (l : List ℕ). after-all r (decode l)) (three ws i h))
-      ∙ q
-
-  pub still-bounded : Bounded r → Bounded next
-  still-bounded b = subst⁻¹ Bounded e (all-bounded (call-in (getD ws i 0) (getD ws (i + 1) 0) (getD ws (i + 2) 0)) r b)
+-- and a call made of them: what is left to run comes to the same
+pub same-end : (ws : List ℕ) (i : ℕ) → i + 3 ≤ length ws → (r next whole : Replayed) → next ≡ after-all r (call-in (getD ws i 0) (getD ws (i + 1) 0) (getD ws (i + 2) 0))
+    → after-all r (decode (drop i ws)) ≡ whole → after-all next (decode (drop (i + 3) ws)) ≡ whole
+unfolding decode
+same-end ws i h r next whole e q =
+    ap (λ (x : Replayed). after-all x (decode (drop (i + 3) ws))) e
+    ∙ sym (after-append (call-in (getD ws i 0) (getD ws (i + 1) 0) (getD ws (i + 2) 0)) (decode (drop (i + 3) ws)) r)
+    ∙ sym (ap (λ (l : List ℕ). after-all r (decode l)) (three ws i h))
+    ∙ q
 
 -- fewer than three
 decode-short : (l : List ℕ) → length l < 3 → decode l ≡ []

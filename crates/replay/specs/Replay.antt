@@ -24,7 +24,7 @@ decode (kind ∷ []) = []
 decode (kind ∷ a ∷ []) = []
 decode (kind ∷ a ∷ b ∷ words) = call-in kind a b ++ decode words
 
--- the words of calls
+-- the words of calls: kinds and arguments, so that they fit where the arguments do
 abbrev pub words-of : Call → List ℕ
 words-of (open-plan pl) = 0 ∷ pl .depth ∷ pl .width ∷ []
 words-of (add-campaign t) = 1 ∷ t .price ∷ t .budget ∷ []
@@ -37,7 +37,7 @@ abbrev pub encode : List Call → List ℕ
 encode [] = []
 encode (c ∷ cs) = words-of c ++ encode cs
 
--- there is no list of calls but some words encode it
+-- every list of calls is encoded by its words
 abbrev pub Every-list : Type 0
 Every-list = (cs : List Call) → decode (encode cs) ≡ cs
 

@@ -2,8 +2,8 @@
 use mathlib.Core.Path.{_≡_, refl, ap, sym, _∙_}
 use Prim.Native.Nat.{_+_, _-_, _≤_}
 use native.Mathlib.Omega.{arith}
-use lib.ListN.{length, drop}
-use Rattle.replay.specs.Replay.{decode}
+use lib.ListN.{getD, length, drop}
+use Rattle.replay.specs.Replay.{call-in, decode}
 use Rattle.replay.specs.Inner.{at, after-all}
 use Rattle.replay.proofs.Steps.{Bounded, same-end, still-bounded, decode-end, replayed}
 use Rattle.replay.proofs.replay.Statement.{statement}
@@ -62,7 +62,7 @@ loop-again c =
     let h : l .i + 3 ≤ length ws = omega arith in (
       h,
       same-end ws (l .i) h (at (l .state) (l .paid)) (c .before .step .result) (after-all start (decode ws)) (c .before .step .ensures) (l .inv .1),
-      still-bounded ws (l .i) h (at (l .state) (l .paid)) (c .before .step .result) (after-all start (decode ws)) (c .before .step .ensures) (l .inv .2),
+      still-bounded (call-in (getD ws (l .i) 0) (getD ws (l .i + 1) 0) (getD ws (l .i + 2) 0)) (at (l .state) (l .paid)) (c .before .step .result) (c .before .step .ensures) (l .inv .2),
     )
 
 returns : tie.Need-returns Inv-loop μ-loop
