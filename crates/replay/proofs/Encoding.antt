@@ -1,0 +1,16 @@
+-- Every list of calls is encoded by its words.
+use mathlib.Core.Path.{refl, ap}
+use mathlib.Core.List.{List, [], _∷_}
+use Rattle.day.specs.Calls.{Call}
+use Rattle.day.specs.Calls.Call.{open-plan, add-campaign, start-day, show-view, ask-tally, close-day}
+use Rattle.replay.specs.Replay.{call-in, decode, Every-list}
+
+pub every-list : Every-list
+unfolding call-in decode
+every-list [] = refl
+every-list (open-plan pl ∷ cs) = ap (λ (l : List Call). open-plan pl ∷ l) (every-list cs)
+every-list (add-campaign t ∷ cs) = ap (λ (l : List Call). add-campaign t ∷ l) (every-list cs)
+every-list (start-day ∷ cs) = ap (λ (l : List Call). start-day ∷ l) (every-list cs)
+every-list (show-view w ∷ cs) = ap (λ (l : List Call). show-view w ∷ l) (every-list cs)
+every-list (ask-tally i ∷ cs) = ap (λ (l : List Call). ask-tally i ∷ l) (every-list cs)
+every-list (close-day ∷ cs) = ap (λ (l : List Call). close-day ∷ l) (every-list cs)

@@ -1,0 +1,28 @@
+-- The two days, by computation.
+use mathlib.Core.Path.{_≡_, refl, ap, _∙_, subst⁻¹}
+use mathlib.Core.List.{List}
+use Prim.Native.Nat.{ℕ}
+use Rattle.finite.specs.Finite.{sum, count, every, table}
+use Rattle.sets.specs.Set.{member, size, within}
+use Rattle.powers.specs.Power.{weight, share}
+use Rattle.campaigns.specs.Choice.{best, choice}
+use Rattle.campaigns.specs.Campaign.{whole, claim, sound-plan, priced, counted, uncounted, empty, sound-campaign}
+use Rattle.day.specs.declared.Day.{Day}
+use Rattle.day.specs.Day.{blank, taken, claimed, budgeted}
+use Rattle.day.specs.Sound.{sound}
+use Rattle.day.specs.Calls.{first-no, width-holds, Call, call}
+use Rattle.laws.specs.Transcript.{transcript, final}
+use Rattle.floor.specs.History.{Starts, continued, history}
+use Rattle.floor.specs.History.Starts.{from-blank, from-opening}
+use Rattle.replay.specs.Replay.{call-in, decode}
+use Rattle.replay.specs.Examples.{Example, Examples, listing, listed, next-day}
+
+example : (s : Day) (words : List ℕ) (calls : List Call) (paid : ℕ) → decode words ≡ calls → Starts s calls → history (transcript s calls) .paid ≡ paid → Example s words calls paid
+example s words calls paid e st p =
+    let here : Starts s (decode words) = subst⁻¹ (Starts s) e st in
+    let sum-is : history (transcript s (decode words)) .paid ≡ paid = ap (λ (cs : List Call). history (transcript s cs) .paid) e ∙ p in
+    record { encodes = e; starts = here; pays = λ r q. (q .paid-is ∙ sum-is, q .demand-3 here .shown ∙ sum-is) }
+
+pub examples : Examples
+unfolding call-in decode transcript final continued call first-no sound blank sum count every table within size member width-holds weight share whole claim taken claimed budgeted sound-plan priced counted uncounted empty sound-campaign best choice
+examples = (example blank listing listed 16 refl (from-blank listed) refl, example (final blank listed) next-day _ 2 refl (from-opening (final blank listed) _ _ refl) refl)

@@ -1,0 +1,33 @@
+-- An opening: its answer tells whether the takings begin again.
+use mathlib.Core.Path.{sym, _∙_}
+use Rattle.replay.proofs.Steps.{opened, not-opened}
+use borrow.Author.Needs.{needs}
+use Rattle.replay.proofs.open.Statement.{statement}
+use Rattle.replay.proofs.open.Tie as tie
+
+open-requires : tie.Need-open-requires
+open-requires c κs = search needs
+
+number-requires : tie.Need-number-requires
+number-requires c κs = search needs
+
+keep-requires : tie.Need-keep-requires
+keep-requires c κs = search needs
+
+returns : tie.Need-returns
+returns c =
+    let a = c .before .before .before .before .args in
+    c .keep .ensures ∙ opened (a .day) (a .paid) (a .plan) (c .before .before .before .«open» .result) (c .before .before .before .«open» .ensures) (sym (c .before .before .number .ensures) ∙ c .before .if1 .taken)
+
+keep-requires-2 : tie.Need-keep-requires-2
+keep-requires-2 c κs = search needs
+
+returns-2 : tie.Need-returns-2
+returns-2 c =
+    let a = c .before .before .before .before .args in
+    c .keep2 .ensures ∙ not-opened (a .day) (a .paid) (a .plan) (c .before .before .before .«open» .result) (c .before .before .before .«open» .ensures) (λ z. c .before .if1 .left (c .before .before .number .ensures ∙ z))
+
+pub open-spec : {M : Type 1} → statement M
+open-spec =
+    tie.close
+    (tie.spec open-requires number-requires keep-requires returns keep-requires-2 returns-2)

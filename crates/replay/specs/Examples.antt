@@ -1,0 +1,39 @@
+-- The contract of replaying, asked of two days.
+use mathlib.Core.Path.{_≡_}
+use mathlib.Core.List.{List, [], _∷_}
+use Prim.Native.Nat.{ℕ}
+use Rattle.day.specs.declared.Day.{Day}
+use Rattle.day.specs.Day.{blank, taken}
+use Rattle.day.specs.Calls.{Call}
+use Rattle.day.specs.Calls.Call.{start-day, ask-tally, close-day}
+use Rattle.laws.specs.Transcript.{final}
+use Rattle.laws.specs.Cases.{plan, campaign-of, view}
+use Rattle.floor.specs.History.{Starts}
+use Rattle.replay.specs.declared.Replayed.{Replayed}
+use Rattle.replay.specs.Replay.{decode, Replays}
+
+-- the words encode these calls, a list of demand 3; whatever the contract allows holds this sum, and so does the record
+pub record Example (s : Day) (words : List ℕ) (calls : List Call) (paid : ℕ) : Type 0 where
+  pub encodes : decode words ≡ calls
+  pub starts : Starts s (decode words)
+  pub pays : (r : Replayed) → Replays s words r → (r .paid ≡ paid) × (taken (r .day) ≡ paid)
+
+-- document 01's listing, with a kind that is no call and two words left at the end
+abbrev pub listing : List ℕ
+listing =
+    0 ∷ 2 ∷ 2 ∷ 1 ∷ 5 ∷ 10 ∷ 1 ∷ 3 ∷ 6 ∷ 2 ∷ 0 ∷ 0 ∷ 3 ∷ 3 ∷ 0 ∷ 3 ∷ 3 ∷ 0 ∷ 3 ∷ 3 ∷ 0 ∷ 3 ∷ 1 ∷ 0 ∷
+    6 ∷ 3 ∷ 3 ∷ 3 ∷ 2 ∷ 0 ∷ 3 ∷ 4 ∷ 0 ∷ 5 ∷ 0 ∷ 0 ∷ 4 ∷ 0 ∷ 0 ∷ 4 ∷ 1 ∷ 0 ∷ 3 ∷ 3 ∷ []
+
+abbrev pub listed : List Call
+listed =
+    plan 2 2 ∷ campaign-of 5 10 ∷ campaign-of 3 6 ∷ start-day ∷ view 3 ∷ view 3 ∷ view 3 ∷ view 1 ∷
+    view 2 ∷ view 4 ∷ close-day ∷ ask-tally 0 ∷ ask-tally 1 ∷ []
+
+-- another day from where the listing ended: its takings begin again
+abbrev pub next-day : List ℕ
+next-day = 0 ∷ 1 ∷ 2 ∷ 1 ∷ 2 ∷ 2 ∷ 1 ∷ 1 ∷ 1 ∷ 2 ∷ 0 ∷ 0 ∷ 3 ∷ 3 ∷ 0 ∷ []
+
+abbrev pub Examples : Type 0
+Examples =
+    Example blank listing listed 16 ×
+    Example (final blank listed) next-day (plan 1 2 ∷ campaign-of 2 2 ∷ campaign-of 1 1 ∷ start-day ∷ view 3 ∷ []) 2

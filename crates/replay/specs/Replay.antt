@@ -1,0 +1,51 @@
+-- Calls encoded as words, and what replaying them promises.
+use mathlib.Core.Path.{_≡_}
+use mathlib.Core.List.{List, [], _∷_, _++_}
+use Prim.Native.Nat.{ℕ}
+use lib.ListN.{take, drop}
+use Rattle.day.specs.declared.Day.{Day}
+use Rattle.day.specs.Calls.{Call}
+use Rattle.day.specs.Calls.Call.{open-plan, add-campaign, start-day, show-view, ask-tally, close-day}
+use Rattle.laws.specs.Transcript.{transcript, final}
+use Rattle.floor.specs.History.{Starts, history}
+use Rattle.floor.specs.Floor.{Floor}
+use Rattle.replay.specs.declared.Replayed.{Replayed}
+
+-- the call that three words encode: kinds 0 to 5 stand for the six calls in this order, and any other kind is no call
+unfoldable pub call-in : (kind a b : ℕ) → List Call
+call-in kind a b = take 1 (drop kind (
+    open-plan (record { depth = a; width = b }) ∷ add-campaign (record { price = a; budget = b }) ∷ start-day ∷
+    show-view (record { set = a }) ∷ ask-tally a ∷ close-day ∷ []))
+
+-- three words a call; one or two words left at the end are no call
+unfoldable pub decode : List ℕ → List Call
+decode [] = []
+decode (kind ∷ []) = []
+decode (kind ∷ a ∷ []) = []
+decode (kind ∷ a ∷ b ∷ words) = call-in kind a b ++ decode words
+
+-- the words of calls: kinds and arguments, so that they fit where the arguments do
+abbrev pub words-of : Call → List ℕ
+words-of (open-plan pl) = 0 ∷ pl .depth ∷ pl .width ∷ []
+words-of (add-campaign t) = 1 ∷ t .price ∷ t .budget ∷ []
+words-of start-day = 2 ∷ 0 ∷ 0 ∷ []
+words-of (show-view w) = 3 ∷ w .set ∷ 0 ∷ []
+words-of (ask-tally i) = 4 ∷ i ∷ 0 ∷ []
+words-of close-day = 5 ∷ 0 ∷ 0 ∷ []
+
+abbrev pub encode : List Call → List ℕ
+encode [] = []
+encode (c ∷ cs) = words-of c ++ encode cs
+
+-- every list of calls is encoded by its words
+abbrev pub Every-list : Type 0
+Every-list = (cs : List Call) → decode (encode cs) ≡ cs
+
+-- what replaying words from the state s hands back
+pub record Replays (s : Day) (words : List ℕ) (r : Replayed) : Type 0 where
+  -- the state at the end of the calls
+  pub ran : r .day ≡ final s (decode words)
+  -- the day's takings: the sum of the prices paid in the answers to its accepted views
+  pub paid-is : r .paid ≡ history (transcript s (decode words)) .paid
+  -- demand 3 of these calls
+  pub demand-3 : Starts s (decode words) → Floor (history (transcript s (decode words))) (r .day)
