@@ -1,1 +1,5 @@
 pub mod Questions
+pub mod State
+pub mod Audits
+pub mod Marks
+pub mod Shown

@@ -1,13 +1,23 @@
 -- The questions at the door: what a refusal and an acceptance say.
-use mathlib.Core.Path.{_≡_, refl, ap, sym, subst}
+use mathlib.Core.Path.{_≡_, refl, ap, sym, _∙_}
 use mathlib.Core.Bool.{Bool, true, false, cond}
 use mathlib.Core.List.{List, [], _∷_}
 use Prim.Native.Nat.{ℕ, zero, suc, _<_}
 use native.Mathlib.Omega.{arith}
+use lib.Dec.{leb}
+use borrow.Author.Tests.{leb-true}
+use Rattle.finite.proofs.Tests.{both-left, both-right}
+use Rattle.powers.specs.Power.{entry, listed}
+use Rattle.powers.proofs.Entries.{entry-over, entry-under}
+use Rattle.campaigns.specs.declared.Plan.{Plan}
+use Rattle.campaigns.specs.Campaign.{depth-fits, width-fits, power-fits}
 use Rattle.day.specs.declared.Answer.the-variants.{Refused}
 use Rattle.day.specs.declared.Day.{Day}
 use Rattle.day.specs.declared.Outcome.{Outcome}
-use Rattle.day.specs.Calls.{Question, first-no, Call, questions, result, answered, call}
+use Rattle.day.specs.declared.audit.Audit.{Audit}
+use Rattle.day.specs.Sound.{sound}
+use Rattle.day.specs.Calls.{Question, first-no, Call, questions, result, refused, answered, call}
+use Rattle.day.specs.Inner.{not-sound, figures, audited}
 use Rattle.day.specs.Calls.Call.{open-plan, add-campaign, start-day, show-view, ask-tally, close-day}
 
 -- every question is answered yes
@@ -55,3 +65,44 @@ call-elim P s c refused accepted = go (first-no (questions s c)) refl
 pub call-yes : (s : Day) (c : Call) → Yes (questions s c) → call s c ≡ result s c
 unfolding call
 call-yes s c y = ap (λ (n : ℕ). answered n s (result s c)) (all-yes (questions s c) y)
+
+-- what the code answers, by the number q of the first question that failed
+module _ (s : Day) (c : Call) (q : ℕ) (e : q ≡ first-no (questions s c)) where
+  pub refused-is : (q ≡ 0 → ⊥) → refused s q ≡ call s c
+  unfolding call
+  refused-is h = go q h ∙ ap (λ (n : ℕ). answered n s (result s c)) e
+    where
+      go : (n : ℕ) → (n ≡ 0 → ⊥) → refused s n ≡ answered n s (result s c)
+      go zero z = absurd (z refl)
+      go (suc n) z = refl
+
+  pub asked-yes : q ≡ 0 → Yes (questions s c)
+  asked-yes z = none-fails (questions s c) (numbered s c) (sym e ∙ z)
+
+  pub accepted-is : q ≡ 0 → result s c ≡ call s c
+  accepted-is z = sym (call-yes s c (asked-yes z))
+
+-- the audit tells whether the state is sound, and its figures
+pub audit-sound : (s : Day) (a : Audit) → a ≡ audited s → a .sound ≡ sound s
+unfolding audited
+audit-sound s a e = ap (λ (x : Audit). x .sound) e ∙ go (sound s)
+  where
+    go : (b : Bool) → cond b (figures s) not-sound .sound ≡ b
+    go true = refl
+    go false = refl
+
+pub audit-figures : (s : Day) (a : Audit) → a ≡ audited s → sound s ≡ true → a ≡ figures s
+unfolding audited
+audit-figures s a e h = e ∙ ap (λ (b : Bool). cond b (figures s) not-sound) h
+
+-- question 5 by the table
+module _ (pl : Plan) (d : depth-fits pl ≡ true) (w : width-fits pl ≡ true) where
+  listed-is : listed (pl .width) (pl .depth) ≡ entry (pl .width) (pl .depth)
+  unfolding listed
+  listed-is = rw (w, both-right (leb 1 (pl .depth)) (leb (pl .depth) 32) d)
+
+  pub listed-over : listed (pl .width) (pl .depth) ≡ 0 → power-fits pl ≡ false
+  listed-over z = entry-over (pl .width) (pl .depth) (leb-true 1 (pl .width) (both-left (leb 1 (pl .width)) (leb (pl .width) 16) w)) (sym listed-is ∙ z)
+
+  pub listed-under : (listed (pl .width) (pl .depth) ≡ 0 → ⊥) → power-fits pl ≡ true
+  listed-under z = entry-under (pl .width) (pl .depth) (λ x. z (listed-is ∙ x))

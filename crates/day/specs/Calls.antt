@@ -1,24 +1,24 @@
 -- The six operations: the questions that each asks, in order, and what it hands back.
-use mathlib.Core.Bool.{Bool, true, false, cond, _&&_}
+use mathlib.Core.Bool.{Bool, cond, _&&_}
 use mathlib.Core.List.{List, [], _∷_}
 use Prim.Native.Nat.{ℕ, zero, suc, _+_}
 use lib.Dec.{leb, ltb, eqb}
 use Rattle.sets.specs.Set.{size, within}
 use Rattle.day.specs.declared.Answer.{Answer}
 use Rattle.day.specs.declared.Answer.the-variants.{Refused, Done, Played, Nobody, Tallied, Closing}
-use Rattle.day.specs.declared.Campaign.{Campaign}
+use Rattle.campaigns.specs.declared.Campaign.{Campaign}
 use Rattle.day.specs.declared.Day.{Day}
 use Rattle.day.specs.declared.Outcome.{Outcome}
-use Rattle.day.specs.declared.Phase.the-variants.{Filling, Running, Closed}
-use Rattle.day.specs.declared.Plan.{Plan}
-use Rattle.day.specs.declared.Terms.{Terms}
-use Rattle.day.specs.declared.View.{View}
-use Rattle.day.specs.Choice.{Choice}
-use Rattle.day.specs.Choice.Choice.{nobody, plays}
-use Rattle.day.specs.Campaign.{fresh}
-use Rattle.day.specs.View.{offer, chosen-of, viewed}
+use Rattle.campaigns.specs.declared.Phase.the-variants.{Filling, Running, Closed}
+use Rattle.campaigns.specs.declared.Plan.{Plan}
+use Rattle.campaigns.specs.declared.Terms.{Terms}
+use Rattle.campaigns.specs.declared.View.{View}
+use Rattle.campaigns.specs.Choice.{Choice}
+use Rattle.campaigns.specs.Choice.Choice.{nobody, plays}
+use Rattle.campaigns.specs.Campaign.{fresh, depth-fits, width-fits, power-fits, price-fits, budget-fits}
+use Rattle.campaigns.specs.View.{offer, chosen-of, viewed}
 use Rattle.day.specs.Day.{campaign, holding, in-phase, planned, full, taken, claimed, budgeted, is-filling, is-running, is-closed}
-use Rattle.day.specs.Sound.{depth-fits, width-fits, power-fits, price-fits, budget-fits, sound}
+use Rattle.day.specs.Sound.{sound}
 
 -- the number of an answer: that of the question that failed, or 0 where the call is accepted
 abbrev pub number : Answer → ℕ
@@ -110,9 +110,12 @@ result s (ask-tally i) = record { day = s; answer = tally-of (campaign s i) }
 result s close-day = record { day = in-phase s (Closed (taken s)); answer = Closing (taken s) (claimed s) (full (s .plan) (taken s)) }
 
 -- the first "no" gives its number and the unchanged state
+abbrev pub refused : Day → ℕ → Outcome
+refused s q = record { day = s; answer = Refused q }
+
 abbrev pub answered : ℕ → Day → Outcome → Outcome
 answered zero s o = o
-answered (suc q) s o = record { day = s; answer = Refused (suc q) }
+answered (suc q) s o = refused s (suc q)
 
 -- what a call hands back
 unfoldable pub call : Day → Call → Outcome

@@ -1,23 +1,18 @@
 -- The state: how its arrays hold the campaigns, and the states that the operations hand back. Only this file knows the layout.
-use mathlib.Core.Bool.{Bool, true, false, cond}
-use mathlib.Core.List.{List}
-use Prim.Native.Nat.{ℕ, _+_, _*_, _^_}
-use lib.Dec.{eqb}
-use lib.ListN.{getD}
+use mathlib.Core.Bool.{Bool, true, false}
+use Prim.Native.Nat.{ℕ, _*_, _^_}
 use Rattle.finite.specs.Finite.{sum, table}
-use Rattle.day.specs.declared.Campaign.{Campaign}
+use Rattle.campaigns.specs.declared.Campaign.{Campaign}
 use Rattle.day.specs.declared.Day.{Day}
-use Rattle.day.specs.declared.Phase.{Phase}
-use Rattle.day.specs.declared.Phase.the-variants.{Filling, Running, Closed}
-use Rattle.day.specs.declared.Plan.{Plan}
-use Rattle.day.specs.declared.Terms.{Terms}
-use Rattle.day.specs.Campaign.{fresh}
-use Rattle.day.specs.View.{takings, claims}
+use Rattle.campaigns.specs.declared.Phase.{Phase}
+use Rattle.campaigns.specs.declared.Phase.the-variants.{Filling, Running, Closed}
+use Rattle.campaigns.specs.declared.Plan.{Plan}
+use Rattle.campaigns.specs.declared.Terms.{Terms}
+use Rattle.campaigns.specs.Campaign.{fresh}
+use Rattle.campaigns.specs.Inner.{campaign-at}
+use Rattle.campaigns.specs.View.{takings, claims}
 
--- campaign i of six arrays
-abbrev pub campaign-at : (prices budgets plays turns ages named : List ℕ) → ℕ → Campaign
-campaign-at p b l t a m i = record { price = getD p i 0; budget = getD b i 0; plays = getD l i 0; turns = getD t i 0; age = getD a i 0; named = getD m i 0 }
-
+-- campaign i of the record
 abbrev pub campaign : Day → ℕ → Campaign
 campaign s i = campaign-at (s .prices) (s .budgets) (s .plays) (s .turns) (s .ages) (s .named) i
 

@@ -1,40 +1,16 @@
-// The day's record: its state, and what is handed to and answered by the six operations.
+// The day's record: its state and the six operations on it, each of which takes a state and hands back a state.
+pub mod audit;
+pub mod ops;
+pub mod view;
 
-// What is handed to an opening.
-pub struct Plan {
-    pub depth: u64,
-    pub width: u64,
-}
+use campaigns::Phase;
+use campaigns::Plan;
+use campaigns::Terms;
+ghost use mathlib.Core.Path.{_≡_};
+ghost use Rattle.day.specs.Day.{blank, planned};
+ghost use Rattle.day.specs.Calls.{refused};
 
-// What is handed to an adding.
-pub struct Terms {
-    pub price: u64,
-    pub budget: u64,
-}
-
-// What is handed to a view: bit i of the set stands for campaign i.
-pub struct View {
-    pub set: u64,
-}
-
-pub enum Phase {
-    Filling,
-    Running,
-    // with the final takings
-    Closed(u64),
-}
-
-// One campaign of the record, read out of the arrays.
-pub struct Campaign {
-    pub price: u64,
-    pub budget: u64,
-    pub plays: u64,
-    pub turns: u64,
-    pub age: u64,
-    pub named: u64,
-}
-
-// The state. Its campaigns stand in parallel arrays of small integers, lent one by one to the loops that read them.
+// The state. Its campaigns stand in parallel arrays of small integers, lent one by one to the passes that read them.
 pub struct Day {
     pub phase: Phase,
     pub plan: Plan,
@@ -73,4 +49,54 @@ pub enum Answer {
 pub struct Outcome {
     pub day: Day,
     pub answer: Answer,
+}
+
+impl Day {
+    // The limits.
+    pub const MAX_CAMPAIGNS: u64 = 64;
+
+    pub const MAX_VIEWS: u64 = 4_096;
+
+    pub const MAX_DEPTH: u64 = 32;
+
+    pub const MAX_WIDTH: u64 = 16;
+
+    pub const MAX_PRICE: u64 = Terms::MAX_PRICE;
+
+    pub const MAX_BUDGET: u64 = Terms::MAX_BUDGET;
+
+    // A plan with no campaigns and zero counts.
+    fn planned(phase: Phase, plan: Plan) -> Self
+        ensures { λ r. ⌜ r ≡ planned phase plan ⌝ }
+    {
+        Self {
+            phase: phase,
+            plan: plan,
+            count: 0,
+            accepted: 0,
+            prices: [0; 64],
+            budgets: [0; 64],
+            plays: [0; 64],
+            turns: [0; 64],
+            ages: [0; 64],
+            named: [0; 64],
+        }
+    }
+
+    // The blank state: Closed, depth 1, width 1, no campaigns.
+    pub fn blank() -> Self
+        ensures { λ r. ⌜ r ≡ blank ⌝ }
+    {
+        Self::planned(Phase::Closed(0), Plan { depth: 1, width: 1 })
+    }
+
+    // The unchanged state and the number of the question that failed.
+    fn refused(self, question: u64) -> Outcome
+        ensures { λ r. ⌜ r ≡ refused self question ⌝ }
+    {
+        Outcome {
+            day: self,
+            answer: Answer::Refused(question),
+        }
+    }
 }

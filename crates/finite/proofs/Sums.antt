@@ -107,3 +107,9 @@ count-skip (suc j) n p h =
 pub count-suc : (n : ℕ) (p : ℕ → Bool) → count (suc n) p ≡ count n p + one-if (p n)
 unfolding count
 count-suc n p = sum-suc n (λ i. one-if (p i))
+
+-- terms of at most b each
+pub sum-most : (n b : ℕ) (f : ℕ → ℕ) → ((i : ℕ) → i < n → f i ≤ b) → sum n f ≤ n * b
+unfolding sum
+sum-most zero b f h = omega arith
+sum-most (suc n) b f h = omega (arith, sum-most n b f (λ i l. h i (le-step l)), h n (le-refl (suc n)))

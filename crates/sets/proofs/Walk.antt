@@ -153,3 +153,16 @@ steps-count {set} {a} (step {r = r} {rs = rs} h l s) =
 pub members-count : (set : ℕ) → length (members set) ≡ size set
 unfolding count
 members-count set = omega (arith, steps-count (members-steps set), sum-zero (λ i. one-if (member set i)))
+
+-- what `next_from` answers
+pub next-at : (set a r : ℕ) → a ≤ 64 → r ≡ next set a → Next set a r
+next-at set a r h e = subst (λ (x : ℕ). Next set a x) (sym e) (next-is set a h)
+
+-- a set within n has no member from n on
+pub within-not-member : (n set i : ℕ) → within n set ≡ true → n ≤ i → i < 64 → member set i ≡ false
+unfolding within
+within-not-member n set i e l m = go (member set i) (every-at 64 (λ j. cond (member set j) (ltb j n) true) e i m)
+  where
+    go : (b : Bool) → cond b (ltb i n) true ≡ true → b ≡ false
+    go true t = absurd (omega (arith, ltb-true i n t))
+    go false t = refl

@@ -4,11 +4,11 @@ use mathlib.Core.Bool.{Bool, _&&_}
 use Prim.Native.Nat.{ℕ}
 use Rattle.finite.specs.Finite.{sum}
 use Rattle.sets.specs.Set.{member}
-use Rattle.day.specs.declared.Campaign.{Campaign}
-use Rattle.day.specs.declared.Plan.{Plan}
-use Rattle.day.specs.declared.View.{View}
-use Rattle.day.specs.Choice.{Choice, choice, is, Role, role-of}
-use Rattle.day.specs.Campaign.{can-pay, score, spending, claim, after}
+use Rattle.campaigns.specs.declared.Campaign.{Campaign}
+use Rattle.campaigns.specs.declared.Plan.{Plan}
+use Rattle.campaigns.specs.declared.View.{View}
+use Rattle.campaigns.specs.Choice.{Choice, choice, is, Role, role-of}
+use Rattle.campaigns.specs.Campaign.{can-pay, score, spending, claim, after}
 
 abbrev pub names : View → ℕ → Bool
 names w i = member (w .set) i

@@ -1,0 +1,4 @@
+pub mod Laws
+pub mod Totals
+pub mod Zeros
+pub mod Leads

@@ -1,0 +1,50 @@
+use mathlib.Core.Bool.{true, false}
+use Rattle.campaigns.proofs.Laws.{price-least, price-most}
+use Rattle.campaigns.specs.Inner.{challenged}
+use Rattle.campaigns.specs.Campaign.{can-pay}
+use borrow.Author.Tests.{not-true, not-false}
+use native.Mathlib.Omega.{arith}
+use native.Mathlib.Nat.{mul-le-mul}
+use mathlib.Core.Bool.{true, false}
+use mathlib.Core.Path.{_≡_, sym, _∙_}
+use borrow.Author.Needs.{needs}
+use Rattle.campaigns.proofs.pass.challenge.Statement.{statement}
+use Rattle.campaigns.proofs.pass.challenge.Tie as tie
+use Rattle.campaigns.proofs.pass.challenge.Reads as reads
+use Rattle.campaigns.proofs.pass.challenge.Lts as lts
+use Rattle.campaigns.proofs.Campaign.can_pay.Reads as can-pay-reads
+use Rattle.campaigns.proofs.rules.weigh.Reads as weigh-reads
+
+able : (c : tie.Else1) → can-pay (c .before .before .args .c) ≡ true
+able c = sym (c .before .can-pay .ensures) ∙ not-false (c .before .can-pay .result) (c .if1 .left)
+
+-- src/pass.rt:157:9
+can-pay-requires : tie.Need-can-pay-requires
+can-pay-requires c κs = (c .pre .1 .0, price-least (c .args .c) (c .pre .1 .1 .0))
+
+-- src/pass.rt:158:9
+returns : tie.Need-returns
+unfolding challenged
+returns c = let p : can-pay (c .before .before .args .c) ≡ false = sym (c .before .can-pay .ensures) ∙ not-true (c .before .can-pay .result) (c .if1 .taken) in rw p
+
+-- src/pass.rt:160:27
+weigh-requires : tie.Need-weigh-requires
+weigh-requires c κs = search needs
+
+-- src/pass.rt:160:17
+mul-score : tie.Need-mul-score
+mul-score c = let m = mul-le-mul (price-most (c .before .before .before .before .args .c) (c .before .before .before .before .pre .1 .1 .0)) (c .before .weigh .ensures .1) in record { fits = omega arith }
+
+-- src/pass.rt:162:9
+returns-2 : tie.Need-returns-2
+unfolding challenged
+returns-2 c = rw (able (c .before .before .before .before .before), ← c .before .before .before .before .weigh .ensures .0, c .if2 .taken)
+
+-- src/pass.rt:143:1
+returns-3 : tie.Need-returns-3
+unfolding challenged
+returns-3 c = rw (able (c .before .before .before .before .before), ← c .before .before .before .before .weigh .ensures .0, c .if2 .left)
+
+pub challenge-spec : {M : Type 1} → statement M
+challenge-spec =
+    tie.close (tie.spec can-pay-requires returns weigh-requires mul-score returns-2 returns-3)

@@ -1,0 +1,4 @@
+pub mod Choice
+pub mod Campaign
+pub mod View
+pub mod Inner

@@ -1,0 +1,261 @@
+// Opening a plan, adding a campaign, starting the day, asking for a tally and closing.
+use crate::Answer;
+use crate::Day;
+use crate::Outcome;
+use crate::audit::Audit;
+use campaigns::Phase;
+use campaigns::Plan;
+use campaigns::Terms;
+ghost use mathlib.Core.Path.{_≡_};
+ghost use Prim.Native.Nat.{_+_, _-_};
+ghost use Rattle.day.specs.Day.{in-phase, is-filling, is-closed};
+ghost use Rattle.day.specs.Calls.{first-no, questions, result, call};
+ghost use Rattle.day.specs.Calls.Call.{open-plan, add-campaign, start-day, ask-tally, close-day};
+ghost use Rattle.day.specs.Inner.{audited, plan-questions, Joinable};
+
+fn filling(phase: Phase) -> bool
+    ensures { λ r. ⌜ r ≡ is-filling phase ⌝ }
+{
+    match phase {
+        Phase::Filling => true,
+        Phase::Running => false,
+        Phase::Closed(_) => false,
+    }
+}
+
+fn closed(phase: Phase) -> bool
+    ensures { λ r. ⌜ r ≡ is-closed phase ⌝ }
+{
+    match phase {
+        Phase::Filling => false,
+        Phase::Running => false,
+        Phase::Closed(_) => true,
+    }
+}
+
+// One less, or 0.
+pub fn less_one(x: u64) -> u64
+    ensures { λ r. ⌜ r ≡ x - 1 ⌝ }
+{
+    if x == 0 {
+        return 0;
+    }
+    x - 1
+}
+
+// The number of the first of questions 3 to 5 that a plan fails, or 0; the last is looked up in the table.
+fn plan_question(plan: Plan) -> u64
+    ensures { λ r. ⌜ r ≡ first-no (plan-questions plan) ⌝ }
+{
+    if !crate::audit::depth_fits(plan) {
+        return 3;
+    }
+    if !crate::audit::width_fits(plan) {
+        return 4;
+    }
+    if powers::power(plan.width, plan.depth) == 0 {
+        return 5;
+    }
+    0
+}
+
+impl Day {
+    pub fn audit(self) -> Audit
+        ensures { λ r. ⌜ r ≡ audited self ⌝ }
+    {
+        let phase = self.phase;
+        let plan = self.plan;
+        let up = powers::row(plan.width);
+        let down = powers::row(less_one(plan.width));
+        crate::audit::examine(
+            phase,
+            plan,
+            self.count,
+            self.accepted,
+            &up,
+            &down,
+            &self.prices,
+            &self.budgets,
+            &self.plays,
+            &self.turns,
+            &self.ages,
+            &self.named,
+        )
+    }
+
+    // The state in another phase.
+    fn in_phase(self, phase: Phase) -> Day
+        ensures { λ r. ⌜ r ≡ in-phase self phase ⌝ }
+    {
+        let plan = self.plan;
+        let prices = self.prices;
+        let budgets = self.budgets;
+        let plays = self.plays;
+        let turns = self.turns;
+        let ages = self.ages;
+        let named = self.named;
+        Day {
+            phase: phase,
+            plan: plan,
+            count: self.count,
+            accepted: self.accepted,
+            prices: prices,
+            budgets: budgets,
+            plays: plays,
+            turns: turns,
+            ages: ages,
+            named: named,
+        }
+    }
+
+    fn open_question(self, plan: Plan) -> u64
+        ensures { λ r. ⌜ r ≡ first-no (questions self (open-plan plan)) ⌝ }
+    {
+        let audit = self.audit();
+        if !audit.sound {
+            return 1;
+        }
+        let phase = self.phase;
+        if !closed(phase) {
+            return 2;
+        }
+        plan_question(plan)
+    }
+
+    pub fn open(self, plan: Plan) -> Outcome
+        ensures { λ r. ⌜ r ≡ call self (open-plan plan) ⌝ }
+    {
+        let question = self.open_question(plan);
+        if question != 0 {
+            return self.refused(question);
+        }
+        let day = Day::planned(Phase::Filling, plan);
+        Outcome {
+            day: day,
+            answer: Answer::Done,
+        }
+    }
+
+    fn add_question(self, terms: Terms) -> u64
+        ensures { λ r. ⌜ r ≡ first-no (questions self (add-campaign terms)) ⌝ }
+    {
+        let audit = self.audit();
+        if !audit.sound {
+            return 1;
+        }
+        let phase = self.phase;
+        if !filling(phase) {
+            return 6;
+        }
+        if Day::MAX_CAMPAIGNS <= self.count {
+            return 7;
+        }
+        if !terms.price_fits() {
+            return 8;
+        }
+        if !terms.budget_fits() {
+            return 9;
+        }
+        if Day::MAX_BUDGET < audit.budgets + terms.budget {
+            return 10;
+        }
+        0
+    }
+
+    // The state with one campaign more, for which there is room.
+    fn joined(mut self, terms: Terms) -> Day
+        requires { ⌜ Joinable self terms ⌝ }
+        ensures { λ r. ⌜ r ≡ result self (add-campaign terms) .day ⌝ }
+    {
+        let at = self.count as usize;
+        self.prices[at] = terms.price as u32;
+        self.budgets[at] = terms.budget as u32;
+        self.count = self.count + 1;
+        self
+    }
+
+    pub fn add(self, terms: Terms) -> Outcome
+        ensures { λ r. ⌜ r ≡ call self (add-campaign terms) ⌝ }
+    {
+        let question = self.add_question(terms);
+        if question != 0 {
+            return self.refused(question);
+        }
+        let day = self.joined(terms);
+        Outcome {
+            day: day,
+            answer: Answer::Done,
+        }
+    }
+
+    pub fn start(self) -> Outcome
+        ensures { λ r. ⌜ r ≡ call self start-day ⌝ }
+    {
+        let audit = self.audit();
+        if !audit.sound {
+            return self.refused(1);
+        }
+        let phase = self.phase;
+        if !filling(phase) {
+            return self.refused(6);
+        }
+        let day = self.in_phase(Phase::Running);
+        Outcome {
+            day: day,
+            answer: Answer::Done,
+        }
+    }
+
+    pub fn tally(self, campaign: u64) -> Outcome
+        ensures { λ r. ⌜ r ≡ call self (ask-tally campaign) ⌝ }
+    {
+        let audit = self.audit();
+        if !audit.sound {
+            return self.refused(1);
+        }
+        if self.count <= campaign {
+            return self.refused(15);
+        }
+        let at = campaign as usize;
+        let c = campaigns::entry::entry(
+            at,
+            &self.prices,
+            &self.budgets,
+            &self.plays,
+            &self.turns,
+            &self.ages,
+            &self.named,
+        );
+        Outcome {
+            day: self,
+            answer: Answer::Tallied {
+                plays: c.plays,
+                turns: c.turns,
+                age: c.age,
+                named: c.named,
+            },
+        }
+    }
+
+    pub fn close(self) -> Outcome
+        ensures { λ r. ⌜ r ≡ call self close-day ⌝ }
+    {
+        let audit = self.audit();
+        if !audit.sound {
+            return self.refused(1);
+        }
+        let phase = self.phase;
+        if !crate::view::running(phase) {
+            return self.refused(11);
+        }
+        let day = self.in_phase(Phase::Closed(audit.takings));
+        Outcome {
+            day: day,
+            answer: Answer::Closing {
+                takings: audit.takings,
+                claim: audit.claim,
+                full: audit.full,
+            },
+        }
+    }
+}

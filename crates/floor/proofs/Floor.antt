@@ -1,0 +1,134 @@
+-- Demand 3.
+use mathlib.Core.Path.{_≡_, refl, ap, sym, _∙_, subst}
+use mathlib.Core.Bool.{Bool, true, false, cond}
+use mathlib.Core.List.{List}
+use Prim.Native.Nat.{ℕ, _*_, _/_, min, _≤_, _<_}
+use native.Mathlib.Nat.{le-trans, mul-le-mul-left, le-div-iff-mul-le}
+use native.Mathlib.Omega.{arith}
+use lib.Dec.{ltb}
+use lib.ListN.{length, List·getD-eq-default}
+use borrow.Author.Tests.{eqb-true, ltb-true, ltb-false}
+use Rattle.finite.specs.Finite.{sum}
+use Rattle.finite.proofs.Sums.{sum-le, sum-eq, sum-mul}
+use Rattle.powers.specs.Power.{share}
+use Rattle.campaigns.specs.declared.Phase.{Phase}
+use Rattle.campaigns.specs.declared.Plan.{Plan}
+use Rattle.campaigns.specs.declared.Terms.{Terms}
+use Rattle.campaigns.specs.Campaign.{whole}
+use Rattle.campaigns.proofs.Laws.{Sized, plan-sized}
+use Rattle.day.specs.declared.Day.{Day}
+use Rattle.day.specs.Day.{campaign, no-terms, full, taken, claimed}
+use Rattle.day.specs.Sound.{sound, phase-holds}
+use Rattle.day.specs.Calls.{Call}
+use Rattle.day.proofs.State.{Sound, sound-facts, held-at}
+use Rattle.laws.specs.Transcript.{transcript, final}
+use Rattle.laws.proofs.Laws.{claim-of, claim-turns}
+use Rattle.floor.specs.History.{Starts, History, history}
+use Rattle.floor.specs.Allotment.{takings-of, times}
+use Rattle.floor.specs.Floor.{trace, price-of, whole-of, falls-short, unstruck, Allotted, Covered, Floor, Demand-3}
+use Rattle.floor.specs.Due.{due, Dues, At-every-moment}
+use Rattle.floor.proofs.Trace.{turns-reach}
+use Rattle.floor.proofs.Reach.{Reached, reached}
+use Rattle.floor.proofs.Allotment.{double-count}
+
+-- past the last campaign there is no price
+price-past : (h : History) (i : ℕ) → length (h .terms) ≤ i → price-of h i ≡ 0
+price-past h i l = ap (λ (t : Terms). t .price) (List·getD-eq-default (h .terms) no-terms l)
+
+unstruck-past : (h : History) (i : ℕ) → length (h .terms) ≤ i → unstruck h i ≡ 0
+unstruck-past h i l = go (falls-short h i)
+  where
+    go : (b : Bool) → cond b 0 (price-of h i) ≡ 0
+    go true = refl
+    go false = price-past h i l
+
+-- where no campaign falls short, nothing is struck out
+none-struck : (h : History) → ((i : ℕ) → i < length (h .terms) → falls-short h i ≡ false) → (i : ℕ) → unstruck h i ≡ price-of h i
+none-struck h none i = go (ltb i (length (h .terms))) refl
+  where
+    go : (b : Bool) → ltb i (length (h .terms)) ≡ b → unstruck h i ≡ price-of h i
+    go true e = rw (none i (ltb-true i (length (h .terms)) e))
+    go false e = unstruck-past h i (ltb-false i (length (h .terms)) e) ∙ sym (price-past h i (ltb-false i (length (h .terms)) e))
+
+-- an allotment takes no more than what is due, once the campaigns that fall short are struck out
+module _ (h : History) (deep : 0 < h .plan .depth) (to : ℕ → ℕ) (al : Allotted h to) where
+  part : (i : ℕ) → i < length (h .terms) → unstruck h i * times (length (h .views)) to i ≤ price-of h i * due h i
+  part i l = go (falls-short h i) refl
+    where
+      go : (b : Bool) → falls-short h i ≡ b → cond b 0 (price-of h i) * times (length (h .views)) to i ≤ price-of h i * due h i
+      go true e = omega arith
+      go false e =
+          let w : whole-of h i * h .plan .depth ≤ trace h i .named = omega (arith, ltb-false) in
+          mul-le-mul-left (price-of h i) (omega (arith, le-div-iff-mul-le deep .1 w, al .bought i l))
+
+  due-enough : takings-of (unstruck h) (h .views) to ≤ sum (length (h .terms)) (λ i. price-of h i * due h i)
+  due-enough =
+      omega (arith, double-count (length (h .terms)) (unstruck h) (unstruck-past h) (length (h .views)) to, sum-le (length (h .terms)) (λ i. unstruck h i * times (length (h .views)) to i) (λ i. price-of h i * due h i) part)
+
+module _ (s : Day) (h : History) (r : Reached s h) where
+  p : Sound s
+  p = sound-facts s (r .is-sound)
+
+  sized : Sized (s .plan)
+  sized = plan-sized (s .plan) (p .plan-sound)
+
+  depth-is : s .plan .depth ≡ h .plan .depth
+  depth-is = ap (λ (pl : Plan). pl .depth) (r .agrees .plan-is)
+
+  whole-is : (i : ℕ) → i < s .count → whole (campaign s i) ≡ whole-of h i
+  unfolding whole
+  whole-is i l = cc (r .agrees .follows i l .price-is, r .agrees .follows i l .budget-is)
+
+  -- the turns of campaign i are no fewer than the plays due
+  turns-of : (i : ℕ) → i < s .count → due h i ≤ campaign s i .turns
+  turns-of i l =
+      subst (λ (k : ℕ). min (whole-of h i) (trace h i .named / k) ≤ campaign s i .turns) depth-is
+      (subst (λ (x : ℕ). min x (trace h i .named / s .plan .depth) ≤ campaign s i .turns) (whole-is i l)
+      (turns-reach (s .plan) (s .accepted) (trace h i) (campaign s i) (held-at s p i l) (r .agrees .follows i l)))
+
+  claim-due : (i : ℕ) → i < s .count → share (s .plan .depth) (s .plan .width) * (price-of h i * due h i) ≤ claim-of (s .plan) (campaign s i)
+  claim-due i l =
+      le-trans (mul-le-mul-left (share (s .plan .depth) (s .plan .width)) (mul-le-mul-left (price-of h i) (turns-of i l)))
+      (subst (λ (x : ℕ). share (s .plan .depth) (s .plan .width) * (x * campaign s i .turns) ≤ claim-of (s .plan) (campaign s i)) (r .agrees .follows i l .price-is)
+      (claim-turns (s .plan) sized (campaign s i) (held-at s p i l .young)))
+
+  -- the total claim lies between the share of what is due and full
+  claims-due : share (s .plan .depth) (s .plan .width) * sum (s .count) (λ i. price-of h i * due h i) ≤ claimed s
+  unfolding claimed
+  claims-due =
+      omega (arith, sum-mul (s .count) (share (s .plan .depth) (s .plan .width)) (λ i. price-of h i * due h i), sum-le (s .count) (λ i. share (s .plan .depth) (s .plan .width) * (price-of h i * due h i)) (λ i. claim-of (s .plan) (campaign s i)) claim-due)
+
+  claims-full : claimed s ≤ full (s .plan) (h .paid)
+  claims-full = subst (λ (x : ℕ). claimed s ≤ full (s .plan) x) (r .agrees .paid-is) (p .covered)
+
+  covers : (to : ℕ → ℕ) → Allotted h to → Covered h (takings-of (unstruck h) (h .views) to)
+  covers to al =
+      subst (λ (pl : Plan). share (pl .depth) (pl .width) * takings-of (unstruck h) (h .views) to ≤ full pl (h .paid)) (r .agrees .plan-is)
+      (le-trans (mul-le-mul-left (share (s .plan .depth) (s .plan .width)) (subst (λ (n : ℕ). takings-of (unstruck h) (h .views) to ≤ sum n (λ i. price-of h i * due h i)) (r .agrees .many) (due-enough h (omega (arith, sized .deep, depth-is)) to al)))
+      (le-trans claims-due claims-full))
+
+  pub floor-of : Floor h s
+  floor-of = record {
+    floor = λ none to al. subst (λ (x : ℕ). Covered h x) (sum-eq (length (h .views)) (λ j. unstruck h (to j)) (λ j. price-of h (to j)) (λ j l. none-struck h none (to j))) (covers to al);
+    struck = covers;
+    shown = r .agrees .paid-is;
+    held = λ x e. eqb-true x (taken s) (subst (λ (q : Phase). phase-holds q (s .accepted) (taken s) ≡ true) e (p .phased)) ∙ r .agrees .paid-is;
+  }
+
+  pub dues-of : Dues h s
+  dues-of = record {
+    named-is = λ i l. r .agrees .follows i (omega (arith, r .agrees .many)) .named-is;
+    turns-enough = λ i l. turns-of i (omega (arith, r .agrees .many));
+    claims-enough = subst (λ (pl : Plan). share (pl .depth) (pl .width) * sum (length (h .terms)) (λ i. price-of h i * due h i) ≤ claimed s) (r .agrees .plan-is) (rw (r .agrees .many) claims-due);
+    claims-most = subst (λ (pl : Plan). claimed s ≤ full pl (h .paid)) (r .agrees .plan-is) claims-full;
+  }
+
+pub demand-3 : Demand-3
+demand-3 s cs st = floor-of (final s cs) (history (transcript s cs)) (reached s cs st)
+
+pub at-every-moment : At-every-moment
+at-every-moment s cs st = dues-of (final s cs) (history (transcript s cs)) (reached s cs st)
+
+-- the state at the end of a list is sound, so that no later call is refused with 1
+pub always-sound : (s : Day) (cs : List Call) → Starts s cs → sound (final s cs) ≡ true
+always-sound s cs st = reached s cs st .is-sound

@@ -1,0 +1,146 @@
+-- What every list of calls keeps between its day and the state at its end.
+use mathlib.Core.Path.{_≡_, refl, ap, _∙_, subst}
+use mathlib.Core.Bool.{true, false}
+use mathlib.Core.List.{List, [], _∷_, _++_}
+use Prim.Native.Nat.{ℕ, suc, _+_, _≤_, _<_}
+use native.Mathlib.Nat.{lt-of-lt-of-le, not-suc-le-zero}
+use native.Mathlib.Omega.{arith}
+use lib.ListN.{getD, length, length-append, List·getD-append}
+use lib.Seq.{getD-append-seam}
+use borrow.Author.Tests.{eqb-true, eq-eqb, ne-eqb, ltb-true}
+use Rattle.finite.specs.Finite.{one-if, total}
+use Rattle.finite.proofs.Tests.{never, one-more}
+use Rattle.finite.proofs.Sums.{sum-zero}
+use Rattle.finite.proofs.Tables.{total-snoc}
+use Rattle.campaigns.specs.declared.Phase.{Phase}
+use Rattle.campaigns.specs.declared.Phase.the-variants.{Filling, Running, Closed}
+use Rattle.campaigns.specs.declared.Plan.{Plan}
+use Rattle.campaigns.specs.declared.Terms.{Terms}
+use Rattle.campaigns.specs.declared.View.{View}
+use Rattle.campaigns.specs.Choice.{Choice, is, paid}
+use Rattle.campaigns.specs.Choice.Choice.{nobody, plays}
+use Rattle.campaigns.specs.Campaign.{spending}
+use Rattle.campaigns.specs.View.{names}
+use Rattle.day.specs.declared.Answer.{Answer}
+use Rattle.day.specs.declared.Answer.the-variants.{Refused, Done}
+use Rattle.day.specs.declared.Day.{Day}
+use Rattle.day.specs.declared.Outcome.{Outcome}
+use Rattle.day.specs.Day.{campaign, no-terms, planned, blank-plan, blank, taken, is-filling}
+use Rattle.day.specs.Sound.{sound}
+use Rattle.day.specs.Calls.{number, Call, questions, joined, player, offers, shown, told, result, call}
+use Rattle.day.specs.Calls.Call.{open-plan, add-campaign, start-day, show-view, ask-tally, close-day}
+use Rattle.day.proofs.Questions.{Yes, call-elim}
+use Rattle.day.proofs.State.{Sound, sound-facts, held-at, campaign-holding}
+use Rattle.laws.specs.Transcript.{transcript, final}
+use Rattle.laws.proofs.Step.{takings-step}
+use Rattle.laws.proofs.Holding.{sum-holding, joined-old, joined-new, takings-joined}
+use Rattle.laws.proofs.Sound.{blank-sound, sound-kept, opening-sound}
+use Rattle.laws.proofs.Refusals.{result-number}
+use Rattle.floor.specs.History.{accepted, Starts, History, opening, paid-in, with-call, entered, continued, history}
+use Rattle.floor.specs.History.Starts.{from-blank, from-opening}
+use Rattle.floor.specs.Floor.{trace}
+use Rattle.floor.proofs.Trace.{Follows, follows-fresh, follows-view}
+
+-- the state s agrees with the day h
+pub record Agrees (s : Day) (h : History) : Type 0 where
+  pub plan-is : s .plan ≡ h .plan
+  pub many : length (h .terms) ≡ s .count
+  pub follows : (i : ℕ) → i < s .count → Follows (s .plan) (trace h i) (campaign s i)
+  pub paid-is : taken s ≡ h .paid
+  pub unviewed : is-filling (s .phase) ≡ true → h .views ≡ []
+
+agrees-opening : (p : Phase) (pl : Plan) → Agrees (planned p pl) (opening pl)
+unfolding taken
+agrees-opening p pl = record { plan-is = refl; many = refl; follows = λ i l. absurd (not-suc-le-zero l); paid-is = sum-zero _; unviewed = λ _. refl }
+
+agrees-blank : Agrees blank (opening blank-plan)
+unfolding blank
+agrees-blank = agrees-opening (Closed 0) blank-plan
+
+-- a list one longer
+snoc-last : (xs : List Terms) (x : Terms) (n : ℕ) → length xs ≡ n → getD (xs ++ (x ∷ [])) n no-terms ≡ x
+snoc-last xs x n e = subst (λ (m : ℕ). getD (xs ++ (x ∷ [])) m no-terms ≡ x) e (getD-append-seam xs x [] no-terms)
+
+-- what the day becomes by an outcome
+abbrev Keeps : History → Call → Outcome → Type 0
+Keeps h c o = Agrees (o .day) (entered h (record { made = c; answer = o .answer }))
+
+refused-not : (q : ℕ) → accepted (Refused (suc q)) ≡ false
+refused-not q = ne-eqb (suc q) 0 (λ z. omega arith)
+
+told-paid : (x : ℕ → ℕ) (ch : Choice) → paid-in (told x ch) ≡ paid x ch
+told-paid x nobody = refl
+told-paid x (plays m) = refl
+
+module _ (s : Day) (h : History) (e : sound s ≡ true) (k : Agrees s h) where
+  p : Sound s
+  p = sound-facts s e
+
+  module _ (t : Terms) (y : Yes (questions s (add-campaign t))) where
+    more : History
+    more = with-call h (add-campaign t) Done
+
+    agrees-add : Agrees (result s (add-campaign t) .day) more
+    unfolding more taken total
+    agrees-add =
+        let room : s .count < 64 = ltb-true (s .count) 64 (y .1 .1 .0) in
+        let few : s .count + 1 ≤ 64 = omega arith in
+        record {
+          plan-is = k .plan-is;
+          many = length-append (h .terms) (t ∷ []) ∙ ap (λ (n : ℕ). n + 1) (k .many);
+          follows = λ i l. rw (campaign-holding Filling (s .plan) (s .count + 1) (s .accepted) (joined s t) i (lt-of-lt-of-le l few)) (one-more (λ j. Follows (s .plan) (trace more j) (joined s t j)) (s .count) old new i (omega arith));
+          paid-is = sum-holding Filling (s .plan) (s .count + 1) (s .accepted) (joined s t) spending few ∙ takings-joined s t ∙ k .paid-is;
+          unviewed = λ _. k .unviewed (y .1 .0);
+        }
+      where
+        old : (j : ℕ) → j < s .count → Follows (s .plan) (trace more j) (joined s t j)
+        old j l = rw (List·getD-append (h .terms) (t ∷ []) no-terms j (omega (arith, k .many)), joined-old s t j (λ q. omega arith)) (k .follows j l)
+
+        new : Follows (s .plan) (trace more (s .count)) (joined s t (s .count))
+        new = rw (snoc-last (h .terms) t (s .count) (k .many), joined-new s t, k .unviewed (y .1 .0)) (follows-fresh (s .plan) t)
+
+  module _ (w : View) where
+    agrees-view : (a : Answer) → paid-in a ≡ paid (offers s w) (player s w) → Agrees (result s (show-view w) .day) (with-call h (show-view w) a)
+    unfolding taken
+    agrees-view a q = record {
+      plan-is = k .plan-is;
+      many = k .many;
+      follows = λ i l. rw (campaign-holding Running (s .plan) (s .count) (s .accepted + 1) (shown s w) i (lt-of-lt-of-le l (p .few)), total-snoc (λ (v : View). one-if (names v i)) (h .views) w)
+          (follows-view (s .plan) (trace h i) (campaign s i) (k .follows i l) (held-at s p i l .young) w i (is (player s w) i));
+      paid-is = omega (arith, sum-holding Running (s .plan) (s .count) (s .accepted + 1) (shown s w) spending (p .few), takings-step (s .count) (s .plan) w (campaign s), k .paid-is);
+      unviewed = λ z. absurd (never false refl z);
+    }
+
+  keeps-result : (c : Call) → Yes (questions s c) → Agrees (result s c .day) (with-call h c (result s c .answer))
+  unfolding more taken
+  keeps-result (open-plan pl) y = agrees-opening Filling pl
+  keeps-result (add-campaign t) y = agrees-add t y
+  keeps-result start-day y = record { plan-is = k .plan-is; many = k .many; follows = k .follows; paid-is = k .paid-is; unviewed = λ z. absurd (never false refl z) }
+  keeps-result (show-view w) y = agrees-view w (told (offers s w) (player s w)) (told-paid (offers s w) (player s w))
+  keeps-result (ask-tally i) y = k
+  keeps-result close-day y = record { plan-is = k .plan-is; many = k .many; follows = k .follows; paid-is = k .paid-is; unviewed = λ z. absurd (never false refl z) }
+
+  keeps : (c : Call) → Keeps h c (call s c)
+  keeps c = call-elim (Keeps h c) s c (λ q. rw (refused-not q) k) (λ y. rw (eq-eqb (number (result s c .answer)) 0 (result-number s c)) (keeps-result c y))
+
+pub record Reached (s : Day) (h : History) : Type 0 where
+  pub is-sound : sound s ≡ true
+  pub agrees : Agrees s h
+
+reach : (cs : List Call) (s : Day) (h : History) → Reached s h → Reached (final s cs) (continued h (transcript s cs))
+unfolding final transcript continued
+reach [] s h r = r
+reach (c ∷ cs) s h r = reach cs (call s c .day) (entered h (record { made = c; answer = call s c .answer })) (record { is-sound = sound-kept s c (r .is-sound); agrees = keeps s h (r .is-sound) (r .agrees) c })
+
+-- an accepted opening, from any state
+reach-opening : (s : Day) (pl : Plan) → accepted (call s (open-plan pl) .answer) ≡ true → Reached (call s (open-plan pl) .day) (entered (opening blank-plan) (record { made = open-plan pl; answer = call s (open-plan pl) .answer }))
+reach-opening s pl e = record {
+  is-sound = opening-sound s pl (eqb-true (number (call s (open-plan pl) .answer)) 0 e);
+  agrees = call-elim (λ (o : Outcome). accepted (o .answer) ≡ true → Keeps (opening blank-plan) (open-plan pl) o) s (open-plan pl) (λ q z. absurd (never (accepted (Refused (suc q))) (refused-not q) z)) (λ y z. agrees-opening Filling pl) e;
+}
+
+-- what holds at the end of every list
+pub reached : (s : Day) (cs : List Call) → Starts s cs → Reached (final s cs) (history (transcript s cs))
+unfolding final transcript continued
+reached _ _ (from-blank cs) = reach cs blank (opening blank-plan) (record { is-sound = blank-sound; agrees = agrees-blank })
+reached _ _ (from-opening s pl cs e) = reach cs (call s (open-plan pl) .day) (entered (opening blank-plan) (record { made = open-plan pl; answer = call s (open-plan pl) .answer })) (reach-opening s pl e)

@@ -1,0 +1,74 @@
+-- The floor is met exactly, by computation.
+use mathlib.Core.Path.{_≡_, refl, subst⁻¹}
+use mathlib.Core.Bool.{Bool, true, false, not, _||_}
+use mathlib.Core.List.{List, [], _∷_, map}
+use mathlib.Core.Logic.{_⊎_, inl, inr}
+use Prim.Native.Nat.{ℕ, _*_}
+use lib.Dec.{leb, ltb, eqb}
+use lib.ListN.{getD, length}
+use borrow.Author.Tests.{leb-true, ltb-true, eqb-true, not-true}
+use Rattle.finite.specs.Finite.{sum, count, every, all, table, total}
+use Rattle.finite.proofs.Tests.{all-parts, every-at}
+use Rattle.sets.specs.Set.{member, size, within}
+use Rattle.powers.specs.Power.{weight, share}
+use Rattle.campaigns.specs.Choice.{best, choice}
+use Rattle.campaigns.specs.Campaign.{whole, claim, sound-plan, priced, counted, uncounted, empty, sound-campaign}
+use Rattle.campaigns.specs.View.{names}
+use Rattle.day.specs.Day.{blank, full, taken, claimed, budgeted}
+use Rattle.day.specs.Sound.{sound}
+use Rattle.day.specs.Calls.{first-no, width-holds, call}
+use Rattle.laws.specs.Transcript.{transcript}
+use Rattle.floor.specs.History.{History, continued, history}
+use Rattle.floor.specs.History.Starts.{from-blank}
+use Rattle.floor.specs.Allotment.{times, view-at, takings-of}
+use Rattle.floor.specs.Floor.{price-of, whole-of, falls-short}
+use Rattle.floor.specs.Tight.{Met, Exact, exact-days, calls-of, Tight}
+
+-- the tests that a computed day passes
+abbrev met-tests : History → (ℕ → ℕ) → List Bool
+met-tests h to =
+    every (length (h .terms)) (λ i. not (falls-short h i)) ∷ ltb 0 (h .paid) ∷ every (length (h .views)) (λ j. eqb (to j) 64 || names (view-at (h .views) j) (to j)) ∷
+    every (length (h .terms)) (λ i. leb (times (length (h .views)) to i) (whole-of h i)) ∷
+    eqb (share (h .plan .depth) (h .plan .width) * takings-of (price-of h) (h .views) to) (full (h .plan) (h .paid)) ∷ []
+
+either : (a b : Bool) → (a || b) ≡ true → (a ≡ true) ⊎ (b ≡ true)
+either true b e = inl refl
+either false b e = inr e
+
+met-of : (h : History) (to : ℕ → ℕ) → all (met-tests h to) ≡ true → Met h to
+met-of h to e =
+    let p = all-parts (met-tests h to) e in
+    record {
+      none-short = λ i l. not-true (falls-short h i) (every-at (length (h .terms)) (λ i. not (falls-short h i)) (p .0) i l);
+      paying = ltb-true 0 (h .paid) (p .1 .0);
+      allotted = record {
+        given = λ j l. given j (either (eqb (to j) 64) (names (view-at (h .views) j) (to j)) (every-at (length (h .views)) (λ j. eqb (to j) 64 || names (view-at (h .views) j) (to j)) (p .1 .1 .0) j l));
+        bought = λ i l. leb-true (times (length (h .views)) to i) (whole-of h i) (every-at (length (h .terms)) (λ i. leb (times (length (h .views)) to i) (whole-of h i)) (p .1 .1 .1 .0) i l);
+      };
+      equal = eqb-true _ _ (p .1 .1 .1 .1 .0);
+    }
+  where
+    given : (j : ℕ) → (eqb (to j) 64 ≡ true) ⊎ (names (view-at (h .views) j) (to j) ≡ true) → (to j ≡ 64) ⊎ (names (view-at (h .views) j) (to j) ≡ true)
+    given j (inl a) = inl (eqb-true (to j) 64 a)
+    given j (inr b) = inr b
+
+-- the day of a row, read off the row
+day-of : Exact → History
+day-of x = record {
+  plan = record { depth = x .depth; width = x .width };
+  terms = table (x .campaigns) (λ i. record { price = 1; budget = 1 });
+  views = map (λ v. record { set = v }) (x .views);
+  paid = x .paid;
+}
+
+abbrev Computed : List Exact → Type 0
+Computed [] = Unit {0}
+Computed (x ∷ xs) = ((history (transcript blank (calls-of x)) ≡ day-of x) × (all (met-tests (day-of x) (λ j. getD (x .to) j 64)) ≡ true)) × Computed xs
+
+tight-of : (xs : List Exact) → Computed xs → Tight xs
+tight-of [] c = tt
+tight-of (x ∷ xs) c = ((from-blank (calls-of x), subst⁻¹ (λ (h : History). Met h (λ j. getD (x .to) j 64)) (c .0 .0) (met-of (day-of x) (λ j. getD (x .to) j 64) (c .0 .1))), tight-of xs (c .1))
+
+pub tight : Tight exact-days
+unfolding day-of transcript continued call first-no sound blank sum count every table total within size member width-holds weight share whole claim taken claimed budgeted sound-plan priced counted uncounted empty sound-campaign best choice
+tight = tight-of exact-days ((refl, refl), ((refl, refl), ((refl, refl), ((refl, refl), ((refl, refl), tt)))))

@@ -1,0 +1,68 @@
+-- What a day keeps between a campaign and its trace, which soundness alone does not give.
+use mathlib.Core.Path.{_≡_, refl}
+use mathlib.Core.Bool.{Bool, true, false}
+use Prim.Native.Nat.{ℕ, _+_, _*_, _/_, min, _≤_, _<_}
+use native.Mathlib.Nat.{div-lt-iff-lt-mul}
+use native.Mathlib.Omega.{arith}
+use lib.Dec.{eqb}
+use borrow.Author.Tests.{eqb-true, ltb-true, ltb-false}
+use Rattle.finite.specs.Finite.{one-if}
+use Rattle.campaigns.specs.declared.Campaign.{Campaign}
+use Rattle.campaigns.specs.declared.Plan.{Plan}
+use Rattle.campaigns.specs.declared.Terms.{Terms}
+use Rattle.campaigns.specs.declared.View.{View}
+use Rattle.campaigns.specs.Choice.{role-of}
+use Rattle.campaigns.specs.Campaign.{whole, can-pay, aged, after, fresh}
+use Rattle.campaigns.specs.View.{names, pays, becomes}
+use Rattle.campaigns.proofs.Totals.{Held}
+use Rattle.laws.proofs.Laws.{Steady}
+use Rattle.floor.specs.Floor.{Trace}
+
+-- while a campaign can pay, every view that named it is in a finished turn or in its age
+pub record Follows (pl : Plan) (t : Trace) (c : Campaign) : Type 0 where
+  pub price-is : c .price ≡ t .terms .price
+  pub budget-is : c .budget ≡ t .terms .budget
+  pub named-is : c .named ≡ t .named
+  pub turning : c .plays < whole c → c .named ≤ pl .depth * c .turns + c .age
+
+pub follows-fresh : (pl : Plan) (x : Terms) → Follows pl (record { terms = x; named = 0 }) (fresh x)
+follows-fresh pl x = record { price-is = refl; budget-is = refl; named-is = refl; turning = λ _. omega arith }
+
+-- the trace with one view more, that names the campaign or not
+abbrev pub noted : Bool → Trace → Trace
+noted m t = record { terms = t .terms; named = t .named + one-if m }
+
+module _ (pl : Plan) (t : Trace) (c : Campaign) (h : Follows pl t c) (young : Steady pl c) where
+  follows-aged : can-pay c ≡ true → (q : Bool) → eqb (c .age + 1) (pl .depth) ≡ q → Follows pl (noted true t) (aged q c)
+  unfolding whole
+  follows-aged e true q =
+      let m : c .named ≤ pl .depth * c .turns + c .age = h .turning (ltb-true (c .plays) (whole c) e) in
+      let z : c .age + 1 ≡ pl .depth = eqb-true (c .age + 1) (pl .depth) q in
+      record { price-is = h .price-is; budget-is = h .budget-is; named-is = omega arith; turning = λ _. omega arith }
+  follows-aged e false q =
+      let m : c .named ≤ pl .depth * c .turns + c .age = h .turning (ltb-true (c .plays) (whole c) e) in
+      record { price-is = h .price-is; budget-is = h .budget-is; named-is = omega arith; turning = λ _. omega arith }
+
+  follows-role : (m b q : Bool) → can-pay c ≡ b → Follows pl (noted m t) (after (pl .depth) (role-of m b q) c)
+  unfolding whole
+  follows-role false b q e = record { price-is = h .price-is; budget-is = h .budget-is; named-is = omega (arith, h .named-is); turning = h .turning }
+  follows-role true false q e = record { price-is = h .price-is; budget-is = h .budget-is; named-is = omega arith; turning = λ l. omega (arith, ltb-false (c .plays) (whole c) e) }
+  follows-role true true true e =
+      let m : c .named ≤ pl .depth * c .turns + c .age = h .turning (ltb-true (c .plays) (whole c) e) in
+      record { price-is = h .price-is; budget-is = h .budget-is; named-is = omega arith; turning = λ _. omega arith }
+  follows-role true true false e = follows-aged e (eqb (c .age + 1) (pl .depth)) refl
+
+  pub follows-view : (w : View) (i : ℕ) (q : Bool) → Follows pl (noted (names w i) t) (becomes pl w i (role-of (names w i) (pays pl w i c) q) c)
+  follows-view w i q = follows-role (names w i) (pays pl w i c) q refl
+
+-- the turns of a campaign reach its whole plays, or the full depths of the views that named it
+pub turns-reach : (pl : Plan) (n : ℕ) (t : Trace) (c : Campaign) → Held pl n c → Follows pl t c → min (whole c) (t .named / pl .depth) ≤ c .turns
+turns-reach pl n t c o h = go (can-pay c) refl
+  where
+    go : (e : Bool) → can-pay c ≡ e → min (whole c) (t .named / pl .depth) ≤ c .turns
+    go true e =
+        let m : c .named ≤ pl .depth * c .turns + c .age = h .turning (ltb-true (c .plays) (whole c) e) in
+        let u : t .named < (c .turns + 1) * pl .depth = omega (arith, h .named-is, o .young) in
+        let pos : 0 < pl .depth = omega (arith, o .young) in
+        omega (arith, div-lt-iff-lt-mul pos .1 u)
+    go false e = omega (arith, ltb-false (c .plays) (whole c) e, o .plays-turns)

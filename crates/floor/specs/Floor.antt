@@ -1,0 +1,62 @@
+-- Demand 3: the floor under the takings of the day that any list of calls makes.
+use mathlib.Core.Path.{_≡_}
+use mathlib.Core.Bool.{Bool, false, cond}
+use mathlib.Core.List.{List}
+use Prim.Native.Nat.{ℕ, _*_, _≤_, _<_}
+use lib.Dec.{ltb}
+use lib.ListN.{getD, length}
+use Rattle.finite.specs.Finite.{one-if, total}
+use Rattle.powers.specs.Power.{share}
+use Rattle.campaigns.specs.declared.Phase.the-variants.{Closed}
+use Rattle.campaigns.specs.declared.Terms.{Terms}
+use Rattle.campaigns.specs.Campaign.{whole, fresh}
+use Rattle.campaigns.specs.View.{names}
+use Rattle.day.specs.declared.Day.{Day}
+use Rattle.day.specs.Day.{no-terms, full, taken}
+use Rattle.day.specs.Calls.{Call}
+use Rattle.laws.specs.Transcript.{transcript, final}
+use Rattle.floor.specs.History.{History, Starts, history}
+use Rattle.floor.specs.Allotment.{Allotment, takings-of}
+
+-- what was handed in about campaign i: its price and budget, and how many of the day's views named it, also after it is spent
+pub record Trace : Type 0 where
+  pub terms : Terms
+  pub named : ℕ
+
+abbrev pub trace : History → ℕ → Trace
+trace h i = record { terms = getD (h .terms) i no-terms; named = total (λ w. one-if (names w i)) (h .views) }
+
+abbrev pub price-of : History → ℕ → ℕ
+price-of h i = trace h i .terms .price
+
+abbrev pub whole-of : History → ℕ → ℕ
+whole-of h i = whole (fresh (trace h i .terms))
+
+-- a campaign falls short when that number is below depth × whole plays
+abbrev pub falls-short : History → ℕ → Bool
+falls-short h i = ltb (trace h i .named) (h .plan .depth * whole-of h i)
+
+-- the price that counts once the campaigns that fall short are struck out
+abbrev pub unstruck : History → ℕ → ℕ
+unstruck h i = cond (falls-short h i) 0 (price-of h i)
+
+-- an allotment of the day's accepted views
+abbrev pub Allotted : History → (ℕ → ℕ) → Type 0
+Allotted h to = Allotment (length (h .terms)) (whole-of h) (h .views) to
+
+-- (width to the power depth, less (width − 1) to the power depth) × an amount is at most width to the power depth × the day's takings
+abbrev pub Covered : History → ℕ → Type 0
+Covered h x = share (h .plan .depth) (h .plan .width) * x ≤ full (h .plan) (h .paid)
+
+-- the day h, at whose end the state is s
+pub record Floor (h : History) (s : Day) : Type 0 where
+  -- provided that no campaign falls short, the takings of every allotment are covered
+  pub floor : ((i : ℕ) → i < length (h .terms) → falls-short h i ≡ false) → (to : ℕ → ℕ) → Allotted h to → Covered h (takings-of (price-of h) (h .views) to)
+  -- in any case they are without the part of the campaigns that fall short
+  pub struck : (to : ℕ → ℕ) → Allotted h to → Covered h (takings-of (unstruck h) (h .views) to)
+  -- the takings of the state, and those that its phase holds if it is Closed, are the day's takings
+  pub shown : taken s ≡ h .paid
+  pub held : (x : ℕ) → s .phase ≡ Closed x → x ≡ h .paid
+
+abbrev pub Demand-3 : Type 0
+Demand-3 = (s : Day) (cs : List Call) → Starts s cs → Floor (history (transcript s cs)) (final s cs)

@@ -1,0 +1,5 @@
+pub mod History
+pub mod Allotment
+pub mod Floor
+pub mod Due
+pub mod Tight

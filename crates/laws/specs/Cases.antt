@@ -1,0 +1,73 @@
+-- Document 01's listing and its cases by the limits, as one table. Each case begins with the blank state.
+use mathlib.Core.Path.{_≡_}
+use mathlib.Core.List.{List, [], _∷_, map}
+use Prim.Native.Nat.{ℕ}
+use Rattle.finite.specs.Finite.{table}
+use Rattle.campaigns.specs.Campaign.{score}
+use Rattle.day.specs.declared.Answer.{Answer}
+use Rattle.day.specs.declared.Answer.the-variants.{Refused, Done, Played, Nobody, Tallied, Closing}
+use Rattle.day.specs.declared.Day.{Day}
+use Rattle.day.specs.Day.{campaign, blank}
+use Rattle.day.specs.Calls.{Call}
+use Rattle.day.specs.Calls.Call.{open-plan, add-campaign, start-day, show-view, ask-tally, close-day}
+use Rattle.laws.specs.Transcript.{Exchange, transcript, final}
+
+infix 70 _gives_
+-- a call and its answer
+abbrev pub _gives_ : Call → Answer → Exchange
+c gives a = record { made = c; answer = a }
+
+abbrev pub plan : (depth width : ℕ) → Call
+plan k d = open-plan (record { depth = k; width = d })
+
+abbrev pub campaign-of : (price budget : ℕ) → Call
+campaign-of p b = add-campaign (record { price = p; budget = b })
+
+abbrev pub view : (set : ℕ) → Call
+view v = show-view (record { set = v })
+
+pub data Case : Type 0 where
+  -- calls with the answers that they get
+  answered : List Exchange → Case
+  -- calls, and the scores of the campaigns after them
+  scored : List Call → List ℕ → Case
+
+abbrev pub scores : Day → List ℕ
+scores s = table (s .count) (λ i. score (s .plan .depth) (s .plan .width) (campaign s i))
+
+abbrev pub Holds : Case → Type 0
+Holds (answered xs) = transcript blank (map (λ x. x .made) xs) ≡ xs
+Holds (scored cs ns) = scores (final blank cs) ≡ ns
+
+abbrev pub All-hold : List Case → Type 0
+All-hold [] = Unit {0}
+All-hold (c ∷ cs) = Holds c × All-hold cs
+
+abbrev pub cases : List Case
+cases =
+    -- ★ depth 32 width 2 opens
+    answered (plan 32 2 gives Done ∷ []) ∷
+    -- ★ depth 20 width 3 opens, ★ 21 gives 5
+    answered (plan 21 3 gives Refused 5 ∷ plan 20 3 gives Done ∷ []) ∷
+    -- ★ depth 8 width 16 opens, depth 9 gives 5
+    answered (plan 9 16 gives Refused 5 ∷ plan 8 16 gives Done ∷ []) ∷
+    -- ★ depth 33 width 1 gives 3; ★ depth 0 width 0 gives 3
+    answered (plan 33 1 gives Refused 3 ∷ plan 0 0 gives Refused 3 ∷ []) ∷
+    -- ★ price 5 budget 4 gives 9; budget 5 is taken; ★ price 0 budget 0 gives 8
+    answered (plan 2 2 gives Done ∷ campaign-of 5 4 gives Refused 9 ∷ campaign-of 5 5 gives Done ∷ campaign-of 0 0 gives Refused 8 ∷ []) ∷
+    -- two budgets of 1,000,000,000 are taken; a third of 1 gives 10
+    answered (plan 2 2 gives Done ∷ campaign-of 1 1_000_000_000 gives Done ∷ campaign-of 1 1_000_000_000 gives Done ∷ campaign-of 1 1 gives Refused 10 ∷ []) ∷
+    -- ★ the second view of the listing: scores 5 and 6, campaign 1 plays
+    scored (plan 2 2 ∷ campaign-of 5 10 ∷ campaign-of 3 6 ∷ start-day ∷ view 3 ∷ []) (5 ∷ 6 ∷ []) ∷
+    -- the listing, whose fourth view ★ plays nobody; closing gives the tally of each campaign too
+    answered (
+    plan 2 2 gives Done ∷ campaign-of 5 10 gives Done ∷ campaign-of 3 6 gives Done ∷ start-day gives Done ∷
+    view 3 gives Played 0 5 ∷ view 3 gives Played 1 3 ∷ view 3 gives Played 0 5 ∷ view 1 gives Nobody ∷ view 2 gives Played 1 3 ∷ view 4 gives Refused 13 ∷
+    close-day gives Closing 16 48 64 ∷ ask-tally 0 gives Tallied 2 2 0 4 ∷ ask-tally 1 gives Tallied 2 2 0 4 ∷ []) ∷
+    -- ★ two fresh campaigns at price 4 with equal budgets: campaign 0 plays
+    answered (plan 2 2 gives Done ∷ campaign-of 4 8 gives Done ∷ campaign-of 4 8 gives Done ∷ start-day gives Done ∷ view 3 gives Played 0 4 ∷ []) ∷
+    -- ★ depth 1, width 2, prices 2 and 1: campaign 0 plays; campaign 1 gains a turn at age 0
+    answered (
+    plan 1 2 gives Done ∷ campaign-of 2 2 gives Done ∷ campaign-of 1 1 gives Done ∷ start-day gives Done ∷
+    view 3 gives Played 0 2 ∷ ask-tally 1 gives Tallied 0 1 0 1 ∷ []) ∷
+    []

@@ -1,0 +1,16 @@
+//! The pump-screen controller: one day of campaigns, views and plays.
+//!
+//! [`day`] holds the state and its operations, [`lines`] the text forms, and
+//! [`session`] turns lines of input into lines of answer.
+
+#![forbid(unsafe_code)]
+#![warn(missing_docs)]
+
+pub mod day;
+pub mod lines;
+pub mod refusal;
+pub mod session;
+
+pub use day::{Answer, Campaign, Day, Ledger, Phase};
+pub use lines::Record;
+pub use session::{Session, Stream};

@@ -1,0 +1,9 @@
+//! The tests, as one program.
+
+mod common;
+mod days;
+mod limits;
+mod lines;
+mod program;
+mod refusals;
+mod soundness;
