@@ -2,17 +2,15 @@
 use mathlib.Core.Path.{_≡_, refl, sym, ap, _∙_, subst}
 use mathlib.Core.Bool.{Bool, true, false, cond}
 use mathlib.Core.List.{List, [], _∷_, append-nil}
-use mathlib.Core.Logic.{_⊎_, inl, inr}
 use Prim.Native.Nat.{ℕ, zero, suc, _≤_, _<_}
 use native.Mathlib.Omega.{arith}
 use native.Mathlib.Nat.{le-trans}
 use lib.Dec.{eqb, lit<, lit≤}
-use lib.ListN.{length, getD, drop}
+use lib.ListN.{length, getD}
 use Rattle.lines.specs.declared.Record.{Record}
 use Rattle.lines.specs.declared.Record.the-variants.{Plan, Campaign, Start, View, Close, Done, Play, Nobody, Refused, Closed, Tally}
-use Rattle.lines.specs.declared.Reading.{Reading}
 use Rattle.lines.specs.declared.Reading.the-variants.{Got, Refusal}
-use Rattle.lines.specs.Form.{template, numbers, isSlot, slotText, piece, after, filled, inSlots, text, inRange}
+use Rattle.lines.specs.Form.{template, numbers, piece, after, filled, inSlots, text, inRange}
 use Rattle.lines.specs.Reading.{Rest, none, some, isDigit, restOf, numbersOf, made, isEnd, endedOr, heldOr, forms, firstOf}
 use Rattle.lines.proofs.Digits.{apart}
 use Rattle.lines.proofs.Templates.{fair, taken, most, sound, complete, filled-most}

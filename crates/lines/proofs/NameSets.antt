@@ -1,18 +1,18 @@
 -- The names of a set are read as that set, and what is read as a set is its names.
-use mathlib.Core.Path.{_≡_, refl, sym, ap, ap₂, _∙_, subst}
+use mathlib.Core.Path.{_≡_, refl, sym, ap, ap₂, _∙_}
 use mathlib.Core.Bool.{Bool, true, false, cond, not}
 use mathlib.Core.List.{List, [], _∷_, _++_, append-assoc}
 use Prim.Native.Nat.{ℕ, zero, suc, _+_, _*_, _-_, _/_, _%_, _^_, _≤_, _<_}
-use native.Mathlib.Nat.{pow-suc, pow-zero, mod-lt, mod-one, mod-eq-of-lt, div-eq-of-lt, lt-of-lt-of-le, add-mul-div-right, add-zero}
+use native.Mathlib.Nat.{pow-suc, pow-zero, mod-lt, mod-one, mod-eq-of-lt, div-eq-of-lt, lt-of-lt-of-le, add-mul-div-right}
 use native.Mathlib.Omega.{arith}
-use lib.Dec.{ltb, leb, eqb, lit<}
+use lib.Dec.{ltb, eqb, lit<}
 use lib.ListN.{length, length-append}
 use lib.Pow.{pow-pos, pow-mono, pow-add, mod-pow-add}
-use borrow.Author.Tests.{ltb-true, ltb-false, lt-ltb, le-leb, leb-true, eqb-true, eqb-false, eq-eqb, ne-eqb, not-true}
+use borrow.Author.Tests.{ltb-true, ltb-false, lt-ltb, le-leb, leb-true, eqb-true, eqb-false, not-true}
 use Rattle.sets.specs.Set.{member}
 use Rattle.lines.specs.Numeral.{numeral}
 use Rattle.lines.specs.Form.{inSlot, names}
-use Rattle.lines.specs.Reading.{Seen, seen, unseen, value, isDigit, numeralAt, ranged, joined, andThen, namesAt}
+use Rattle.lines.specs.Reading.{Seen, seen, unseen, isDigit, numeralAt, ranged, joined, andThen, namesAt}
 use Rattle.lines.proofs.Digits.{ranged-yes}
 use Rattle.lines.proofs.Numerals.{stops, numeral-one, numeral-more, numeral-sound, numeral-back}
 

@@ -10,7 +10,7 @@ use lib.ListN.{length, length-append}
 use borrow.Author.Tests.{ltb-true, ltb-false, lt-ltb, le-ltb, leb-true, le-leb, eqb-true, eqb-false, ne-eqb, not-true}
 use Rattle.finite.proofs.Tests.{both-left, both-right}
 use Rattle.lines.specs.Numeral.{numeralIn, numeral}
-use Rattle.lines.specs.Reading.{Seen, seen, unseen, value, isDigit, digits, numeralAt}
+use Rattle.lines.specs.Reading.{seen, unseen, value, isDigit, digits, numeralAt}
 use Rattle.lines.proofs.Digits.{apart, digit-yes, digit-from, digits-least}
 
 -- Digit by digit.

@@ -2,16 +2,16 @@
 use mathlib.Core.Path.{_≡_, refl, sym, ap, ap₂, _∙_}
 use mathlib.Core.Bool.{Bool, true, false, cond, not, _&&_}
 use mathlib.Core.List.{List, [], _∷_, _++_, append-assoc}
-use Prim.Native.Nat.{ℕ, suc, _+_, _*_, _^_, _≤_, _<_}
+use Prim.Native.Nat.{ℕ, _+_, _≤_}
 use native.Mathlib.Omega.{arith}
-use lib.Dec.{leb, eqb}
+use lib.Dec.{eqb}
 use lib.ListN.{length, getD, drop, length-append}
-use borrow.Author.Tests.{leb-true, le-leb, eqb-true, eqb-false, ne-eqb, eq-eqb, not-true}
+use borrow.Author.Tests.{le-leb, eqb-true, not-true}
 use Rattle.finite.proofs.Tests.{both-left, both-right}
 use Rattle.lines.specs.Numeral.{numeral}
 use Rattle.lines.specs.Form.{isSlot, inSlot, names, slotText, piece, after, filled, inSlots}
-use Rattle.lines.specs.Reading.{Rest, none, some, Seen, seen, unseen, value, behind, isDigit, numeralAt, ranged, namesAt, slotAt, strip, step, restOf, slotThen, numbersOf}
-use Rattle.lines.proofs.Digits.{apart, slot-small, ranged-yes, ranged-no}
+use Rattle.lines.specs.Reading.{Rest, none, some, Seen, seen, unseen, numeralAt, ranged, namesAt, slotAt, strip, step, restOf, slotThen, numbersOf}
+use Rattle.lines.proofs.Digits.{slot-small, ranged-yes}
 use Rattle.lines.proofs.Places.{strip-hit}
 use Rattle.lines.proofs.Numerals.{stops, numeral-most, numeral-sound, numeral-back}
 use Rattle.lines.proofs.NameSets.{ends, set-sound, set-back, names-most}

@@ -1,12 +1,12 @@
 // Bracket lines: the records, and the reader of one line.
 ghost use mathlib.Core.Path.{_≡_};
-ghost use mathlib.Core.Bool.{true, false, cond, _&&_};
-ghost use mathlib.Core.List.{List, [], _∷_};
+ghost use mathlib.Core.Bool.{true, false};
+ghost use mathlib.Core.List.{List};
 ghost use Prim.Native.Nat.{ℕ, _+_, _*_, _<_, _≤_, _^_};
 ghost use lib.Dec.{ltb};
 ghost use lib.ListN.{length, drop, getD};
 ghost use Rattle.lines.specs.Form.{inSlot};
-ghost use Rattle.lines.specs.Reading.{Rest, some, Seen, isDigit, digits, ranged, joined, slotAt, endedOr, heldOr, reading};
+ghost use Rattle.lines.specs.Reading.{Seen, isDigit, digits, ranged, joined, slotAt, endedOr, heldOr, reading};
 ghost use Rattle.lines.specs.Place.{place, stripped, Sees};
 
 // One line: an input line (the first five) or an output line. A view is a 64-bit set, bit i standing for campaign i.

@@ -1,12 +1,12 @@
 -- Laws of bytes laid over a buffer, and of a run of them.
-use mathlib.Core.Path.{_≡_, refl, sym, ap, _∙_, subst}
+use mathlib.Core.Path.{_≡_, refl, sym, ap, _∙_}
 use mathlib.Core.Bool.{Bool, true, false, cond}
 use mathlib.Core.List.{List, [], _∷_, _++_, append-assoc, append-nil}
 use Prim.Native.Nat.{ℕ, zero, suc, _+_, _-_, _/_, _%_, _^_, _≤_, _<_}
 use native.Mathlib.Omega.{arith}
 use native.Mathlib.Numerals.{add-one}
 use lib.Dec.{ltb}
-use lib.ListN.{length, drop, take, getD, set, length-append, length-set}
+use lib.ListN.{length, drop, take, getD, set, length-append}
 use lib.Seq.{take-suc, length-take-le}
 use borrow.Author.Tests.{ltb-true, ltb-false}
 use Rattle.lines.specs.Numeral.{numeralIn, numeral}

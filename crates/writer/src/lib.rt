@@ -7,7 +7,7 @@ ghost use lib.ListN.{length};
 ghost use Rattle.lines.specs.Numeral.{numeral};
 ghost use Rattle.lines.specs.Form.{bytes, inSlot, names, slotText};
 ghost use Rattle.writer.specs.Writing.{line, writing, written};
-ghost use Rattle.writer.specs.Buffer.{over, Put, Sized};
+ghost use Rattle.writer.specs.Buffer.{Put, Sized};
 use lines::Record;
 
 // What writing answers: the length of the line with its byte 10, or the number of the first question that fails.

@@ -1,6 +1,3 @@
-use mathlib.Core.Path.{_≡_, ap, sym, _∙_}
-use Prim.Native.Nat.{ℕ}
-use native.Mathlib.Omega.{arith}
 use borrow.Author.Needs.{needs}
 use Rattle.lines.proofs.Places.{ends, ends-not}
 use Rattle.lines.specs.Place.{place, stripped}

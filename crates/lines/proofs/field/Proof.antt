@@ -1,7 +1,7 @@
 use mathlib.Core.Path.{ap, sym, _∙_, subst}
 use Prim.Native.Nat.{ℕ}
 use borrow.Author.Needs.{needs}
-use Rattle.lines.specs.Reading.{Rest, slotAt}
+use Rattle.lines.specs.Reading.{slotAt}
 use Rattle.lines.specs.Place.{place, Sees}
 use Rattle.lines.proofs.field.Statement.{statement}
 use Rattle.lines.proofs.field.Tie as tie

@@ -1,14 +1,13 @@
 use mathlib.Core.Path.{_≡_, ap, sym, _∙_}
-use Prim.Native.Nat.{ℕ, _+_, _*_, _%_, _^_, _<_, _≤_}
+use Prim.Native.Nat.{ℕ, _+_, _*_, _%_, _^_, _<_}
 use native.Mathlib.Nat.{one-mul}
 use native.Mathlib.Omega.{arith}
 use lib.Dec.{lit<}
-use lib.ListN.{length, drop}
+use lib.ListN.{drop}
 use lib.Pow.{pow-mono, shl-exact}
 use borrow.Author.Needs.{needs}
-use Rattle.lines.specs.declared.Slot.{Slot}
 use Rattle.lines.specs.Reading.{seen, slotAt, joined}
-use Rattle.lines.specs.Place.{place, Sees}
+use Rattle.lines.specs.Place.{place}
 use Rattle.lines.proofs.Places.{sees, misses, seen-out, seen-in, name-small, joins, joins-not}
 use Rattle.lines.proofs.join_name.Statement.{statement}
 use Rattle.lines.proofs.join_name.Tie as tie

@@ -1,11 +1,11 @@
-use mathlib.Core.Path.{_≡_, refl, ap, sym, _∙_, subst}
+use mathlib.Core.Path.{refl, ap, sym, _∙_, subst}
 use mathlib.Core.Logic.{inl, inr, ⊎-elim}
-use Prim.Native.Nat.{ℕ, _+_, _-_}
+use Prim.Native.Nat.{ℕ, _+_}
 use native.Mathlib.Omega.{arith}
-use lib.ListN.{drop, getD}
+use lib.ListN.{drop}
 use borrow.Author.Needs.{needs}
 use Rattle.lines.specs.declared.Slot.{Slot}
-use Rattle.lines.specs.Reading.{Seen, seen, digits, ranged, slotAt}
+use Rattle.lines.specs.Reading.{seen, digits, ranged, slotAt}
 use Rattle.lines.specs.Place.{place, Sees}
 use Rattle.lines.proofs.Digits.{ranged-wide}
 use Rattle.lines.proofs.Places.{sees, misses, number-end, number-zero, number-lead, number-other}

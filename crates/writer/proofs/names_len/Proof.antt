@@ -1,8 +1,4 @@
-use mathlib.Core.Path.{_≡_, ap, sym, _∙_}
-use Prim.Native.Nat.{ℕ, _≤_}
 use native.Mathlib.Omega.{arith}
-use lib.ListN.{length}
-use Rattle.sets.specs.Set.{size}
 use Rattle.writer.proofs.Lengths.{names-size, size-most}
 use Rattle.writer.proofs.names_len.Statement.{statement}
 use Rattle.writer.proofs.names_len.Tie as tie

@@ -1,7 +1,7 @@
 use mathlib.Core.Path.{_≡_, refl, ap, sym, _∙_, subst}
 use mathlib.Core.Bool.{true}
 use mathlib.Core.List.{List, _∷_, _++_}
-use Prim.Native.Nat.{ℕ, suc, _+_, _-_, _≤_, _<_}
+use Prim.Native.Nat.{ℕ, _+_, _-_, _≤_, _<_}
 use native.Mathlib.Omega.{arith}
 use native.Mathlib.Numerals.{add-one}
 use lib.ListN.{length, length-append}
@@ -10,7 +10,6 @@ use Rattle.sets.proofs.Walk.{next-is}
 use Rattle.lines.specs.Numeral.{numeral}
 use Rattle.lines.specs.Form.{names}
 use Rattle.lines.proofs.NameSets.{names-here}
-use Rattle.writer.specs.Buffer.{Put}
 use Rattle.writer.proofs.Buffers.{Run, start, then, ends}
 use Rattle.writer.proofs.Lengths.{names-next, names-less}
 use Rattle.writer.proofs.put_names.Statement.{statement}

@@ -1,7 +1,6 @@
-use mathlib.Core.Path.{_≡_, ap, sym, _∙_}
+use mathlib.Core.Path.{ap, sym, _∙_}
 use native.Mathlib.Omega.{arith}
 use lib.ListN.{length}
-use Rattle.lines.specs.Form.{slotText}
 use Rattle.lines.proofs.Numerals.{numeral-most}
 use Rattle.writer.proofs.Lengths.{text-names, text-number}
 use Rattle.writer.proofs.slot_len.Statement.{statement}

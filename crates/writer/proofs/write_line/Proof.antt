@@ -1,18 +1,17 @@
-use mathlib.Core.Path.{_≡_, refl, ap, sym, _∙_}
-use mathlib.Core.Bool.{Bool, true, false, cond}
-use mathlib.Core.List.{List, [], _∷_, _++_}
+use mathlib.Core.Path.{_≡_, ap, sym, _∙_}
+use mathlib.Core.Bool.{true, false}
+use mathlib.Core.List.{List}
 use Prim.Native.Nat.{ℕ, _≤_, _<_}
 use native.Mathlib.Omega.{arith}
-use lib.Dec.{leb, eqb}
-use lib.ListN.{length, drop}
+use lib.Dec.{leb}
+use lib.ListN.{length}
 use borrow.Author.Needs.{needs}
 use borrow.Author.Tests.{le-leb, lt-leb, not-true, not-false}
 use Rattle.lines.specs.Form.{inRange}
 use Rattle.lines.specs.declared.Record.{Record}
-use Rattle.writer.specs.declared.Writing.{Writing}
 use Rattle.writer.specs.declared.Writing.the-variants.{Length, Refusal}
 use Rattle.writer.specs.declared.Size.{Size}
-use Rattle.writer.specs.Buffer.{over, Put, Sized}
+use Rattle.writer.specs.Buffer.{Put, Sized}
 use Rattle.writer.specs.Writing.{line, question, writing, written}
 use Rattle.writer.proofs.Buffers.{over-front}
 use Rattle.writer.proofs.write_line.Statement.{statement}
