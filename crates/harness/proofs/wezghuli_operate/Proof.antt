@@ -3,17 +3,17 @@ use lib.ListN.{length}
 use borrow.Author.Tests.{eq-eqb, ne-eqb, not-true, not-false}
 use Rattle.day.specs.declared.Day.{Day}
 use Rattle.day.specs.Calls.{call}
-use Rattle.harness.specs.Words.{call-of, readable, outcome-words}
-use Rattle.harness.proofs.Columns.{left, answered}
+use Rattle.words.specs.Words.{call-of, readable, outcome-words}
+use Rattle.words.proofs.Columns.{left, answered}
 use borrow.Author.Needs.{needs}
 use Rattle.harness.proofs.wezghuli_operate.Statement.{statement}
 use Rattle.harness.proofs.wezghuli_operate.Tie as tie
 use Rattle.harness.proofs.wezghuli_operate.Reads as reads
 use Rattle.harness.proofs.wezghuli_operate.Lts as lts
 use Rattle.harness.proofs.operated.Reads as operated-reads
-use Rattle.harness.proofs.words.fit.Reads as fit-reads
-use Rattle.harness.proofs.words.read_day.Reads as read-day-reads
-use Rattle.harness.proofs.words.write_outcome.Reads as write-outcome-reads
+use Rattle.words.proofs.fit.Reads as fit-reads
+use Rattle.words.proofs.read_day.Reads as read-day-reads
+use Rattle.words.proofs.write_outcome.Reads as write-outcome-reads
 
 -- src/lib.rt:45:9
 returns : tie.Need-returns

@@ -1,14 +1,14 @@
 use native.Mathlib.Omega.{arith}
-use Rattle.harness.specs.Words.{day-of}
-use Rattle.harness.proofs.Columns.{fit-parts}
+use Rattle.words.specs.Words.{day-of}
+use Rattle.words.proofs.Columns.{fit-parts}
 use borrow.Author.Needs.{needs}
-use Rattle.harness.proofs.words.read_day.Statement.{statement}
-use Rattle.harness.proofs.words.read_day.Tie as tie
-use Rattle.harness.proofs.words.read_day.Reads as reads
-use Rattle.harness.proofs.words.read_day.Lts as lts
-use Rattle.harness.proofs.words.column16.Reads as column16-reads
-use Rattle.harness.proofs.words.column32.Reads as column32-reads
-use Rattle.harness.proofs.words.phase_of.Reads as phase-of-reads
+use Rattle.words.proofs.read_day.Statement.{statement}
+use Rattle.words.proofs.read_day.Tie as tie
+use Rattle.words.proofs.read_day.Reads as reads
+use Rattle.words.proofs.read_day.Lts as lts
+use Rattle.words.proofs.column16.Reads as column16-reads
+use Rattle.words.proofs.column32.Reads as column32-reads
+use Rattle.words.proofs.phase_of.Reads as phase-of-reads
 
 -- src/words.rt:81:26
 shared-slice-read-phase-of : tie.Need-shared-slice-read-phase-of

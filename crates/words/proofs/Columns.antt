@@ -16,7 +16,7 @@ use Rattle.day.specs.declared.Answer.the-variants.{Refused, Done, Played, Nobod
 use Rattle.day.specs.declared.Day.{Day}
 use Rattle.day.specs.Calls.{Call, call}
 use Rattle.day.proofs.State.{Lengths}
-use Rattle.harness.specs.Words.{Below, below, fit, head-of, day-words, reply-of, outcome-words, day-of, readable, status, written}
+use Rattle.words.specs.Words.{Below, below, fit, head-of, day-words, reply-of, outcome-words, day-of, readable, status, written}
 
 pub below-of : (s : List ℕ) (from to limit : ℕ) → below s from to limit ≡ true → Below s from to limit
 unfolding below

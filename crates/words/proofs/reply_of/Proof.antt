@@ -1,8 +1,8 @@
 use borrow.Author.Needs.{needs}
-use Rattle.harness.proofs.words.reply_of.Statement.{statement}
-use Rattle.harness.proofs.words.reply_of.Tie as tie
-use Rattle.harness.proofs.words.reply_of.Reads as reads
-use Rattle.harness.proofs.words.reply_of.Lts as lts
+use Rattle.words.proofs.reply_of.Statement.{statement}
+use Rattle.words.proofs.reply_of.Tie as tie
+use Rattle.words.proofs.reply_of.Reads as reads
+use Rattle.words.proofs.reply_of.Lts as lts
 
 -- src/words.rt:171:25
 enum-known-answer : tie.Need-enum-known-answer

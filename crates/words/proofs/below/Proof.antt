@@ -12,12 +12,12 @@ use mathlib.Core.Path.{_≡_, refl}
 use mathlib.Core.Bool.{true}
 use Prim.Native.Nat.{_-_, _≤_}
 use lib.ListN.{length}
-use Rattle.harness.specs.Words.{below}
-use Rattle.harness.proofs.Columns.{not-below}
-use Rattle.harness.proofs.words.below.Statement.{statement}
-use Rattle.harness.proofs.words.below.Tie as tie
-use Rattle.harness.proofs.words.below.Reads as reads
-use Rattle.harness.proofs.words.below.Lts as lts
+use Rattle.words.specs.Words.{below}
+use Rattle.words.proofs.Columns.{not-below}
+use Rattle.words.proofs.below.Statement.{statement}
+use Rattle.words.proofs.below.Tie as tie
+use Rattle.words.proofs.below.Reads as reads
+use Rattle.words.proofs.below.Lts as lts
 
 abbrev Inv-loop : tie.InvT-loop
 Inv-loop s from to limit i₀ i = (from ≤ i) × (i ≤ to) × (below s from i limit ≡ true)

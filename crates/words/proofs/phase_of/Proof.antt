@@ -2,11 +2,11 @@ use borrow.Author.Needs.{needs}
 use native.Mathlib.Omega.{arith}
 use mathlib.Core.Path.{_≡_, refl, ap, sym, _∙_}
 use borrow.Author.Tests.{ne-eqb, eq-eqb}
-use Rattle.harness.specs.Words.{call-of, phase-of, reply-of}
-use Rattle.harness.proofs.words.phase_of.Statement.{statement}
-use Rattle.harness.proofs.words.phase_of.Tie as tie
-use Rattle.harness.proofs.words.phase_of.Reads as reads
-use Rattle.harness.proofs.words.phase_of.Lts as lts
+use Rattle.words.specs.Words.{call-of, phase-of, reply-of}
+use Rattle.words.proofs.phase_of.Statement.{statement}
+use Rattle.words.proofs.phase_of.Tie as tie
+use Rattle.words.proofs.phase_of.Reads as reads
+use Rattle.words.proofs.phase_of.Lts as lts
 
 -- src/words.rt:66:1
 returns : tie.Need-returns

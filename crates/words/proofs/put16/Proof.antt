@@ -7,12 +7,12 @@ use native.Mathlib.Omega.{arith}
 use lib.ListN.{length, getD, length-set}
 use lib.Seq.{paste, paste-zero}
 use borrow.Author.Needs.{needs}
-use Rattle.harness.proofs.Columns.{copy-next}
-use Rattle.harness.proofs.words.put16.Statement.{statement}
-use Rattle.harness.proofs.words.put16.Tie as tie
-use Rattle.harness.proofs.words.put16.Reads as reads
-use Rattle.harness.proofs.words.put16.Lts as lts
-use Rattle.harness.proofs.words.wide16.Reads as wide16-reads
+use Rattle.words.proofs.Columns.{copy-next}
+use Rattle.words.proofs.put16.Statement.{statement}
+use Rattle.words.proofs.put16.Tie as tie
+use Rattle.words.proofs.put16.Reads as reads
+use Rattle.words.proofs.put16.Lts as lts
+use Rattle.words.proofs.wide16.Reads as wide16-reads
 
 abbrev Inv-loop : tie.InvT-loop
 Inv-loop out₀ at column i₀ out i = (i ≤ 64) × (length out ≡ length out₀) × (out ≡ paste out₀ at column i)
