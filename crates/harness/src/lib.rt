@@ -8,8 +8,6 @@ use campaigns::View;
 use day::Day;
 use day::Outcome;
 ghost use mathlib.Core.Path.{_≡_};
-ghost use mathlib.Core.List.{List};
-ghost use Prim.Native.Nat.{ℕ};
 ghost use Rattle.day.specs.Calls.{call};
 ghost use Rattle.words.specs.Words.{call-of, status, written};
 

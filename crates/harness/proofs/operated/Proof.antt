@@ -1,8 +1,5 @@
 use borrow.Author.Needs.{needs}
 use borrow.Author.Tests.{ne-eqb}
-use Prim.Native.Nat.{ℕ}
-use mathlib.Core.Path.{_≡_, ap, sym, _∙_}
-use Rattle.day.specs.Calls.{call}
 use Rattle.words.specs.Words.{call-of}
 use Rattle.harness.proofs.operated.Statement.{statement}
 use Rattle.harness.proofs.operated.Tie as tie

@@ -6,19 +6,15 @@ use Rattle.words.proofs.fit.Reads as reads
 use Rattle.words.proofs.fit.Lts as lts
 use Rattle.words.proofs.below.Reads as below-reads
 
--- src/words.rt:39:5
 below-requires : tie.Need-below-requires
 below-requires c κs = search needs
 
--- src/words.rt:39:25
 below-requires-2 : tie.Need-below-requires-2
 below-requires-2 c κs = search needs
 
--- src/words.rt:39:59
 below-requires-3 : tie.Need-below-requires-3
 below-requires-3 c κs = search needs
 
--- src/words.rt:35:1
 returns : tie.Need-returns
 unfolding fit
 returns c = rw (c .before .before .below .ensures, c .before .below2 .ensures, c .below3 .ensures)

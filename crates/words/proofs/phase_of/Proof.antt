@@ -1,24 +1,18 @@
-use borrow.Author.Needs.{needs}
-use native.Mathlib.Omega.{arith}
-use mathlib.Core.Path.{_≡_, refl, ap, sym, _∙_}
-use borrow.Author.Tests.{ne-eqb, eq-eqb}
-use Rattle.words.specs.Words.{call-of, phase-of, reply-of}
+use borrow.Author.Tests.{ne-eqb}
+use Rattle.words.specs.Words.{phase-of}
 use Rattle.words.proofs.phase_of.Statement.{statement}
 use Rattle.words.proofs.phase_of.Tie as tie
 use Rattle.words.proofs.phase_of.Reads as reads
 use Rattle.words.proofs.phase_of.Lts as lts
 
--- src/words.rt:66:1
 returns : tie.Need-returns
 unfolding phase-of
 returns c = simp (c .match .keys1)
 
--- src/words.rt:66:1
 returns-2 : tie.Need-returns-2
 unfolding phase-of
 returns-2 c = simp (c .match .keys2)
 
--- src/words.rt:66:1
 returns-3 : tie.Need-returns-3
 unfolding phase-of
 returns-3 c =

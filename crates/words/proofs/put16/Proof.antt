@@ -1,10 +1,9 @@
 use borrow.Kind.Array.{good-length, eInt}
 use mir.Syntax.{w16}
 use mathlib.Core.Path.{_≡_, refl, ap, _∙_}
-use mathlib.Core.List.{List}
-use Prim.Native.Nat.{ℕ, _+_, _-_, _≤_}
+use Prim.Native.Nat.{_+_, _-_, _≤_}
 use native.Mathlib.Omega.{arith}
-use lib.ListN.{length, getD, length-set}
+use lib.ListN.{length, length-set}
 use lib.Seq.{paste, paste-zero}
 use borrow.Author.Needs.{needs}
 use Rattle.words.proofs.Columns.{copy-next}
@@ -23,43 +22,33 @@ abbrev μ-loop : tie.MeasureT-loop
 column-length : (c : tie.Start Inv-loop μ-loop) → length (c .args .t3) ≡ 64
 column-length c = good-length (eInt w16) 64 (c .args .t3) _ (c .good .1 .1 .0)
 
--- src/words.rt:131:5
 loop-holds : tie.Need-loop-holds Inv-loop μ-loop
 loop-holds c = (omega arith, refl, paste-zero (c .before .args .out .now) (c .before .args .at) (c .before .args .t3))
 
--- src/words.rt:132:30
 mul-wide16 : tie.Need-mul-wide16 Inv-loop μ-loop
 mul-wide16 c = search needs
 
--- src/words.rt:132:30
 array-read-wide16 : tie.Need-array-read-wide16 Inv-loop μ-loop
 array-read-wide16 c = search needs
 
--- src/words.rt:132:23
 wide16-requires : tie.Need-wide16-requires Inv-loop μ-loop
 wide16-requires c κs = search needs
 
--- src/words.rt:132:13
 add-out : tie.Need-add-out Inv-loop μ-loop
 add-out c = search needs
 
--- src/words.rt:132:9
 mul-out : tie.Need-mul-out Inv-loop μ-loop
 mul-out c = search needs
 
--- src/words.rt:132:9
 slice-write-out : tie.Need-slice-write-out Inv-loop μ-loop
 slice-write-out c = search needs
 
--- src/words.rt:131:9
 add-i : tie.Need-add-i Inv-loop μ-loop
 add-i c = search needs
 
--- src/words.rt:131:5
 loop-less : tie.Need-loop-less Inv-loop μ-loop
 loop-less c = search needs
 
--- src/words.rt:131:5
 loop-again : tie.Need-loop-again Inv-loop μ-loop
 loop-again c = let a = c .before .before .before .before .args in
     let l = c .before .before .loop in (
@@ -68,11 +57,9 @@ loop-again c = let a = c .before .before .before .before .args in
       copy-next (a .out .now) (a .at) (a .t3) (l .out) (l .i) (c .wide16 .result) (omega arith) (omega (arith, column-length (c .before .before .before .before))) (l .inv .2) (c .wide16 .ensures),
     )
 
--- src/words.rt:127:1
 same-length : tie.Need-same-length Inv-loop μ-loop
 same-length c = c .before .loop .inv .1
 
--- src/words.rt:127:1
 returns : tie.Need-returns Inv-loop μ-loop
 returns c = let a = c .before .before .before .args in
     let e : c .before .loop .i ≡ 64 = omega arith in

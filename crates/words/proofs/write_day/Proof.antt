@@ -18,47 +18,36 @@ use Rattle.words.proofs.put32.Reads as put32-reads
 lengths : (s : tie.Start) → Lengths (s .args .day)
 lengths s = record { prices-length = search needs; budgets-length = search needs; plays-length = search needs; turns-length = search needs; ages-length = search needs; named-length = search needs }
 
--- src/words.rt:202:16
 head-of-requires : tie.Need-head-of-requires
 head-of-requires c κs = search needs
 
--- src/words.rt:209:17
 slice-aggregate-put : tie.Need-slice-aggregate-put
 slice-aggregate-put c = search needs
 
--- src/words.rt:209:5
 put-requires : tie.Need-put-requires
 put-requires c κs = search needs
 
--- src/words.rt:210:5
 put32-requires : tie.Need-put32-requires
 put32-requires c κs = search needs
 
--- src/words.rt:211:5
 put32-requires-2 : tie.Need-put32-requires-2
 put32-requires-2 c κs = search needs
 
--- src/words.rt:212:5
 put16-requires : tie.Need-put16-requires
 put16-requires c κs = search needs
 
--- src/words.rt:213:5
 put16-requires-2 : tie.Need-put16-requires-2
 put16-requires-2 c κs = search needs
 
--- src/words.rt:214:5
 put16-requires-3 : tie.Need-put16-requires-3
 put16-requires-3 c κs = search needs
 
--- src/words.rt:215:5
 put16-requires-4 : tie.Need-put16-requires-4
 put16-requires-4 c κs = search needs
 
--- src/words.rt:196:1
 same-length : tie.Need-same-length
 same-length c = search needs
 
--- src/words.rt:196:1
 returns : tie.Need-returns
 unfolding day-words
 returns c =

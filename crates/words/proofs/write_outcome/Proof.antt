@@ -1,4 +1,4 @@
-use mathlib.Core.Path.{_≡_, refl, ap, _∙_}
+use mathlib.Core.Path.{refl, ap, _∙_}
 use mathlib.Core.List.{List, _++_}
 use Prim.Native.Nat.{ℕ, _+_}
 use lib.ListN.{length, drop}
@@ -17,27 +17,21 @@ use Rattle.words.proofs.write_day.Reads as write-day-reads
 lengths : (s : tie.Start) → Lengths (s .args .outcome .day)
 lengths s = record { prices-length = search needs; budgets-length = search needs; plays-length = search needs; turns-length = search needs; ages-length = search needs; named-length = search needs }
 
--- src/words.rt:224:17
 reply-of-requires : tie.Need-reply-of-requires
 reply-of-requires c κs = search needs
 
--- src/words.rt:225:5
 write-day-requires : tie.Need-write-day-requires
 write-day-requires c κs = search needs
 
--- src/words.rt:226:19
 slice-aggregate-put : tie.Need-slice-aggregate-put
 slice-aggregate-put c = search needs
 
--- src/words.rt:226:5
 put-requires : tie.Need-put-requires
 put-requires c κs = search needs
 
--- src/words.rt:218:1
 same-length : tie.Need-same-length
 same-length c = search needs
 
--- src/words.rt:218:1
 returns : tie.Need-returns
 unfolding outcome-words
 returns c =
