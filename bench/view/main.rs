@@ -5,7 +5,6 @@ mod checksum;
 mod plain;
 
 use std::hint::black_box;
-use std::time::Instant;
 
 extern "C" {
     fn wezghuli_views(
@@ -16,11 +15,12 @@ extern "C" {
         views: *const u64,
         views_len: usize,
     ) -> u64;
+    fn clock_gettime(clock: i32, time: *mut i64) -> i32;
 }
 
 const VIEWS: usize = 4_096;
 const DEPTH: u64 = 8;
-const RUNS: usize = 200;
+const RUNS: usize = 500;
 /// Campaigns and width.
 const DAYS: [(u64, u64); 5] = [(2, 2), (16, 4), (16, 16), (64, 4), (64, 16)];
 
@@ -95,25 +95,45 @@ fn plain(day: &Day) -> u64 {
     state.fold_counts(sum)
 }
 
-/// Nanoseconds for one view.
-fn timed(run: impl Fn(&Day) -> u64, day: &Day) -> (u64, f64) {
-    let start = Instant::now();
-    let sum = black_box(run(black_box(day)));
-    (sum, start.elapsed().as_nanos() as f64 / VIEWS as f64)
+/// The time that this thread has run, in nanoseconds: what other programs take of the machine is left out.
+fn now() -> f64 {
+    const CLOCK_THREAD_CPUTIME_ID: i32 = 3;
+    let mut time = [0i64; 2];
+    unsafe {
+        clock_gettime(CLOCK_THREAD_CPUTIME_ID, time.as_mut_ptr());
+    }
+    time[0] as f64 * 1e9 + time[1] as f64
 }
 
-fn best_and_median(mut times: Vec<f64>) -> (f64, f64) {
-    times.sort_by(f64::total_cmp);
-    (times[0], times[times.len() / 2])
+/// The checksum of a day and its nanoseconds for one view.
+fn timed(run: impl Fn(&Day) -> u64, day: &Day) -> (u64, f64) {
+    let start = now();
+    let sum = black_box(run(black_box(day)));
+    (sum, (now() - start) / VIEWS as f64)
+}
+
+fn best(times: &[f64]) -> f64 {
+    times.iter().copied().fold(f64::INFINITY, f64::min)
+}
+
+fn median(times: &[f64]) -> f64 {
+    let mut sorted = times.to_vec();
+    sorted.sort_by(f64::total_cmp);
+    sorted[sorted.len() / 2]
 }
 
 fn main() {
+    println!("state: {} bytes", std::mem::size_of::<State>());
     println!(
-        "state: {} bytes; {VIEWS} views, depth {DEPTH}, {RUNS} runs; nanoseconds for one view, best and median",
-        std::mem::size_of::<State>()
+        "nanoseconds for one view, best and median of {RUNS} days of {VIEWS} views, depth {DEPTH};"
     );
-    println!("campaigns width     proved           plain Rust       plain/proved");
+    println!("speed is plain Rust's time by ours: of the best, and the median over days run one after the other");
+    println!("campaigns width      proved          plain Rust           speed");
+    let only: Vec<u64> = std::env::args().skip(1).flat_map(|a| a.parse()).collect();
     for (campaigns, width) in DAYS {
+        if !only.is_empty() && only != [campaigns, width] {
+            continue;
+        }
         let day = day(campaigns, width);
         let (mut ours, mut theirs) = (vec![], vec![]);
         for _ in 0..RUNS {
@@ -123,15 +143,15 @@ fn main() {
             theirs.push(time);
             assert_eq!(a, b, "the checksums differ");
         }
-        let (ours, theirs) = (best_and_median(ours), best_and_median(theirs));
+        let speeds: Vec<f64> = ours.iter().zip(&theirs).map(|(a, b)| b / a).collect();
         println!(
-            "{campaigns:9} {width:5} {:8.1} {:8.1} {:8.1} {:8.1}    {:5.2} {:5.2}",
-            ours.0,
-            ours.1,
-            theirs.0,
-            theirs.1,
-            theirs.0 / ours.0,
-            theirs.1 / ours.1
+            "{campaigns:9} {width:5} {:8.1} {:8.1} {:8.1} {:8.1}    {:6.2} {:6.2}",
+            best(&ours),
+            median(&ours),
+            best(&theirs),
+            median(&theirs),
+            best(&theirs) / best(&ours),
+            median(&speeds)
         );
     }
 }

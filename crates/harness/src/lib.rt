@@ -1,7 +1,6 @@
 // The day for callers in another language: an operation on a state in words, and a whole day of views to measure.
 // It serves tests and benchmarks; nothing of the product calls it.
 pub mod checksum;
-pub mod words;
 
 use campaigns::Plan;
 use campaigns::Terms;
@@ -9,10 +8,8 @@ use campaigns::View;
 use day::Day;
 use day::Outcome;
 ghost use mathlib.Core.Path.{_≡_};
-ghost use mathlib.Core.List.{List};
-ghost use Prim.Native.Nat.{ℕ};
 ghost use Rattle.day.specs.Calls.{call};
-ghost use Rattle.harness.specs.Words.{call-of, status, written};
+ghost use Rattle.words.specs.Words.{call-of, status, written};
 
 // The calls are numbered: 0 opening, 1 adding, 2 starting, 3 a view, 4 a tally, and the rest closing.
 fn operated(day: Day, kind: u64, a: u64, b: u64) -> Outcome

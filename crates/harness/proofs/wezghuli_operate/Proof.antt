@@ -1,39 +1,35 @@
-use mathlib.Core.Path.{_≡_, ap, sym, _∙_}
+use mathlib.Core.Path.{ap, sym, _∙_}
 use lib.ListN.{length}
 use borrow.Author.Tests.{eq-eqb, ne-eqb, not-true, not-false}
 use Rattle.day.specs.declared.Day.{Day}
 use Rattle.day.specs.Calls.{call}
-use Rattle.harness.specs.Words.{call-of, readable, outcome-words}
-use Rattle.harness.proofs.Columns.{left, answered}
+use Rattle.words.specs.Words.{call-of, readable, outcome-words}
+use Rattle.words.proofs.Columns.{left, answered}
 use borrow.Author.Needs.{needs}
 use Rattle.harness.proofs.wezghuli_operate.Statement.{statement}
 use Rattle.harness.proofs.wezghuli_operate.Tie as tie
 use Rattle.harness.proofs.wezghuli_operate.Reads as reads
 use Rattle.harness.proofs.wezghuli_operate.Lts as lts
 use Rattle.harness.proofs.operated.Reads as operated-reads
-use Rattle.harness.proofs.words.fit.Reads as fit-reads
-use Rattle.harness.proofs.words.read_day.Reads as read-day-reads
-use Rattle.harness.proofs.words.write_outcome.Reads as write-outcome-reads
+use Rattle.words.proofs.fit.Reads as fit-reads
+use Rattle.words.proofs.read_day.Reads as read-day-reads
+use Rattle.words.proofs.write_outcome.Reads as write-outcome-reads
 
--- src/lib.rt:45:9
 returns : tie.Need-returns
 unfolding readable
 returns c =
     let a = c .before .before .before .args in
     left (a .state .now) (a .out .now) (call-of (a .kind) (a .a) (a .b)) (rw (ne-eqb (length (a .state .now)) 390 (c .if1 .taken)))
 
--- src/lib.rt:48:9
 returns-2 : tie.Need-returns-2
 unfolding readable
 returns-2 c =
     let a = c .before .before .before .before .args in
     left (a .state .now) (a .out .now) (call-of (a .kind) (a .a) (a .b)) (rw (eq-eqb (length (a .state .now)) 390 (c .before .if1 .left), ne-eqb (length (a .out .now)) 395 (c .if2 .taken)))
 
--- src/lib.rt:50:9
 fit-requires : tie.Need-fit-requires
 fit-requires c κs = search needs
 
--- src/lib.rt:51:9
 returns-3 : tie.Need-returns-3
 unfolding readable
 returns-3 c =
@@ -41,24 +37,19 @@ returns-3 c =
     left (a .state .now) (a .out .now) (call-of (a .kind) (a .a) (a .b))
     (rw (eq-eqb (length (a .state .now)) 390 (c .before .before .before .if1 .left), eq-eqb (length (a .out .now)) 395 (c .before .before .if2 .left)) (sym (c .before .fit .ensures) ∙ not-true (c .before .fit .result) (c .if3 .taken)))
 
--- src/lib.rt:53:9
 read-day-requires : tie.Need-read-day-requires
 read-day-requires c κs =
     (c .before .before .before .if1 .left, sym (c .before .fit .ensures) ∙ not-false (c .before .fit .result) (c .if3 .left))
 
--- src/lib.rt:54:9
 operated-requires : tie.Need-operated-requires
 operated-requires c κs = search needs
 
--- src/lib.rt:55:5
 write-outcome-requires : tie.Need-write-outcome-requires
 write-outcome-requires c κs = search needs
 
--- src/lib.rt:33:1
 same-length : tie.Need-same-length
 same-length c = search needs
 
--- src/lib.rt:33:1
 returns-4 : tie.Need-returns-4
 unfolding readable
 returns-4 c =

@@ -1,5 +1,4 @@
 use borrow.Author.Needs.{needs}
-use native.Mathlib.Omega.{arith}
 use Prim.Native.Nat.{_-_, _≤_}
 use Rattle.harness.proofs.checksum.fold_counts.Statement.{statement}
 use Rattle.harness.proofs.checksum.fold_counts.Tie as tie
@@ -14,87 +13,66 @@ Inv-loop start day sum₀ i₀ sum i = i ≤ 64
 abbrev μ-loop : tie.MeasureT-loop
 μ-loop start day sum₀ i₀ sum i = 64 - i
 
--- src/checksum.rt:75:5
 loop-holds : tie.Need-loop-holds Inv-loop μ-loop
 loop-holds c = search needs
 
--- src/checksum.rt:76:30
 mul-wide : tie.Need-mul-wide Inv-loop μ-loop
 mul-wide c = search needs
 
--- src/checksum.rt:76:30
 element-copy-out-wide : tie.Need-element-copy-out-wide Inv-loop μ-loop
 element-copy-out-wide c = search needs
 
--- src/checksum.rt:76:25
 wide-requires : tie.Need-wide-requires Inv-loop μ-loop
 wide-requires c κs = search needs
 
--- src/checksum.rt:76:9
 fold-requires : tie.Need-fold-requires Inv-loop μ-loop
 fold-requires c κs = search needs
 
--- src/checksum.rt:77:30
 mul-wide-2 : tie.Need-mul-wide-2 Inv-loop μ-loop
 mul-wide-2 c = search needs
 
--- src/checksum.rt:77:30
 element-copy-out-wide-2 : tie.Need-element-copy-out-wide-2 Inv-loop μ-loop
 element-copy-out-wide-2 c = search needs
 
--- src/checksum.rt:77:25
 wide-requires-2 : tie.Need-wide-requires-2 Inv-loop μ-loop
 wide-requires-2 c κs = search needs
 
--- src/checksum.rt:77:9
 fold-requires-2 : tie.Need-fold-requires-2 Inv-loop μ-loop
 fold-requires-2 c κs = search needs
 
--- src/checksum.rt:78:30
 mul-wide-3 : tie.Need-mul-wide-3 Inv-loop μ-loop
 mul-wide-3 c = search needs
 
--- src/checksum.rt:78:30
 element-copy-out-wide-3 : tie.Need-element-copy-out-wide-3 Inv-loop μ-loop
 element-copy-out-wide-3 c = search needs
 
--- src/checksum.rt:78:25
 wide-requires-3 : tie.Need-wide-requires-3 Inv-loop μ-loop
 wide-requires-3 c κs = search needs
 
--- src/checksum.rt:78:9
 fold-requires-3 : tie.Need-fold-requires-3 Inv-loop μ-loop
 fold-requires-3 c κs = search needs
 
--- src/checksum.rt:79:30
 mul-wide-4 : tie.Need-mul-wide-4 Inv-loop μ-loop
 mul-wide-4 c = search needs
 
--- src/checksum.rt:79:30
 element-copy-out-wide-4 : tie.Need-element-copy-out-wide-4 Inv-loop μ-loop
 element-copy-out-wide-4 c = search needs
 
--- src/checksum.rt:79:25
 wide-requires-4 : tie.Need-wide-requires-4 Inv-loop μ-loop
 wide-requires-4 c κs = search needs
 
--- src/checksum.rt:79:9
 fold-requires-4 : tie.Need-fold-requires-4 Inv-loop μ-loop
 fold-requires-4 c κs = search needs
 
--- src/checksum.rt:75:9
 add-i : tie.Need-add-i Inv-loop μ-loop
 add-i c = search needs
 
--- src/checksum.rt:75:5
 loop-less : tie.Need-loop-less Inv-loop μ-loop
 loop-less c = search needs
 
--- src/checksum.rt:75:5
 loop-again : tie.Need-loop-again Inv-loop μ-loop
 loop-again c = search needs
 
--- src/checksum.rt:73:1
 returns : tie.Need-returns Inv-loop μ-loop
 returns c = search needs
 

@@ -1,6 +1,5 @@
 use borrow.Author.Needs.{needs}
-use native.Mathlib.Omega.{arith}
-use mathlib.Core.Path.{_≡_, refl}
+use mathlib.Core.Path.{_≡_}
 use Prim.Native.Nat.{_-_, _≤_}
 use lib.ListN.{length}
 use Rattle.harness.proofs.checksum.shown.Statement.{statement}
@@ -16,39 +15,30 @@ Inv-loop views day₀ sum₀ i₀ i-end day sum i = (i-end ≡ length views) × 
 abbrev μ-loop : tie.MeasureT-loop
 μ-loop views day₀ sum₀ i₀ i-end day sum i = i-end - i
 
--- src/checksum.rt:58:5
 loop-holds : tie.Need-loop-holds Inv-loop μ-loop
 loop-holds c = search needs
 
--- src/checksum.rt:59:44
 mul-t11 : tie.Need-mul-t11 Inv-loop μ-loop
 mul-t11 c = search needs
 
--- src/checksum.rt:59:44
 shared-slice-read-t13 : tie.Need-shared-slice-read-t13 Inv-loop μ-loop
 shared-slice-read-t13 c = search needs
 
--- src/checksum.rt:59:13
 view-requires : tie.Need-view-requires Inv-loop μ-loop
 view-requires c κs = search needs
 
--- src/checksum.rt:61:9
 fold-answer-requires : tie.Need-fold-answer-requires Inv-loop μ-loop
 fold-answer-requires c κs = search needs
 
--- src/checksum.rt:58:9
 add-i : tie.Need-add-i Inv-loop μ-loop
 add-i c = search needs
 
--- src/checksum.rt:58:5
 loop-less : tie.Need-loop-less Inv-loop μ-loop
 loop-less c = search needs
 
--- src/checksum.rt:58:5
 loop-again : tie.Need-loop-again Inv-loop μ-loop
 loop-again c = search needs
 
--- src/checksum.rt:55:1
 returns : tie.Need-returns Inv-loop μ-loop
 returns c = search needs
 

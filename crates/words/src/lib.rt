@@ -8,11 +8,11 @@ use day::Day;
 use day::Outcome;
 ghost use mathlib.Core.Path.{_≡_};
 ghost use mathlib.Core.Bool.{true};
-ghost use mathlib.Core.List.{List, _++_};
-ghost use Prim.Native.Nat.{ℕ, _+_, _≤_};
+ghost use mathlib.Core.List.{_++_};
+ghost use Prim.Native.Nat.{_+_, _≤_};
 ghost use lib.ListN.{length, take, drop};
 ghost use lib.Seq.{paste};
-ghost use Rattle.harness.specs.Words.{Below, below, fit, phase-of, day-of, tag-of, held-by, reply-of, head-of, day-words, outcome-words};
+ghost use Rattle.words.specs.Words.{Below, below, fit, phase-of, day-of, tag-of, held-by, reply-of, head-of, day-words, outcome-words};
 
 pub const STATE: usize = 390;
 

@@ -1,68 +1,54 @@
 use native.Mathlib.Omega.{arith}
-use Rattle.harness.specs.Words.{day-of}
-use Rattle.harness.proofs.Columns.{fit-parts}
+use Rattle.words.specs.Words.{day-of}
+use Rattle.words.proofs.Columns.{fit-parts}
 use borrow.Author.Needs.{needs}
-use Rattle.harness.proofs.words.read_day.Statement.{statement}
-use Rattle.harness.proofs.words.read_day.Tie as tie
-use Rattle.harness.proofs.words.read_day.Reads as reads
-use Rattle.harness.proofs.words.read_day.Lts as lts
-use Rattle.harness.proofs.words.column16.Reads as column16-reads
-use Rattle.harness.proofs.words.column32.Reads as column32-reads
-use Rattle.harness.proofs.words.phase_of.Reads as phase-of-reads
+use Rattle.words.proofs.read_day.Statement.{statement}
+use Rattle.words.proofs.read_day.Tie as tie
+use Rattle.words.proofs.read_day.Reads as reads
+use Rattle.words.proofs.read_day.Lts as lts
+use Rattle.words.proofs.column16.Reads as column16-reads
+use Rattle.words.proofs.column32.Reads as column32-reads
+use Rattle.words.proofs.phase_of.Reads as phase-of-reads
 
--- src/words.rt:81:26
 shared-slice-read-phase-of : tie.Need-shared-slice-read-phase-of
 shared-slice-read-phase-of c = search needs
 
--- src/words.rt:81:32
 shared-slice-read-phase-of-2 : tie.Need-shared-slice-read-phase-of-2
 shared-slice-read-phase-of-2 c = search needs
 
--- src/words.rt:81:9
 phase-of-requires : tie.Need-phase-of-requires
 phase-of-requires c κs = search needs
 
--- src/words.rt:83:16
 shared-slice-read-t11 : tie.Need-shared-slice-read-t11
 shared-slice-read-t11 c = search needs
 
--- src/words.rt:84:16
 shared-slice-read-t13 : tie.Need-shared-slice-read-t13
 shared-slice-read-t13 c = search needs
 
--- src/words.rt:86:9
 column32-requires : tie.Need-column32-requires
 column32-requires c κs = let s = c .before .before .before .before .before .before in (omega arith, λ i low high. fit-parts (s .args .s .now) (s .pre .1) .0 i (omega arith) (omega arith))
 
--- src/words.rt:87:9
 column32-requires-2 : tie.Need-column32-requires-2
 column32-requires-2 c κs = let s = c .before .before .before .before .before .before .before in (omega arith, λ i low high. fit-parts (s .args .s .now) (s .pre .1) .0 i (omega arith) (omega arith))
 
--- src/words.rt:88:9
 column16-requires : tie.Need-column16-requires
 column16-requires c κs = let s = c .before .before .before .before .before .before .before .before in (omega arith, λ i low high. fit-parts (s .args .s .now) (s .pre .1) .1 i (omega arith) (omega arith))
 
--- src/words.rt:89:9
 column16-requires-2 : tie.Need-column16-requires-2
 column16-requires-2 c κs = let s = c .before .before .before .before .before .before .before .before .before in (omega arith, λ i low high. fit-parts (s .args .s .now) (s .pre .1) .1 i (omega arith) (omega arith))
 
--- src/words.rt:90:9
 column16-requires-3 : tie.Need-column16-requires-3
 column16-requires-3 c κs = let s = c .before .before .before .before .before .before .before .before .before .before in (omega arith, λ i low high. fit-parts (s .args .s .now) (s .pre .1) .1 i (omega arith) (omega arith))
 
--- src/words.rt:91:9
 column16-requires-4 : tie.Need-column16-requires-4
 column16-requires-4 c κs = let s = c .before .before .before .before .before .before .before .before .before .before .before in (omega arith, λ i low high. fit-parts (s .args .s .now) (s .pre .1) .1 i (omega arith) (omega arith))
 
--- src/words.rt:95:16
 shared-slice-read-t11-2 : tie.Need-shared-slice-read-t11-2
 shared-slice-read-t11-2 c = search needs
 
--- src/words.rt:96:19
 shared-slice-read-t13-2 : tie.Need-shared-slice-read-t13-2
 shared-slice-read-t13-2 c = search needs
 
--- src/words.rt:76:1
 returns : tie.Need-returns
 unfolding day-of
 returns c = rw (c .before .before .before .before .before .before .before .before .before .before .phase-of .ensures, c .before .before .before .before .before .before .before .column32 .ensures, c .before .before .before .before .before .before .column322 .ensures, c .before .before .before .before .before .column16 .ensures, c .before .before .before .before .column162 .ensures, c .before .before .before .column163 .ensures, c .before .before .column164 .ensures)

@@ -1,54 +1,42 @@
 use borrow.Author.Needs.{needs}
-use Rattle.harness.proofs.words.reply_of.Statement.{statement}
-use Rattle.harness.proofs.words.reply_of.Tie as tie
-use Rattle.harness.proofs.words.reply_of.Reads as reads
-use Rattle.harness.proofs.words.reply_of.Lts as lts
+use Rattle.words.proofs.reply_of.Statement.{statement}
+use Rattle.words.proofs.reply_of.Tie as tie
+use Rattle.words.proofs.reply_of.Reads as reads
+use Rattle.words.proofs.reply_of.Lts as lts
 
--- src/words.rt:171:25
 enum-known-answer : tie.Need-enum-known-answer
 enum-known-answer c = search needs
 
--- src/words.rt:172:25
 enum-told : tie.Need-enum-told
 enum-told c = search needs
 
--- src/words.rt:173:26
 enum-known-answer-2 : tie.Need-enum-known-answer-2
 enum-known-answer-2 c = search needs
 
--- src/words.rt:174:27
 enum-told-2 : tie.Need-enum-told-2
 enum-told-2 c = search needs
 
--- src/words.rt:176:13
 enum-known-answer-3 : tie.Need-enum-known-answer-3
 enum-known-answer-3 c = search needs
 
--- src/words.rt:182:13
 enum-known-answer-4 : tie.Need-enum-known-answer-4
 enum-known-answer-4 c = search needs
 
--- src/words.rt:167:1
 returns : tie.Need-returns
 returns c = rw (c .before .answer .given .1)
 
--- src/words.rt:167:1
 returns-2 : tie.Need-returns-2
 returns-2 c = search needs
 
--- src/words.rt:167:1
 returns-3 : tie.Need-returns-3
 returns-3 c = rw (c .before .answer2 .given .1)
 
--- src/words.rt:167:1
 returns-4 : tie.Need-returns-4
 returns-4 c = search needs
 
--- src/words.rt:167:1
 returns-5 : tie.Need-returns-5
 returns-5 c = rw (c .before .answer3 .given .1)
 
--- src/words.rt:167:1
 returns-6 : tie.Need-returns-6
 returns-6 c = rw (c .before .answer4 .given .1)
 

@@ -1,15 +1,14 @@
 use mathlib.Core.Path.{_≡_, refl, ap, _∙_}
-use mathlib.Core.List.{List}
-use Prim.Native.Nat.{ℕ, _+_, _-_, _≤_}
+use Prim.Native.Nat.{_+_, _-_, _≤_}
 use native.Mathlib.Omega.{arith}
 use lib.ListN.{length, getD, length-set}
 use lib.Seq.{paste, paste-zero}
 use borrow.Author.Needs.{needs}
-use Rattle.harness.proofs.Columns.{copy-next}
-use Rattle.harness.proofs.words.put.Statement.{statement}
-use Rattle.harness.proofs.words.put.Tie as tie
-use Rattle.harness.proofs.words.put.Reads as reads
-use Rattle.harness.proofs.words.put.Lts as lts
+use Rattle.words.proofs.Columns.{copy-next}
+use Rattle.words.proofs.put.Statement.{statement}
+use Rattle.words.proofs.put.Tie as tie
+use Rattle.words.proofs.put.Reads as reads
+use Rattle.words.proofs.put.Lts as lts
 
 abbrev Inv-loop : tie.InvT-loop
 Inv-loop out₀ at words i₀ i-end out i = (i-end ≡ length words) × (i ≤ i-end) × (length out ≡ length out₀) × (out ≡ paste out₀ at words i)
@@ -17,39 +16,30 @@ Inv-loop out₀ at words i₀ i-end out i = (i-end ≡ length words) × (i ≤ i
 abbrev μ-loop : tie.MeasureT-loop
 μ-loop out₀ at words i₀ i-end out i = i-end - i
 
--- src/words.rt:123:5
 loop-holds : tie.Need-loop-holds Inv-loop μ-loop
 loop-holds c = (refl, omega arith, refl, paste-zero (c .args .out .now) (c .args .at) (c .args .words .now))
 
--- src/words.rt:124:23
 mul-out : tie.Need-mul-out Inv-loop μ-loop
 mul-out c = search needs
 
--- src/words.rt:124:23
 shared-slice-read-out : tie.Need-shared-slice-read-out Inv-loop μ-loop
 shared-slice-read-out c = search needs
 
--- src/words.rt:124:13
 add-out : tie.Need-add-out Inv-loop μ-loop
 add-out c = search needs
 
--- src/words.rt:124:9
 mul-out-2 : tie.Need-mul-out-2 Inv-loop μ-loop
 mul-out-2 c = search needs
 
--- src/words.rt:124:9
 slice-write-out : tie.Need-slice-write-out Inv-loop μ-loop
 slice-write-out c = search needs
 
--- src/words.rt:123:9
 add-i : tie.Need-add-i Inv-loop μ-loop
 add-i c = search needs
 
--- src/words.rt:123:5
 loop-less : tie.Need-loop-less Inv-loop μ-loop
 loop-less c = search needs
 
--- src/words.rt:123:5
 loop-again : tie.Need-loop-again Inv-loop μ-loop
 loop-again c = let a = c .before .before .before .args in
     let l = c .before .before .loop in (
@@ -59,11 +49,9 @@ loop-again c = let a = c .before .before .before .args in
       copy-next (a .out .now) (a .at) (a .words .now) (l .out) (l .i) (getD (a .words .now) (l .i) 0) (omega arith) (omega arith) (l .inv .3) (refl),
     )
 
--- src/words.rt:119:1
 same-length : tie.Need-same-length Inv-loop μ-loop
 same-length c = c .before .loop .inv .2
 
--- src/words.rt:119:1
 returns : tie.Need-returns Inv-loop μ-loop
 returns c = let a = c .before .before .args in
     let e : c .before .loop .i ≡ length (a .words .now) = omega arith in

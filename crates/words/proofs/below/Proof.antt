@@ -1,5 +1,5 @@
-use mathlib.Core.Path.{ap, sym, _∙_}
-use Prim.Native.Nat.{ℕ}
+use mathlib.Core.Path.{ap, sym, _∙_, _≡_}
+use Prim.Native.Nat.{ℕ, _-_, _≤_}
 use lib.Dec.{ltb}
 use lib.ListN.{getD}
 use native.Mathlib.Nat.{le-refl}
@@ -8,16 +8,13 @@ use Rattle.campaigns.proofs.Zeros.{from-start, from-next}
 use Rattle.finite.proofs.Tests.{both-join}
 use borrow.Author.Needs.{needs}
 use native.Mathlib.Omega.{arith}
-use mathlib.Core.Path.{_≡_, refl}
 use mathlib.Core.Bool.{true}
-use Prim.Native.Nat.{_-_, _≤_}
-use lib.ListN.{length}
-use Rattle.harness.specs.Words.{below}
-use Rattle.harness.proofs.Columns.{not-below}
-use Rattle.harness.proofs.words.below.Statement.{statement}
-use Rattle.harness.proofs.words.below.Tie as tie
-use Rattle.harness.proofs.words.below.Reads as reads
-use Rattle.harness.proofs.words.below.Lts as lts
+use Rattle.words.specs.Words.{below}
+use Rattle.words.proofs.Columns.{not-below}
+use Rattle.words.proofs.below.Statement.{statement}
+use Rattle.words.proofs.below.Tie as tie
+use Rattle.words.proofs.below.Reads as reads
+use Rattle.words.proofs.below.Lts as lts
 
 abbrev Inv-loop : tie.InvT-loop
 Inv-loop s from to limit i₀ i = (from ≤ i) × (i ≤ to) × (below s from i limit ≡ true)
@@ -25,33 +22,26 @@ Inv-loop s from to limit i₀ i = (from ≤ i) × (i ≤ to) × (below s from i 
 abbrev μ-loop : tie.MeasureT-loop
 μ-loop s from to limit i₀ i = to - i
 
--- src/words.rt:26:5
 loop-holds : tie.Need-loop-holds Inv-loop μ-loop
 unfolding below
 loop-holds c = (le-refl (c .args .from), c .pre .0, sym (from-start (c .args .from) (λ i. ltb (getD (c .args .s .now) i 0) (c .args .limit))))
 
--- src/words.rt:27:21
 mul-if1 : tie.Need-mul-if1 Inv-loop μ-loop
 mul-if1 c = search needs
 
--- src/words.rt:27:21
 shared-slice-read-if1 : tie.Need-shared-slice-read-if1 Inv-loop μ-loop
 shared-slice-read-if1 c = search needs
 
--- src/words.rt:28:13
 returns : tie.Need-returns Inv-loop μ-loop
 returns c = let a = c .before .before .before .before .args in let l = c .before .before .before .loop in
     not-below (a .s .now) (a .from) (a .to) (a .limit) (l .i) (l .inv .0) (c .before .before .loop-test .taken) (c .if1 .taken)
 
--- src/words.rt:26:9
 add-i : tie.Need-add-i Inv-loop μ-loop
 add-i c = search needs
 
--- src/words.rt:26:5
 loop-less : tie.Need-loop-less Inv-loop μ-loop
 loop-less c = search needs
 
--- src/words.rt:26:5
 loop-again : tie.Need-loop-again Inv-loop μ-loop
 unfolding below
 loop-again c = let a = c .before .before .before .before .args in
@@ -62,7 +52,6 @@ loop-again c = let a = c .before .before .before .before .args in
           ∙ both-join (below (a .s .now) (a .from) (l .i) (a .limit)) (ltb (getD (a .s .now) (l .i) 0) (a .limit)) (l .inv .2) (lt-ltb (getD (a .s .now) (l .i) 0) (a .limit) (c .if1 .left)),
     )
 
--- src/words.rt:22:1
 returns-2 : tie.Need-returns-2 Inv-loop μ-loop
 returns-2 c = let a = c .before .before .args in let e : c .before .loop .i ≡ a .to = omega arith in sym (c .before .loop .inv .2) ∙ ap (λ (n : ℕ). below (a .s .now) (a .from) n (a .limit)) e
 

@@ -3,62 +3,51 @@ use mathlib.Core.List.{List, [], _++_}
 use Prim.Native.Nat.{ℕ, _+_}
 use lib.ListN.{length, drop}
 use Rattle.day.proofs.State.{Lengths}
-use Rattle.harness.specs.Words.{head-of, day-words}
-use Rattle.harness.proofs.Columns.{write-next, longer}
+use Rattle.words.specs.Words.{head-of, day-words}
+use Rattle.words.proofs.Columns.{write-next, longer}
 use borrow.Author.Needs.{needs}
-use Rattle.harness.proofs.words.write_day.Statement.{statement}
-use Rattle.harness.proofs.words.write_day.Tie as tie
-use Rattle.harness.proofs.words.write_day.Reads as reads
-use Rattle.harness.proofs.words.write_day.Lts as lts
-use Rattle.harness.proofs.words.head_of.Reads as head-of-reads
-use Rattle.harness.proofs.words.put.Reads as put-reads
-use Rattle.harness.proofs.words.put16.Reads as put16-reads
-use Rattle.harness.proofs.words.put32.Reads as put32-reads
+use Rattle.words.proofs.write_day.Statement.{statement}
+use Rattle.words.proofs.write_day.Tie as tie
+use Rattle.words.proofs.write_day.Reads as reads
+use Rattle.words.proofs.write_day.Lts as lts
+use Rattle.words.proofs.head_of.Reads as head-of-reads
+use Rattle.words.proofs.put.Reads as put-reads
+use Rattle.words.proofs.put16.Reads as put16-reads
+use Rattle.words.proofs.put32.Reads as put32-reads
 
 lengths : (s : tie.Start) → Lengths (s .args .day)
 lengths s = record { prices-length = search needs; budgets-length = search needs; plays-length = search needs; turns-length = search needs; ages-length = search needs; named-length = search needs }
 
--- src/words.rt:202:16
 head-of-requires : tie.Need-head-of-requires
 head-of-requires c κs = search needs
 
--- src/words.rt:209:17
 slice-aggregate-put : tie.Need-slice-aggregate-put
 slice-aggregate-put c = search needs
 
--- src/words.rt:209:5
 put-requires : tie.Need-put-requires
 put-requires c κs = search needs
 
--- src/words.rt:210:5
 put32-requires : tie.Need-put32-requires
 put32-requires c κs = search needs
 
--- src/words.rt:211:5
 put32-requires-2 : tie.Need-put32-requires-2
 put32-requires-2 c κs = search needs
 
--- src/words.rt:212:5
 put16-requires : tie.Need-put16-requires
 put16-requires c κs = search needs
 
--- src/words.rt:213:5
 put16-requires-2 : tie.Need-put16-requires-2
 put16-requires-2 c κs = search needs
 
--- src/words.rt:214:5
 put16-requires-3 : tie.Need-put16-requires-3
 put16-requires-3 c κs = search needs
 
--- src/words.rt:215:5
 put16-requires-4 : tie.Need-put16-requires-4
 put16-requires-4 c κs = search needs
 
--- src/words.rt:196:1
 same-length : tie.Need-same-length
 same-length c = search needs
 
--- src/words.rt:196:1
 returns : tie.Need-returns
 unfolding day-words
 returns c =

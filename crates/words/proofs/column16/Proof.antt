@@ -4,11 +4,11 @@ use borrow.Author.Needs.{needs}
 use native.Mathlib.Omega.{arith}
 use mathlib.Core.Path.{_≡_, refl, ap, sym, _∙_}
 use Prim.Native.Nat.{ℕ, _+_, _-_, _≤_, _<_}
-use Rattle.harness.proofs.Columns.{fill-next}
-use Rattle.harness.proofs.words.column32.Statement.{statement}
-use Rattle.harness.proofs.words.column32.Tie as tie
-use Rattle.harness.proofs.words.column32.Reads as reads
-use Rattle.harness.proofs.words.column32.Lts as lts
+use Rattle.words.proofs.Columns.{fill-next}
+use Rattle.words.proofs.column16.Statement.{statement}
+use Rattle.words.proofs.column16.Tie as tie
+use Rattle.words.proofs.column16.Reads as reads
+use Rattle.words.proofs.column16.Lts as lts
 
 abbrev Inv-loop : tie.InvT-loop
 Inv-loop s at column₀ i₀ column i = (i ≤ 64) × (length column ≡ 64) × (take i column ≡ take i (drop at s))
@@ -16,43 +16,33 @@ Inv-loop s at column₀ i₀ column i = (i ≤ 64) × (length column ≡ 64) × 
 abbrev μ-loop : tie.MeasureT-loop
 μ-loop s at column₀ i₀ column i = 64 - i
 
--- src/words.rt:48:5
 loop-holds : tie.Need-loop-holds Inv-loop μ-loop
 loop-holds c = (omega arith, refl, refl)
 
--- src/words.rt:49:23
 add-column : tie.Need-add-column Inv-loop μ-loop
 add-column c = search needs
 
--- src/words.rt:49:21
 mul-column : tie.Need-mul-column Inv-loop μ-loop
 mul-column c = search needs
 
--- src/words.rt:49:21
 shared-slice-read-column : tie.Need-shared-slice-read-column Inv-loop μ-loop
 shared-slice-read-column c = omega (arith, c .before .before .before .pre)
 
--- src/words.rt:49:21
 cast-column : tie.Need-cast-column Inv-loop μ-loop
-cast-column c = let h : getD (c .before .before .before .args .s .now) (c .before .before .before .args .at + c .before .before .loop .i) 0 < 4294967296 = c .before .before .before .pre .1 (c .before .before .before .args .at + c .before .before .loop .i) (omega arith) (omega arith) in omega arith
+cast-column c = let h : getD (c .before .before .before .args .s .now) (c .before .before .before .args .at + c .before .before .loop .i) 0 < 65536 = c .before .before .before .pre .1 (c .before .before .before .args .at + c .before .before .loop .i) (omega arith) (omega arith) in omega arith
 
--- src/words.rt:49:9
 mul-column-2 : tie.Need-mul-column-2 Inv-loop μ-loop
 mul-column-2 c = search needs
 
--- src/words.rt:49:9
 array-write-column : tie.Need-array-write-column Inv-loop μ-loop
 array-write-column c = search needs
 
--- src/words.rt:48:9
 add-i : tie.Need-add-i Inv-loop μ-loop
 add-i c = search needs
 
--- src/words.rt:48:5
 loop-less : tie.Need-loop-less Inv-loop μ-loop
 loop-less c = search needs
 
--- src/words.rt:48:5
 loop-again : tie.Need-loop-again Inv-loop μ-loop
 loop-again c = let a = c .before .before .before .args in
     let l = c .before .before .loop in
@@ -62,15 +52,14 @@ loop-again c = let a = c .before .before .before .args in
       fill-next (drop (a .at) (a .s .now)) (l .column) (l .i) x (omega arith) (omega (arith, length-drop (a .at) (a .s .now), c .before .before .before .pre .0)) (l .inv .2) (sym (getD-drop (a .at) (a .s .now) (l .i) 0)),
     )
 
--- src/words.rt:42:1
 returns : tie.Need-returns Inv-loop μ-loop
 returns c = let a = c .before .before .args in
     let l = c .before .loop in
     let e : l .i ≡ 64 = omega arith in
     sym (take-all 64 (l .column) (omega arith)) ∙ ap (λ (n : ℕ). take n (l .column)) (sym e) ∙ l .inv .2 ∙ ap (λ (n : ℕ). take n (drop (a .at) (a .s .now))) e
 
-pub column32-spec : {M : Type 1} → statement M
-column32-spec =
+pub column16-spec : {M : Type 1} → statement M
+column16-spec =
     tie.close
     (tie.spec
     Inv-loop

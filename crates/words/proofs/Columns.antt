@@ -1,22 +1,21 @@
 -- The loops over words: a test of each, and a copy of a column.
 use mathlib.Core.Path.{_≡_, refl, ap, sym, _∙_}
 use mathlib.Core.Bool.{Bool, true, false, cond, _&&_}
-use mathlib.Core.List.{List, [], _∷_, _++_, append-assoc, append-nil}
-use Prim.Native.Nat.{ℕ, suc, _+_, _-_, _≤_, _<_}
+use mathlib.Core.List.{List, [], _∷_, _++_, append-nil}
+use Prim.Native.Nat.{ℕ, _+_, _≤_, _<_}
 use native.Mathlib.Omega.{arith}
 use native.Mathlib.Numerals.{add-one}
 use lib.Dec.{ltb}
-use lib.ListN.{length, getD, set, take, drop, length-append, length-take, length-drop}
+use lib.ListN.{length, getD, set, take, drop, length-append, length-drop}
 use lib.Seq.{paste, paste-suc, take-suc, take-suc-set, take-at, drop-at, drop-drop, take-all, drop-length}
-use borrow.Author.Tests.{ltb-true, lt-ltb, le-ltb}
-use Rattle.finite.specs.Finite.{every}
+use borrow.Author.Tests.{ltb-true, le-ltb}
 use Rattle.finite.proofs.Tests.{both-left, both-right, every-at, every-not}
 use Rattle.day.specs.declared.Answer.{Answer}
 use Rattle.day.specs.declared.Answer.the-variants.{Refused, Done, Played, Nobody, Tallied, Closing}
 use Rattle.day.specs.declared.Day.{Day}
 use Rattle.day.specs.Calls.{Call, call}
 use Rattle.day.proofs.State.{Lengths}
-use Rattle.harness.specs.Words.{Below, below, fit, head-of, day-words, reply-of, outcome-words, day-of, readable, status, written}
+use Rattle.words.specs.Words.{Below, below, fit, head-of, day-words, reply-of, outcome-words, day-of, readable, status, written}
 
 pub below-of : (s : List ℕ) (from to limit : ℕ) → below s from to limit ≡ true → Below s from to limit
 unfolding below
@@ -58,9 +57,6 @@ write-next done xs o o₀ o′ at n e hd hx h =
     ∙ ap (λ (l : List ℕ). l ++ take n xs ++ drop (at + n) (done ++ drop at o₀)) (take-at done (drop at o₀) at hd)
     ∙ ap (λ (l : List ℕ). done ++ l ++ drop (at + n) (done ++ drop at o₀)) (take-all n xs (omega arith))
     ∙ ap (λ (l : List ℕ). (done ++ xs) ++ l) (sym (drop-drop n at (done ++ drop at o₀)) ∙ ap (drop n) (drop-at done (drop at o₀) at hd) ∙ drop-drop n at o₀)
-
-pub written-length : (done o o₀ : List ℕ) (at : ℕ) → at ≤ length o₀ → o ≡ done ++ drop at o₀ → length done ≡ at → length o ≡ length o₀
-written-length done o o₀ at h e hd = ap length e ∙ length-append done (drop at o₀) ∙ omega (arith, length-drop at o₀)
 
 -- the columns of words that are a state fit the arrays
 pub fit-parts : (s : List ℕ) → fit s ≡ true → Below s 6 134 4_294_967_296 × Below s 134 390 65_536
