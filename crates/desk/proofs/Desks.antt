@@ -1,0 +1,97 @@
+-- What a desk holds after a run over a block, and at the end of input.
+use mathlib.Core.Path.{_≡_, refl, sym, ap, _∙_, subst}
+use mathlib.Core.Bool.{Bool, true, false, cond}
+use mathlib.Core.List.{List, [], _∷_, _++_}
+use Prim.Native.Nat.{ℕ, min, _+_, _≤_, _<_}
+use native.Mathlib.Omega.{arith}
+use lib.Dec.{leb}
+use lib.ListN.{length, take, drop, length-take}
+use lib.Seq.{take-all}
+use borrow.Author.Tests.{le-leb, lt-leb, leb-true, leb-false}
+use Rattle.writer.specs.Buffer.{over, Put}
+use Rattle.writer.proofs.Buffers.{over-front}
+use Rattle.desk.specs.declared.line.Served.{Served}
+use Rattle.desk.specs.declared.feed.Cursor.{Cursor}
+use Rattle.desk.specs.declared.feed.Desk.{Desk}
+use Rattle.desk.specs.Desk.{reply, next, Serves}
+use Rattle.desk.specs.Session.{Session, ended, fed, ended-if, finished, taking, taken-of, session, session-of, Holds, Feeds, Finishes, Runs}
+
+-- no more than 201 bytes are held
+pub take-least : (h : List ℕ) (k : ℕ) → length h ≡ 201 → take (min k 201) h ≡ take k h
+take-least h k e = go (leb k 201) refl
+  where
+    go : (t : Bool) → leb k 201 ≡ t → take (min k 201) h ≡ take k h
+    go true q = let m : min k 201 ≡ k = omega (arith, leb-true k 201 q) in ap (λ (i : ℕ). take i h) m
+    go false q =
+        let l : 201 < k = leb-false k 201 q in
+        let m : min k 201 ≡ 201 = omega arith in
+        ap (λ (i : ℕ). take i h) m ∙ take-all 201 h (omega arith) ∙ sym (take-all k h (omega arith))
+
+session-is : (k : Desk) (n : ℕ) → n ≡ min (k .kept) 201 → length (k .held) ≡ 201 → session (k .day) (k .held) n ≡ session-of k
+session-is k n q e = ap (λ (h : List ℕ). record { day = k .day; held = h; said = [] }) (ap (λ (i : ℕ). take i (k .held)) q ∙ take-least (k .held) (k .kept) e)
+
+-- what is put at the front of d
+front-is : {d e w : List ℕ} {to : ℕ} → Put d e 0 to w → to ≤ length d → e ≡ w ++ drop (length w) d
+front-is {d} {e} {w} p h = p .here ∙ over-front d w (omega (arith, p .next))
+
+module _ (k : Desk) (l d e : List ℕ) (n : ℕ) (t : Cursor) (g : List ℕ) where
+  held-run : (x : Session) → session (k .day) (k .held) n ≡ x → Runs (session (k .day) (k .held) n) l d e t g → Runs x l d e t g
+  held-run x q r = subst (λ (y : Session). Runs y l d e t g) q r
+
+  pub feeds : n ≡ min (k .kept) 201 → length (k .held) ≡ 201 → Runs (session (k .day) (k .held) n) l d e t g
+      → Feeds k l d e (record { desk = record { day = t .day; held = g; kept = t .kept }; consumed = t .from; written = t .at })
+  feeds q h p =
+      let r = held-run (session-of k) (session-is k n q h) p in
+      record {
+        consumed = r .from;
+        inside = r .inside;
+        holds = record {
+          day = r .day;
+          held = r .held;
+          length-is = omega (arith, r .put .next);
+          front = front-is (r .put) (r .fits);
+          fits = omega (arith, r .fits, r .put .same);
+        };
+      }
+
+-- nothing is done
+unchanged : (k : Desk) (d : List ℕ) → Holds (session-of k) d d k 0
+unchanged k d = record { day = refl; held = refl; length-is = refl; front = refl; fits = omega arith }
+
+finished-none : (x : Session) → x .held ≡ [] → finished x ≡ x
+unfolding finished
+finished-none x e = ap (λ (l : List ℕ). ended-if l x) e
+
+finished-some : (x : Session) → 0 < length (x .held) → finished x ≡ ended x
+unfolding finished
+finished-some x h = go (x .held) h
+  where
+    go : (l : List ℕ) → 0 < length l → ended-if l x ≡ ended x
+    go [] k = absurd (omega arith)
+    go (b ∷ l) k = refl
+
+module _ (k : Desk) (d : List ℕ) (n : ℕ) (q : n ≡ min (k .kept) 201) where
+  pub finishes-small : length d < 16384 → Finishes k d d (record { desk = k; consumed = 0; written = 0 })
+  finishes-small h = record { consumed = refl; holds = rw (lt-leb 16384 (length d) h) (unchanged k d) }
+
+  pub finishes-none : 16384 ≤ length d → n ≡ 0 → Finishes k d d (record { desk = k; consumed = 0; written = 0 })
+  finishes-none h z =
+      let y : k .kept ≡ 0 = omega (arith, q) in
+      let f : finished (session-of k) ≡ session-of k = finished-none (session-of k) (ap (λ (i : ℕ). take i (k .held)) y) in
+      record { consumed = refl; holds = rw (le-leb 16384 (length d) h) (subst (λ (x : Session). Holds x d d k 0) (sym f) (unchanged k d)) }
+
+  pub finishes-line : {e : List ℕ} (r : Served) → 16384 ≤ length d → (n ≡ 0 → ⊥) → length (k .held) ≡ 201 → Serves (k .day) (take n (k .held)) d e 0 r
+      → Finishes k d e (record { desk = record { day = r .day; held = k .held; kept = 0 }; consumed = 0; written = r .at })
+  finishes-line {e} r h z w p =
+      let m : take n (k .held) ≡ take (k .kept) (k .held) = ap (λ (i : ℕ). take i (k .held)) q ∙ take-least (k .held) (k .kept) w in
+      let some : 0 < length (take (k .kept) (k .held)) = omega (arith, length-take (k .kept) (k .held), z) in
+      let f : finished (session-of k) ≡ ended (session-of k) = finished-some (session-of k) some in
+      let u : Put d e 0 (r .at) (reply (k .day) (take (k .kept) (k .held))) = subst (λ (l : List ℕ). Put d e 0 (r .at) (reply (k .day) l)) m (p .put) in
+      let y : Holds (ended (session-of k)) d e (record { day = r .day; held = k .held; kept = 0 }) (r .at) = record {
+        day = p .day ∙ ap (next (k .day)) m;
+        held = refl;
+        length-is = omega (arith, u .next);
+        front = front-is u (omega (arith, p .fits));
+        fits = omega (arith, p .fits, u .same);
+      } in
+      record { consumed = refl; holds = rw (le-leb 16384 (length d) h) (subst (λ (x : Session). Holds x d e (record { day = r .day; held = k .held; kept = 0 }) (r .at)) (sym f) y) }

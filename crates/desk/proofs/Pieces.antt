@@ -1,0 +1,110 @@
+-- Feeding an input in any pieces gives the answers to its lines, and the same state.
+use mathlib.Core.Path.{_≡_, refl, sym, ap, _∙_}
+use mathlib.Core.Bool.{Bool, true, false, cond}
+use mathlib.Core.List.{List, [], _∷_, _++_, append-assoc, append-nil}
+use Prim.Native.Nat.{ℕ, suc, _≤_}
+use native.Mathlib.Omega.{arith}
+use lib.Dec.{eqb}
+use lib.ListN.{length, take}
+use borrow.Author.Tests.{eqb-true}
+use Rattle.day.specs.declared.Day.{Day}
+use Rattle.desk.specs.Desk.{reply, next}
+use Rattle.desk.specs.Session.{Session, longer, ended, after-byte, fed, upto}
+use Rattle.desk.specs.Pieces.{joined, Plain, All-plain, after-lines, replies, Split, silent, said-in, after-pieces, concat}
+use Rattle.desk.proofs.Sessions.{cut-reply, cut-next, fed-append, rest-fed, byte-plain, byte-end}
+
+abbrev with-said : Session → List ℕ → Session
+with-said x w = record { day = x .day; held = x .held; said = w }
+
+-- what was said before stays in front
+pub fed-said : (x : Session) (l : List ℕ) → fed x l ≡ with-said (fed (silent x) l) (x .said ++ fed (silent x) l .said)
+unfolding fed
+fed-said x [] = ap (with-said x) (sym (append-nil (x .said)))
+fed-said x (b ∷ l) = go (eqb b 10) refl (fed-said (ended x) l) (fed-said (ended (silent x)) l) (fed-said (longer x (b ∷ [])) l)
+  where
+    go : (t : Bool) → eqb b 10 ≡ t
+        → fed (ended x) l ≡ with-said (fed (silent (ended x)) l) ((x .said ++ reply (x .day) (x .held)) ++ fed (silent (ended x)) l .said)
+        → fed (ended (silent x)) l ≡ with-said (fed (silent (ended x)) l) (reply (x .day) (x .held) ++ fed (silent (ended x)) l .said)
+        → fed (longer x (b ∷ [])) l ≡ with-said (fed (silent (longer x (b ∷ []))) l) (x .said ++ fed (silent (longer x (b ∷ []))) l .said)
+        → fed (after-byte x b) l ≡ with-said (fed (after-byte (silent x) b) l) (x .said ++ fed (after-byte (silent x) b) l .said)
+    go true e p q r =
+        let f : fed (after-byte (silent x) b) l ≡ with-said (fed (silent (ended x)) l) (reply (x .day) (x .held) ++ fed (silent (ended x)) l .said) = ap (λ (y : Session). fed y l) (byte-end (silent x) b (eqb-true b 10 e)) ∙ q in
+        ap (λ (y : Session). fed y l) (byte-end x b (eqb-true b 10 e))
+        ∙ p
+        ∙ ap (with-said (fed (silent (ended x)) l)) (append-assoc (x .said) (reply (x .day) (x .held)) (fed (silent (ended x)) l .said))
+        ∙ sym (ap (λ (y : Session). with-said y (x .said ++ y .said)) f)
+    go false e p q r =
+        ap (λ (y : Session). fed y l) (byte-plain x b e)
+        ∙ r
+        ∙ sym (ap (λ (y : Session). with-said (fed y l) (x .said ++ fed y l .said)) (byte-plain (silent x) b e))
+
+-- In pieces.
+
+-- all answers to the pieces are those to the whole input
+pub said-pieces : (x : Session) (ps : List (List ℕ)) → said-in x ps ≡ fed (silent x) (concat ps) .said
+unfolding said-in concat fed
+said-pieces x [] = refl
+said-pieces x (p ∷ ps) =
+    ap (λ (w : List ℕ). fed (silent x) p .said ++ w) (said-pieces (fed (silent x) p) ps)
+    ∙ sym (ap (λ (y : Session). y .said) (fed-append (silent x) p (concat ps) ∙ fed-said (fed (silent x) p) (concat ps)))
+
+-- and the session in the end is the same
+pub after-whole : (x : Session) (ps : List (List ℕ)) → after-pieces x ps ≡ silent (fed (silent x) (concat ps))
+unfolding after-pieces concat fed
+after-whole x [] = refl
+after-whole x (p ∷ ps) =
+    after-whole (fed (silent x) p) ps
+    ∙ sym (ap silent (fed-append (silent x) p (concat ps) ∙ fed-said (fed (silent x) p) (concat ps)))
+
+-- As lines.
+
+-- a line and its byte 10
+line-said : (s : Day) (p l : List ℕ) → Plain l → fed (record { day = s; held = []; said = p }) (l ++ (10 ∷ [])) ≡ record { day = next s l; held = []; said = p ++ reply s l }
+unfolding fed
+line-said s p l e =
+    let x : Session = record { day = s; held = []; said = p } in
+    fed-append x l (10 ∷ [])
+    ∙ ap (λ (y : Session). fed y (10 ∷ [])) (rest-fed x l (omega arith) e)
+    ∙ byte-end (longer x l) 10 refl
+    ∙ ap (λ (d : Day). record { day = d; held = []; said = p ++ reply s (take 201 l) }) (cut-next s l)
+    ∙ ap (λ (w : List ℕ). record { day = next s l; held = []; said = p ++ w }) (cut-reply s l)
+
+-- the whole input: each line is answered as the whole line is, and of the rest at most 201 bytes are held
+pub fed-lines : (s : Day) (p : List ℕ) (ls : List (List ℕ)) (rest : List ℕ) → All-plain ls → Plain rest
+    → fed (record { day = s; held = []; said = p }) (joined ls rest) ≡ record { day = after-lines s ls; held = take 201 rest; said = p ++ replies s ls }
+unfolding joined after-lines replies
+fed-lines s p [] rest a e = rest-fed (record { day = s; held = []; said = p }) rest (omega arith) e ∙ ap (λ (w : List ℕ). record { day = s; held = take 201 rest; said = w }) (sym (append-nil p))
+fed-lines s p (l ∷ ls) rest a e =
+    let x : Session = record { day = s; held = []; said = p } in
+    ap (fed x) (sym (append-assoc l (10 ∷ []) (joined ls rest)))
+    ∙ fed-append x (l ++ (10 ∷ [])) (joined ls rest)
+    ∙ ap (λ (y : Session). fed y (joined ls rest)) (line-said s p l (a .0))
+    ∙ fed-lines (next s l) (p ++ reply s l) ls rest (a .1) e
+    ∙ ap (λ (w : List ℕ). record { day = after-lines (next s l) ls; held = take 201 rest; said = w }) (append-assoc p (reply s l) (replies (next s l) ls))
+
+-- and every input is lines and a rest
+plain-cons : (b : ℕ) (l : List ℕ) → eqb b 10 ≡ false → Plain l → Plain (b ∷ l)
+unfolding upto
+plain-cons b l e h = rw e (ap suc h)
+
+plain-nil : Plain []
+unfolding upto
+plain-nil = refl
+
+more-byte : (b : ℕ) (l : List ℕ) → eqb b 10 ≡ false → (ls : List (List ℕ)) (rest : List ℕ) → All-plain ls → Plain rest → joined ls rest ≡ l → Split (b ∷ l)
+unfolding joined
+more-byte b l e [] rest a h w = record { lines = []; rest = b ∷ rest; lines-plain = tt; rest-plain = plain-cons b rest e h; whole = ap (λ (m : List ℕ). b ∷ m) w }
+more-byte b l e (k ∷ ls) rest a h w = record { lines = (b ∷ k) ∷ ls; rest = rest; lines-plain = (plain-cons b k e (a .0), a .1); rest-plain = h; whole = ap (λ (m : List ℕ). b ∷ m) w }
+
+end-line : (b : ℕ) (l : List ℕ) → b ≡ 10 → Split l → Split (b ∷ l)
+unfolding joined
+end-line b l e s = record { lines = [] ∷ s .lines; rest = s .rest; lines-plain = (plain-nil, s .lines-plain); rest-plain = s .rest-plain; whole = ap (λ (m : List ℕ). 10 ∷ m) (s .whole) ∙ ap (λ (c : ℕ). c ∷ l) (sym e) }
+
+pub split : (l : List ℕ) → Split l
+unfolding joined
+split [] = record { lines = []; rest = []; lines-plain = tt; rest-plain = plain-nil; whole = refl }
+split (b ∷ l) = go (eqb b 10) refl (split l)
+  where
+    go : (t : Bool) → eqb b 10 ≡ t → Split l → Split (b ∷ l)
+    go true e s = end-line b l (eqb-true b 10 e) s
+    go false e s = more-byte b l e (s .lines) (s .rest) (s .lines-plain) (s .rest-plain) (s .whole)

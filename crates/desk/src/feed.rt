@@ -1,0 +1,238 @@
+// A block of input split at byte 10, and each line answered as it ends.
+use crate::ROOM;
+use crate::line::Served;
+use day::Day;
+ghost use mathlib.Core.Path.{_≡_};
+ghost use mathlib.Core.Bool.{true};
+ghost use mathlib.Core.List.{[]};
+ghost use Prim.Native.Nat.{min, _+_, _≤_};
+ghost use lib.ListN.{length, take, drop};
+ghost use Rattle.day.specs.Day.{blank};
+ghost use Rattle.day.specs.Sound.{sound};
+ghost use Rattle.desk.specs.Desk.{Serves};
+ghost use Rattle.desk.specs.Session.{session, session-of, line-of, upto, Turned, Runs, Feeds, Finishes};
+
+// The state, and the first bytes of a line that has not ended: kept of them, 201 at most.
+pub struct Desk {
+    pub day: Day,
+    pub held: [u8; 201],
+    pub kept: usize,
+}
+
+// The desk after a block, how many bytes of the block were taken, and how many bytes answer them.
+pub struct Fed {
+    pub desk: Desk,
+    pub consumed: usize,
+    pub written: usize,
+}
+
+// Between two lines: the state, how many bytes are held, and the places in the input and in the buffer for answers.
+pub struct Cursor {
+    pub day: Day,
+    pub kept: usize,
+    pub from: usize,
+    pub at: usize,
+}
+
+// The place of the first byte 10 of s from the place at on, or the end of s.
+fn line_end(s: &[u8], at: usize) -> usize
+    requires { ⌜ at ≤ length (now s) ⌝ }
+    ensures { λ r. ⌜ (r ≡ at + upto (drop at (now (s .entry)))) × (r ≤ length (now (s .entry))) ⌝ }
+{
+    let mut i = at;
+    while i < s.len() {
+        if s[i] == b'\n' {
+            return i;
+        }
+        i += 1;
+    }
+    i
+}
+
+// The bytes of s behind those that are kept, up to 201 in all.
+fn keep(held: &mut [u8], kept: usize, s: &[u8]) -> usize
+    requires { ⌜ (kept ≤ 201) × (length (now held) ≡ 201) ⌝ }
+    ensures { λ r. ⌜ (r ≤ 201) × (take r (now (held .exit)) ≡ line-of (now (held .entry)) kept (now (s .entry))) × (length (now (held .exit)) ≡ 201) ⌝ }
+{
+    let mut n = kept;
+    let mut i = 0;
+    while i < s.len() {
+        if n >= 201 {
+            return n;
+        }
+        held[n] = s[i];
+        n += 1;
+        i += 1;
+    }
+    n
+}
+
+// The line that began with the kept bytes and ends with s. A line that lies whole in the input is not copied.
+fn serve_line(
+    day: Day,
+    checked: bool,
+    held: &mut [u8],
+    kept: usize,
+    s: &[u8],
+    out: &mut [u8],
+    at: usize,
+) -> Served
+    requires { ⌜ (kept ≤ 201) × (length (now held) ≡ 201) ⌝ }
+    requires { ⌜ (checked ≡ true → sound day ≡ true) ⌝ }
+    requires { ⌜ at + 16384 ≤ length (now out) ⌝ }
+    ensures { λ r. ⌜ Serves day (line-of (now (held .entry)) kept (now (s .entry))) (now (out .entry)) (now (out .exit)) at r × (length (now (held .exit)) ≡ 201) ⌝ }
+{
+    if kept == 0 {
+        return crate::line::serve(day, checked, s, out, at);
+    }
+    let n = keep(held, kept, s);
+    crate::line::serve(day, checked, &held[..n], out, at)
+}
+
+// One line answered, or what is left of the input kept.
+fn advance(t: Cursor, checked: bool, held: &mut [u8], input: &[u8], out: &mut [u8]) -> Cursor
+    requires { ⌜ (t .kept ≤ 201) × (length (now held) ≡ 201) × (t .from ≤ length (now input)) ⌝ }
+    requires { ⌜ (checked ≡ true → sound (t .day) ≡ true) ⌝ }
+    requires { ⌜ t .at + 16384 ≤ length (now out) ⌝ }
+    ensures { λ r. ⌜ Turned t (now (held .entry)) (drop (t .from) (now (input .entry))) (now (out .entry)) (now (out .exit)) r (now (held .exit)) × (length (now (held .exit)) ≡ 201) ⌝ }
+{
+    let from = t.from;
+    let kept = t.kept;
+    let at = t.at;
+    let day = t.day;
+    let end = line_end(input, from);
+    if end == input.len() {
+        let n = keep(held, kept, &input[from..]);
+        return Cursor {
+            day: day,
+            kept: n,
+            from: end,
+            at: at,
+        };
+    }
+    let after = end + 1;
+    let served = serve_line(day, checked, held, kept, &input[from..end], out, at);
+    let next = served.day;
+    Cursor {
+        day: next,
+        kept: 0,
+        from: after,
+        at: served.at,
+    }
+}
+
+// Line after line, while there is input and room for the longest answer.
+fn run(
+    day: Day,
+    checked: bool,
+    held: &mut [u8],
+    kept: usize,
+    input: &[u8],
+    out: &mut [u8],
+) -> Cursor
+    requires { ⌜ (kept ≤ 201) × (length (now held) ≡ 201) ⌝ }
+    requires { ⌜ (checked ≡ true → sound day ≡ true) ⌝ }
+    ensures { λ r. ⌜ Runs (session day (now (held .entry)) kept) (now (input .entry)) (now (out .entry)) (now (out .exit)) r (now (held .exit)) × (length (now (held .exit)) ≡ 201) ⌝ }
+{
+    let mut t = Cursor {
+        day: day,
+        kept: kept,
+        from: 0,
+        at: 0,
+    };
+    while t.from < input.len() {
+        if out.len() - t.at < ROOM {
+            return t;
+        }
+        let next = advance(t, checked, held, input, out);
+        t = next;
+    }
+    t
+}
+
+fn at_most_201(n: usize) -> usize
+    ensures { λ r. ⌜ r ≡ min n 201 ⌝ }
+{
+    if n > 201 {
+        return 201;
+    }
+    n
+}
+
+// The line that the kept bytes of held are, answered at the front of out.
+fn serve_held(day: Day, held: &[u8], kept: usize, out: &mut [u8]) -> Served
+    requires { ⌜ kept ≤ length (now held) ⌝ }
+    requires { ⌜ 16384 ≤ length (now out) ⌝ }
+    ensures { λ r. ⌜ Serves day (take kept (now (held .entry))) (now (out .entry)) (now (out .exit)) 0 r ⌝ }
+{
+    crate::line::serve(day, false, &held[..kept], out, 0)
+}
+
+impl Desk {
+    // The blank state, and nothing held.
+    pub fn new() -> Self
+        ensures { λ r. ⌜ session-of r ≡ session blank [] 0 ⌝ }
+    {
+        let day = Day::blank();
+        Desk {
+            day: day,
+            held: [0; 201],
+            kept: 0,
+        }
+    }
+
+    // A block of input, as far as out has room for the longest answer.
+    pub fn feed(self, input: &[u8], out: &mut [u8]) -> Fed
+        ensures { λ r. ⌜ Feeds self (now (input .entry)) (now (out .entry)) (now (out .exit)) r ⌝ }
+    {
+        let day = self.day;
+        let mut held = self.held;
+        let kept = at_most_201(self.kept);
+        let audit = day.audit();
+        let t = run(day, audit.sound, &mut held, kept, input, out);
+        let next = t.day;
+        Fed {
+            desk: Desk {
+                day: next,
+                held: held,
+                kept: t.kept,
+            },
+            consumed: t.from,
+            written: t.at,
+        }
+    }
+
+    // The end of input: a last line without byte 10 counts if it has bytes.
+    pub fn finish(self, out: &mut [u8]) -> Fed
+        ensures { λ r. ⌜ Finishes self (now (out .entry)) (now (out .exit)) r ⌝ }
+    {
+        let len = at_most_201(self.kept);
+        if out.len() < ROOM {
+            return Fed {
+                desk: self,
+                consumed: 0,
+                written: 0,
+            };
+        }
+        if len == 0 {
+            return Fed {
+                desk: self,
+                consumed: 0,
+                written: 0,
+            };
+        }
+        let day = self.day;
+        let held = self.held;
+        let served = serve_held(day, &held, len, out);
+        let next = served.day;
+        Fed {
+            desk: Desk {
+                day: next,
+                held: held,
+                kept: 0,
+            },
+            consumed: 0,
+            written: served.at,
+        }
+    }
+}
