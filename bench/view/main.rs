@@ -6,8 +6,19 @@ mod plain;
 
 use std::hint::black_box;
 
+/// Depth, width, terms and views.
+type Views = unsafe extern "C" fn(u64, u64, *const u64, usize, *const u64, usize) -> u64;
+
 extern "C" {
     fn wezghuli_views(
+        depth: u64,
+        width: u64,
+        terms: *const u64,
+        terms_len: usize,
+        views: *const u64,
+        views_len: usize,
+    ) -> u64;
+    fn wezghuli_views_in_place(
         depth: u64,
         width: u64,
         terms: *const u64,
@@ -20,7 +31,7 @@ extern "C" {
 
 const VIEWS: usize = 4_096;
 const DEPTH: u64 = 8;
-const RUNS: usize = 500;
+const RUNS: usize = 300;
 /// Campaigns and width.
 const DAYS: [(u64, u64); 5] = [(2, 2), (16, 4), (16, 16), (64, 4), (64, 16)];
 
@@ -72,10 +83,10 @@ fn day(campaigns: u64, width: u64) -> Day {
     }
 }
 
-fn proved(day: &Day) -> u64 {
+fn proved(show: Views, day: &Day) -> u64 {
     let (terms, views) = (&day.terms, &day.views);
     unsafe {
-        wezghuli_views(
+        show(
             DEPTH,
             day.width,
             terms.as_ptr(),
@@ -125,33 +136,40 @@ fn median(times: &[f64]) -> f64 {
 fn main() {
     println!("state: {} bytes", std::mem::size_of::<State>());
     println!(
-        "nanoseconds for one view, best and median of {RUNS} days of {VIEWS} views, depth {DEPTH};"
+        "nanoseconds for one view, best of {RUNS} days of {VIEWS} views, depth {DEPTH}; in brackets plain Rust's time"
     );
-    println!("speed is plain Rust's time by ours: of the best, and the median over days run one after the other");
-    println!("campaigns width      proved          plain Rust           speed");
+    println!("by ours: of the best, and the median over days run one after the other");
+    println!("campaigns width  plain Rust      in place               by value");
     let only: Vec<u64> = std::env::args().skip(1).flat_map(|a| a.parse()).collect();
     for (campaigns, width) in DAYS {
         if !only.is_empty() && only != [campaigns, width] {
             continue;
         }
         let day = day(campaigns, width);
-        let (mut ours, mut theirs) = (vec![], vec![]);
+        let (mut in_place, mut by_value, mut theirs) = (vec![], vec![], vec![]);
         for _ in 0..RUNS {
-            let (a, time) = timed(proved, &day);
-            ours.push(time);
-            let (b, time) = timed(plain, &day);
+            let (a, time) = timed(|day| proved(wezghuli_views_in_place, day), &day);
+            in_place.push(time);
+            let (b, time) = timed(|day| proved(wezghuli_views, day), &day);
+            by_value.push(time);
+            let (c, time) = timed(plain, &day);
             theirs.push(time);
-            assert_eq!(a, b, "the checksums differ");
+            assert!(a == c && b == c, "the checksums differ");
         }
-        let speeds: Vec<f64> = ours.iter().zip(&theirs).map(|(a, b)| b / a).collect();
+        let speed = |ours: &[f64]| {
+            let speeds: Vec<f64> = ours.iter().zip(&theirs).map(|(a, b)| b / a).collect();
+            format!(
+                "{:8.1} ({:4.2} {:4.2})",
+                best(ours),
+                best(&theirs) / best(ours),
+                median(&speeds)
+            )
+        };
         println!(
-            "{campaigns:9} {width:5} {:8.1} {:8.1} {:8.1} {:8.1}    {:6.2} {:6.2}",
-            best(&ours),
-            median(&ours),
+            "{campaigns:9} {width:5}    {:8.1}  {}   {}",
             best(&theirs),
-            median(&theirs),
-            best(&theirs) / best(&ours),
-            median(&speeds)
+            speed(&in_place),
+            speed(&by_value)
         );
     }
 }

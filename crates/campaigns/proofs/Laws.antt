@@ -1,21 +1,17 @@
 -- The rules for one campaign without a division, and what the tests of soundness say.
-use mathlib.Core.Path.{_≡_, ap, ap₂, _∙_}
+use mathlib.Core.Path.{_≡_}
 use mathlib.Core.Bool.{true, _&&_}
-use Prim.Native.Nat.{ℕ, _+_, _-_, _*_, _/_, _^_, _≤_, _<_}
+use Prim.Native.Nat.{ℕ, _+_, _*_, _/_, _^_, _≤_, _<_}
 use native.Mathlib.Nat.{le-div-iff-mul-le, lt-of-le-of-lt, mul-le-mul-left}
 use native.Mathlib.Omega.{arith}
 use lib.Dec.{leb, ltb}
-use lib.ListN.{getD}
-use mathlib.Core.List.{List}
 use borrow.Author.Tests.{leb-true, le-leb, ltb-true, lt-ltb}
 use Rattle.finite.proofs.Tests.{both-left, both-right, same-test}
 use Rattle.powers.specs.Power.{weight}
-use Rattle.powers.proofs.Entries.{row-at, entry-weight}
 use Rattle.powers.proofs.Weight.{weight-most}
 use Rattle.campaigns.specs.declared.Campaign.{Campaign}
 use Rattle.campaigns.specs.declared.Plan.{Plan}
 use Rattle.campaigns.specs.Campaign.{whole, spending, depth-fits, width-fits, power-fits, price-fits, budget-fits, sound-plan, priced}
-use Rattle.campaigns.specs.Inner.{Rows}
 
 -- n ≤ budget / price is price × n ≤ budget
 whole-at-least : (p b n : ℕ) → 1 ≤ p → (p * n ≤ b → n ≤ b / p) × (n ≤ b / p → p * n ≤ b)
@@ -57,17 +53,9 @@ plan-sized pl e =
       top = leb-true (pl .width ^ pl .depth) 4_294_967_296 (both-right (depth-fits pl && width-fits pl) (power-fits pl) e);
     }
 
--- the rows give the weights
-pub rows-weigh : (pl : Plan) (up down : List ℕ) → Rows pl up down → (a : ℕ) → a ≤ pl .depth
-    → (getD up a 0 * getD down (pl .depth - a) 0 ≡ weight (pl .depth) (pl .width) a) × (weight (pl .depth) (pl .width) a ≤ 4_294_967_296)
-rows-weigh pl up down r a h =
-    let z = plan-sized pl (r .plan-sound) in (
-      ap₂ (λ (x y : ℕ). x * y)
-          (ap (λ (l : List ℕ). getD l a 0) (r .up-is) ∙ row-at (pl .width) a (omega arith))
-          (ap (λ (l : List ℕ). getD l (pl .depth - a) 0) (r .down-is) ∙ row-at (pl .width - 1) (pl .depth - a) (omega arith))
-          ∙ entry-weight (pl .depth) (pl .width) a (z .wide) h (z .top),
-      omega (arith, weight-most (pl .depth) (pl .width) (z .wide) a h),
-    )
+-- a weight of a sound plan is at most 2^32
+pub weight-top : (pl : Plan) → sound-plan pl ≡ true → (a : ℕ) → a ≤ pl .depth → weight (pl .depth) (pl .width) a ≤ 4_294_967_296
+weight-top pl e a h = let z = plan-sized pl e in omega (arith, weight-most (pl .depth) (pl .width) (z .wide) a h)
 
 -- a product of two numbers of the arrays' widths fits
 pub product-fits : (x y : ℕ) → x < 4_294_967_296 → y ≤ 65_536 → x * y < 2 ^ 64

@@ -1,24 +1,60 @@
--- The sums over campaigns that are sound, one campaign at a time, and why they fit.
-use mathlib.Core.Path.{_≡_, ap}
-use mathlib.Core.Bool.{true, _&&_}
-use Prim.Native.Nat.{ℕ, _+_, _*_, _≤_, _<_}
+-- What a sound campaign gives, the tests of soundness by columns, and why the sums fit.
+use mathlib.Core.Path.{_≡_, refl, ap, sym, _∙_}
+use mathlib.Core.Bool.{Bool, true, false, cond, _&&_}
+use mathlib.Core.List.{List}
+use Prim.Native.Nat.{ℕ, _-_, _*_, _≤_, _<_}
 use native.Mathlib.Nat.{le-trans, mul-le-mul, mul-le-mul-right}
-use native.Mathlib.Numerals.{add-one}
 use native.Mathlib.Omega.{arith}
-use lib.Dec.{leb, ltb}
-use borrow.Author.Tests.{leb-true, ltb-true}
+use lib.Dec.{leb, ltb, eqb}
+use lib.ListN.{getD}
+use borrow.Author.Tests.{leb-true, ltb-true, le-ltb}
 use Rattle.finite.specs.Finite.{sum, every}
-use Rattle.finite.proofs.Tests.{both-left, both-right, every-at}
+use Rattle.finite.proofs.Tests.{both-left, both-right, same-test, every-at, every-of, every-eq}
 use Rattle.finite.proofs.Sums.{sum-most}
-use Rattle.powers.proofs.Weight.{weight-most}
+use Rattle.powers.specs.Power.{weight}
 use Rattle.campaigns.specs.declared.Campaign.{Campaign}
 use Rattle.campaigns.specs.declared.Phase.{Phase}
+use Rattle.campaigns.specs.declared.Phase.the-variants.{Filling, Running, Closed}
 use Rattle.campaigns.specs.declared.Plan.{Plan}
-use Rattle.campaigns.specs.Campaign.{whole, spending, price-fits, budget-fits, sound-plan, priced, counted, untouched, sound-campaign}
-use Rattle.campaigns.specs.Inner.{Small, Partial, one-more, waiting, sums-of}
-use Rattle.campaigns.proofs.Laws.{plan-sized}
+use Rattle.campaigns.specs.declared.sums.Spent.{Spent}
+use Rattle.campaigns.specs.declared.sums.Sums.{Sums}
+use Rattle.campaigns.specs.Campaign.{whole, spending, price-fits, budget-fits, sound-plan, priced, counted, uncounted, untouched, sound-campaign}
+use Rattle.campaigns.specs.Inner.{campaign-at, waiting, sums-of, priced-columns, ordered-columns, untouched-columns, no-counts-in, spent-of, spendings, no-spending, waited-of}
+use Rattle.campaigns.proofs.Laws.{plays-within, price-least, weight-top}
 
--- what a sound campaign gives
+-- the tests that a sound campaign passes
+record Tested (p : Phase) (pl : Plan) (a : ℕ) (c : Campaign) : Type 0 where
+  priced-is : priced c ≡ true
+  young-is : ltb (c .age) (pl .depth) ≡ true
+  whole-is : leb (c .plays) (whole c) ≡ true
+  turns-is : leb (c .plays) (c .turns) ≡ true
+  named-is : leb (c .turns) (c .named) ≡ true
+  views-is : leb (c .named) a ≡ true
+  untouched-is : untouched p c ≡ true
+
+tests-of : (p : Phase) (pl : Plan) (a : ℕ) (c : Campaign) → sound-campaign p pl a c ≡ true → Tested p pl a c
+unfolding sound-campaign counted
+tests-of p pl a c e =
+    let pc = both-left (priced c && counted pl a c) (untouched p c) e in
+    let c4 = both-right (priced c) (counted pl a c) pc in
+    let c3 = both-left (ltb (c .age) (pl .depth) && leb (c .plays) (whole c) && leb (c .plays) (c .turns) && leb (c .turns) (c .named)) (leb (c .named) a) c4 in
+    let c2 = both-left (ltb (c .age) (pl .depth) && leb (c .plays) (whole c) && leb (c .plays) (c .turns)) (leb (c .turns) (c .named)) c3 in
+    let c1 = both-left (ltb (c .age) (pl .depth) && leb (c .plays) (whole c)) (leb (c .plays) (c .turns)) c2 in
+    record {
+      priced-is = both-left (priced c) (counted pl a c) pc;
+      young-is = both-left (ltb (c .age) (pl .depth)) (leb (c .plays) (whole c)) c1;
+      whole-is = both-right (ltb (c .age) (pl .depth)) (leb (c .plays) (whole c)) c1;
+      turns-is = both-right (ltb (c .age) (pl .depth) && leb (c .plays) (whole c)) (leb (c .plays) (c .turns)) c2;
+      named-is = both-right (ltb (c .age) (pl .depth) && leb (c .plays) (whole c) && leb (c .plays) (c .turns)) (leb (c .turns) (c .named)) c3;
+      views-is = both-right (ltb (c .age) (pl .depth) && leb (c .plays) (whole c) && leb (c .plays) (c .turns) && leb (c .turns) (c .named)) (leb (c .named) a) c4;
+      untouched-is = both-right (priced c && counted pl a c) (untouched p c) e;
+    }
+
+sound-of : (p : Phase) (pl : Plan) (a : ℕ) (c : Campaign) → Tested p pl a c → sound-campaign p pl a c ≡ true
+unfolding sound-campaign counted
+sound-of p pl a c t = rw (t .priced-is, t .young-is, t .whole-is, t .turns-is, t .named-is, t .views-is, t .untouched-is)
+
+-- what they say
 pub record Held (pl : Plan) (accepted : ℕ) (c : Campaign) : Type 0 where
   pub is-priced : priced c ≡ true
   pub price-least : 1 ≤ c .price
@@ -32,58 +68,127 @@ pub record Held (pl : Plan) (accepted : ℕ) (c : Campaign) : Type 0 where
   pub named-accepted : c .named ≤ accepted
 
 pub campaign-held : (p : Phase) (pl : Plan) (a : ℕ) (c : Campaign) → sound-campaign p pl a c ≡ true → Held pl a c
-unfolding sound-campaign priced counted
+unfolding priced
 campaign-held p pl a c e =
-    let pc = both-left (priced c && counted pl a c) (untouched p c) e in
-    let pr = both-left (priced c) (counted pl a c) pc in
-    let co = both-right (priced c) (counted pl a c) pc in
-    let pf = both-left (price-fits (c .price)) (budget-fits (c .price) (c .budget)) pr in
-    let bf = both-right (price-fits (c .price)) (budget-fits (c .price) (c .budget)) pr in
-    let c3 = both-left (ltb (c .age) (pl .depth) && leb (c .plays) (whole c) && leb (c .plays) (c .turns) && leb (c .turns) (c .named)) (leb (c .named) a) co in
-    let c2 = both-left (ltb (c .age) (pl .depth) && leb (c .plays) (whole c) && leb (c .plays) (c .turns)) (leb (c .turns) (c .named)) c3 in
-    let c1 = both-left (ltb (c .age) (pl .depth) && leb (c .plays) (whole c)) (leb (c .plays) (c .turns)) c2 in
+    let t = tests-of p pl a c e in
+    let pf = both-left (price-fits (c .price)) (budget-fits (c .price) (c .budget)) (t .priced-is) in
+    let bf = both-right (price-fits (c .price)) (budget-fits (c .price) (c .budget)) (t .priced-is) in
     record {
-      is-priced = pr;
+      is-priced = t .priced-is;
       price-least = leb-true 1 (c .price) (both-left (leb 1 (c .price)) (leb (c .price) 1_000_000) pf);
       price-most = leb-true (c .price) 1_000_000 (both-right (leb 1 (c .price)) (leb (c .price) 1_000_000) pf);
       budget-least = leb-true (c .price) (c .budget) (both-left (leb (c .price) (c .budget)) (leb (c .budget) 2_000_000_000) bf);
       budget-most = leb-true (c .budget) 2_000_000_000 (both-right (leb (c .price) (c .budget)) (leb (c .budget) 2_000_000_000) bf);
-      young = ltb-true (c .age) (pl .depth) (both-left (ltb (c .age) (pl .depth)) (leb (c .plays) (whole c)) c1);
-      within-whole = leb-true (c .plays) (whole c) (both-right (ltb (c .age) (pl .depth)) (leb (c .plays) (whole c)) c1);
-      plays-turns = leb-true (c .plays) (c .turns) (both-right (ltb (c .age) (pl .depth) && leb (c .plays) (whole c)) (leb (c .plays) (c .turns)) c2);
-      turns-named = leb-true (c .turns) (c .named) (both-right (ltb (c .age) (pl .depth) && leb (c .plays) (whole c) && leb (c .plays) (c .turns)) (leb (c .turns) (c .named)) c3);
-      named-accepted = leb-true (c .named) a (both-right (ltb (c .age) (pl .depth) && leb (c .plays) (whole c) && leb (c .plays) (c .turns) && leb (c .turns) (c .named)) (leb (c .named) a) co);
+      young = ltb-true (c .age) (pl .depth) (t .young-is);
+      within-whole = leb-true (c .plays) (whole c) (t .whole-is);
+      plays-turns = leb-true (c .plays) (c .turns) (t .turns-is);
+      turns-named = leb-true (c .turns) (c .named) (t .named-is);
+      named-accepted = leb-true (c .named) a (t .views-is);
     }
 
-pub held-small : (pl : Plan) (a : ℕ) (c : Campaign) → a ≤ 4_096 → Held pl a c → Small c
-held-small pl a c l h = record { price-small = h .price-most; budget-small = h .budget-most; plays-small = omega arith; turns-small = omega arith }
+-- the tests by columns, on campaigns that six arrays hold
+module _ (p : Phase) (pl : Plan) (a n : ℕ) (pr bu l t g m : List ℕ) where
+  abbrev f : ℕ → Campaign
+  f = campaign-at pr bu l t g m
 
--- a weight above W(0) is at most 2^32
-pub waiting-most : (pl : Plan) → sound-plan pl ≡ true → (c : Campaign) → c .age ≤ pl .depth → waiting pl c ≤ 4_294_967_296
-waiting-most pl e c h =
-    let z = plan-sized pl e in
-    omega (arith, weight-most (pl .depth) (pl .width) (z .wide) (c .age) h)
+  abbrev paid : ℕ → Bool
+  paid i = leb (spending (f i)) (f i .budget)
 
-pub sums-next : (pl : Plan) (n : ℕ) (f : ℕ → Campaign) → sums-of pl (n + 1) f ≡ one-more (sums-of pl n f) (f n) (waiting pl (f n))
-unfolding sums-of sum
-sums-next pl n f = ap (λ (m : ℕ). sums-of pl m f) (add-one n)
+  abbrev order : ℕ → Bool
+  order i = ltb (f i .age) (pl .depth) && leb (f i .plays) (f i .turns) && leb (f i .turns) (f i .named) && leb (f i .named) a
 
--- sums over at most 64 sound campaigns leave room for one more
-pub sums-partial : (p : Phase) (pl : Plan) (a n : ℕ) (f : ℕ → Campaign) → sound-plan pl ≡ true → a ≤ 4_096 → n ≤ 64
-    → every n (λ i. sound-campaign p pl a (f i)) ≡ true → Partial (sums-of pl n f)
-unfolding sums-of
-sums-partial p pl a n f pe ae h e = record {
-  budgets-room = most (λ c. c .budget) 2_000_000_000 (λ i l. held i l .budget-most);
-  takings-room = most spending 4_096_000_000 (λ i l. mul-le-mul (held i l .price-most) (small i l .plays-small));
-  turned-room = most (λ c. c .price * c .turns) 4_096_000_000 (λ i l. mul-le-mul (held i l .price-most) (small i l .turns-small));
-  waited-room = most (λ c. c .price * waiting pl c) 4_294_967_296_000_000 (λ i l. mul-le-mul (held i l .price-most) (waiting-most pl pe (f i) (omega (arith, held i l .young))));
-}
-  where
-    held : (i : ℕ) → i < n → Held pl a (f i)
-    held i l = campaign-held p pl a (f i) (every-at n (λ i. sound-campaign p pl a (f i)) e i l)
+  abbrev pub columns : Bool
+  columns = priced-columns n pr bu && ordered-columns (pl .depth) a n l t g m && untouched-columns p n l t g m && spent-of n pr bu l t .within
 
-    small : (i : ℕ) → i < n → Small (f i)
-    small i l = held-small pl a (f i) ae (held i l)
+  within-is : spent-of n pr bu l t .within ≡ every n paid
+  unfolding spent-of
+  within-is = go (every n paid)
+    where
+      go : (b : Bool) → cond b (spendings n pr bu l t) no-spending .within ≡ b
+      go true = refl
+      go false = refl
 
-    most : (g : Campaign → ℕ) (b : ℕ) → ((i : ℕ) → i < n → g (f i) ≤ b) → sum n (λ i. g (f i)) ≤ 64 * b
-    most g b k = le-trans (sum-most n b (λ i. g (f i)) k) (mul-le-mul-right b h)
+  untouched-all : (q : Phase) → untouched-columns q n l t g m ≡ every n (λ i. untouched q (f i))
+  unfolding no-counts-in uncounted
+  untouched-all Filling = every-eq n (λ i. cond (ltb i 0) true (uncounted (f i))) (λ i. uncounted (f i)) (λ i _. ap (λ (b : Bool). cond b true (uncounted (f i))) (le-ltb i 0 (omega arith)))
+  untouched-all Running = sym (every-of n (λ i. true) (λ i _. refl))
+  untouched-all (Closed x) = sym (every-of n (λ i. true) (λ i _. refl))
+
+  -- each column of tests, at one campaign
+  module _ (e : columns ≡ true) (i : ℕ) (h : i < n) where
+    c2 : (priced-columns n pr bu && ordered-columns (pl .depth) a n l t g m && untouched-columns p n l t g m) ≡ true
+    c2 = both-left (priced-columns n pr bu && ordered-columns (pl .depth) a n l t g m && untouched-columns p n l t g m) (spent-of n pr bu l t .within) e
+
+    c1 : (priced-columns n pr bu && ordered-columns (pl .depth) a n l t g m) ≡ true
+    c1 = both-left (priced-columns n pr bu && ordered-columns (pl .depth) a n l t g m) (untouched-columns p n l t g m) c2
+
+    priced-here : priced (f i) ≡ true
+    unfolding priced-columns priced
+    priced-here = every-at n (λ j. priced (f j)) (both-left (priced-columns n pr bu) (ordered-columns (pl .depth) a n l t g m) c1) i h
+
+    ordered-here : order i ≡ true
+    unfolding ordered-columns
+    ordered-here = every-at n order (both-right (priced-columns n pr bu) (ordered-columns (pl .depth) a n l t g m) c1) i h
+
+    untouched-here : untouched p (f i) ≡ true
+    untouched-here = every-at n (λ j. untouched p (f j)) (sym (untouched-all p) ∙ both-right (priced-columns n pr bu && ordered-columns (pl .depth) a n l t g m) (untouched-columns p n l t g m) c2) i h
+
+    paid-here : paid i ≡ true
+    paid-here = every-at n paid (sym within-is ∙ both-right (priced-columns n pr bu && ordered-columns (pl .depth) a n l t g m && untouched-columns p n l t g m) (spent-of n pr bu l t .within) e) i h
+
+    tested : Tested p pl a (f i)
+    tested =
+        let o2 = both-left (ltb (f i .age) (pl .depth) && leb (f i .plays) (f i .turns) && leb (f i .turns) (f i .named)) (leb (f i .named) a) ordered-here in
+        let o1 = both-left (ltb (f i .age) (pl .depth) && leb (f i .plays) (f i .turns)) (leb (f i .turns) (f i .named)) o2 in
+        record {
+          priced-is = priced-here;
+          young-is = both-left (ltb (f i .age) (pl .depth)) (leb (f i .plays) (f i .turns)) o1;
+          whole-is = sym (plays-within (f i) (price-least (f i) priced-here)) ∙ paid-here;
+          turns-is = both-right (ltb (f i .age) (pl .depth)) (leb (f i .plays) (f i .turns)) o1;
+          named-is = both-right (ltb (f i .age) (pl .depth) && leb (f i .plays) (f i .turns)) (leb (f i .turns) (f i .named)) o2;
+          views-is = both-right (ltb (f i .age) (pl .depth) && leb (f i .plays) (f i .turns) && leb (f i .turns) (f i .named)) (leb (f i .named) a) ordered-here;
+          untouched-is = untouched-here;
+        }
+
+  -- and back
+  columns-of : ((i : ℕ) → i < n → Tested p pl a (f i)) → columns ≡ true
+  unfolding priced-columns priced ordered-columns
+  columns-of h =
+      rw (
+        every-of n (λ i. priced (f i)) (λ i l. h i l .priced-is),
+        every-of n order (λ i l. rw (h i l .young-is, h i l .turns-is, h i l .named-is, h i l .views-is)),
+        untouched-all p,
+        every-of n (λ i. untouched p (f i)) (λ i l. h i l .untouched-is),
+        within-is,
+        every-of n paid (λ i l. plays-within (f i) (price-least (f i) (h i l .priced-is)) ∙ h i l .whole-is),
+      )
+
+  pub columns-sound : columns ≡ every n (λ i. sound-campaign p pl a (f i))
+  columns-sound =
+      same-test columns (every n (λ i. sound-campaign p pl a (f i)))
+      (λ e. every-of n (λ i. sound-campaign p pl a (f i)) (λ i h. sound-of p pl a (f i) (tested e i h)))
+      (λ e. columns-of (λ i h. tests-of p pl a (f i) (every-at n (λ j. sound-campaign p pl a (f j)) e i h)))
+
+  -- the sums, from their parts
+  abbrev pub joined : Spent → Sums
+  joined s = record { sound = true; budgets = s .budgets; takings = s .takings; turned = s .turned; waited = waited-of pl n pr g }
+
+  pub sums-join : every n (λ i. sound-campaign p pl a (f i)) ≡ true → joined (spent-of n pr bu l t) ≡ sums-of pl n f
+  unfolding spent-of sums-of waited-of
+  sums-join e = rw (sym within-is ∙ both-right (priced-columns n pr bu && ordered-columns (pl .depth) a n l t g m && untouched-columns p n l t g m) (spent-of n pr bu l t .within) (columns-sound ∙ e))
+
+-- why the sums over at most 64 sound campaigns fit
+module _ (p : Phase) (pl : Plan) (a n : ℕ) (f : ℕ → Campaign) (few : n ≤ 64) (sound : every n (λ i. sound-campaign p pl a (f i)) ≡ true) where
+  held : (i : ℕ) → i < n → Held pl a (f i)
+  held i l = campaign-held p pl a (f i) (every-at n (λ i. sound-campaign p pl a (f i)) sound i l)
+
+  most : (g : Campaign → ℕ) (b : ℕ) → ((i : ℕ) → i < n → g (f i) ≤ b) → sum n (λ i. g (f i)) ≤ 64 * b
+  most g b k = le-trans (sum-most n b (λ i. g (f i)) k) (mul-le-mul-right b few)
+
+  pub turned-most : a ≤ 4_096 → sums-of pl n f .turned ≤ 262_144_000_000
+  unfolding sums-of
+  turned-most h = most (λ c. c .price * c .turns) 4_096_000_000 (λ i l. mul-le-mul (held i l .price-most) (let k : f i .turns ≤ 4_096 = omega (arith, held i l .turns-named, held i l .named-accepted) in k))
+
+  pub waited-most : sound-plan pl ≡ true → sums-of pl n f .waited ≤ 274_877_906_944_000_000
+  unfolding sums-of
+  waited-most e = most (λ c. c .price * waiting pl c) 4_294_967_296_000_000 (λ i l. mul-le-mul (held i l .price-most) (let k : waiting pl (f i) ≤ 4_294_967_296 = omega (arith, weight-top pl e (f i .age) (omega (arith, held i l .young))) in k))

@@ -12,7 +12,7 @@ use borrow.Author.Tests.{eqb-true, eq-eqb, lt-ltb, le-ltb}
 use Rattle.finite.specs.Finite.{every}
 use Rattle.finite.proofs.Tests.{same-test, both-left, both-right, both-join, every-suc, every-of, every-eq, every-both}
 use Rattle.campaigns.specs.Campaign.{uncounted, empty}
-use Rattle.campaigns.specs.Inner.{campaign-at, no-terms-from, no-counts-from, empty-from}
+use Rattle.campaigns.specs.Inner.{campaign-at, no-terms-from, no-counts-in, empty-from}
 
 pub or-zero : (a b : ℕ) → eqb (bitOr a b) 0 ≡ (eqb a 0 && eqb b 0)
 or-zero a b =
@@ -31,8 +31,8 @@ from-next n i p h =
     ∙ ap (λ (b : Bool). every i (λ j. cond (ltb j n) true (p j)) && cond b true (p i)) (le-ltb i n h)
 
 -- an entry is all zero where it has no terms and no counts
-pub empty-joins : (n : ℕ) (p b l t a k : List ℕ) → (no-terms-from n p b 64 && no-counts-from n l t a k 64) ≡ empty-from n (campaign-at p b l t a k)
-unfolding no-terms-from no-counts-from empty-from empty uncounted
+pub empty-joins : (n : ℕ) (p b l t a k : List ℕ) → (no-terms-from n p b 64 && no-counts-in n l t a k 64) ≡ empty-from n (campaign-at p b l t a k)
+unfolding no-terms-from no-counts-in empty-from empty uncounted
 empty-joins n p b l t a k =
     every-both 64 (λ i. cond (ltb i n) true (eqb (getD p i 0) 0 && eqb (getD b i 0) 0)) (λ i. cond (ltb i n) true (uncounted (campaign-at p b l t a k i)))
     ∙ every-eq 64 (λ i. cond (ltb i n) true (eqb (getD p i 0) 0 && eqb (getD b i 0) 0) && cond (ltb i n) true (uncounted (campaign-at p b l t a k i)))

@@ -1,15 +1,12 @@
 // The rules for one campaign, in whole numbers and without a division.
 use crate::Campaign;
-use crate::Phase;
-use crate::Plan;
 use crate::Terms;
 ghost use mathlib.Core.Path.{_≡_};
 ghost use mathlib.Core.Bool.{true};
 ghost use Prim.Native.Nat.{_+_, _*_, _<_, _≤_};
-ghost use Rattle.powers.specs.Power.{weight};
-ghost use Rattle.campaigns.specs.Campaign.{can-pay, renamed, after, price-fits, budget-fits, priced, counted, uncounted, empty, untouched, sound-campaign};
+ghost use Rattle.campaigns.specs.Campaign.{can-pay, renamed, after, price-fits, budget-fits};
 ghost use Rattle.campaigns.specs.Choice.{role-of};
-ghost use Rattle.campaigns.specs.Inner.{Narrow, Rows};
+ghost use Rattle.campaigns.specs.Inner.{Narrow};
 
 impl Terms {
     // The limits of questions 8 and 9.
@@ -31,62 +28,6 @@ impl Terms {
 }
 
 impl Campaign {
-    fn priced(self) -> bool
-        ensures { λ r. ⌜ r ≡ priced self ⌝ }
-    {
-        let terms = Terms {
-            price: self.price,
-            budget: self.budget,
-        };
-        terms.price_fits() & terms.budget_fits()
-    }
-
-    // plays ≤ whole plays is price × plays ≤ budget.
-    fn counted(self, plan: Plan, accepted: u64) -> bool
-        requires { ⌜ Narrow self ⌝ }
-        requires { ⌜ 1 ≤ self .price ⌝ }
-        ensures { λ r. ⌜ r ≡ counted plan accepted self ⌝ }
-    {
-        (self.age < plan.depth)
-            & (self.price * self.plays <= self.budget)
-            & (self.plays <= self.turns)
-            & (self.turns <= self.named)
-            & (self.named <= accepted)
-    }
-
-    fn uncounted(self) -> bool
-        ensures { λ r. ⌜ r ≡ uncounted self ⌝ }
-    {
-        (self.plays == 0) & (self.turns == 0) & (self.age == 0) & (self.named == 0)
-    }
-
-    fn untouched(self, phase: Phase) -> bool
-        ensures { λ r. ⌜ r ≡ untouched phase self ⌝ }
-    {
-        match phase {
-            Phase::Filling => self.uncounted(),
-            Phase::Running => true,
-            Phase::Closed(_) => true,
-        }
-    }
-
-    pub fn empty(self) -> bool
-        ensures { λ r. ⌜ r ≡ empty self ⌝ }
-    {
-        (self.price == 0) & (self.budget == 0) & self.uncounted()
-    }
-
-    // What soundness asks of one campaign. The caller read it out of the arrays.
-    pub fn sound(self, phase: Phase, plan: Plan, accepted: u64) -> bool
-        requires { ⌜ Narrow self ⌝ }
-        ensures { λ r. ⌜ r ≡ sound-campaign phase plan accepted self ⌝ }
-    {
-        if !self.priced() {
-            return false;
-        }
-        self.counted(plan, accepted) & self.untouched(phase)
-    }
-
     // plays < whole plays is price × (plays + 1) ≤ budget. The callers know the campaign to be priced.
     pub fn can_pay(self) -> bool
         requires { ⌜ Narrow self ⌝ }
@@ -128,15 +69,4 @@ impl Campaign {
         }
         self.renamed(self.plays, self.turns, self.age + 1)
     }
-}
-
-// W(age), from the powers of the width and of the width less 1.
-pub fn weigh<'a>(age: u64, plan: Plan, up: &'a [u64; 33], down: &'a [u64; 33]) -> u64
-    requires { ⌜ Rows plan (now up) (now down) ⌝ }
-    requires { ⌜ age ≤ plan .depth ⌝ }
-    ensures { λ r. ⌜ (r ≡ weight (plan .depth) (plan .width) age) × (r ≤ 4294967296) ⌝ }
-{
-    let grown = age as usize;
-    let left = (plan.depth - age) as usize;
-    up[grown] * down[left]
 }

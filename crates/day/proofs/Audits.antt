@@ -1,80 +1,58 @@
 -- The audit: soundness by its tests in the order of the code, and the total claim as two sums.
 use mathlib.Core.Path.{_≡_, refl, ap, sym, _∙_}
-use mathlib.Core.Bool.{Bool, true, false, cond, not, _&&_, and-assoc, and-true}
-use mathlib.Core.List.{List}
-use Prim.Native.Nat.{ℕ, _+_, _-_, _*_, _/_, _^_, min, _≤_, _<_}
-use native.Mathlib.Nat.{min-eq-left, le-trans, le-div-iff-mul-le, div-lt-iff-lt-mul, pow-le-pow-left, pow-lt-pow-left, sub-le}
+use mathlib.Core.Bool.{Bool, true, false, cond, _&&_, and-assoc, and-true}
+use Prim.Native.Nat.{ℕ, _+_, _-_, _*_, _/_, _^_, _≤_, _<_}
+use native.Mathlib.Nat.{le-trans, le-div-iff-mul-le, div-lt-iff-lt-mul, pow-lt-pow-left}
 use native.Mathlib.Omega.{arith}
-use lib.Dec.{leb, eqb}
-use lib.ListN.{getD}
-use borrow.Author.Tests.{leb-true, le-leb, lt-leb, eqb-true, eqb-false}
+use lib.Dec.{leb}
+use borrow.Author.Tests.{leb-true, le-leb, lt-leb}
 use Rattle.finite.specs.Finite.{sum, every}
 use Rattle.finite.proofs.Tests.{both-left, both-right, every-at, every-cut}
 use Rattle.finite.proofs.Sums.{sum-eq, sum-le, sum-add, sum-mul}
-use Rattle.powers.specs.Power.{entry, row-of, weight, share}
-use Rattle.powers.proofs.Entries.{row-at, entry-is, entry-over, entry-under}
-use Rattle.powers.proofs.Weight.{weight-mono}
+use Rattle.powers.specs.Power.{Deepest, weight, share}
+use Rattle.powers.proofs.Weight.{weight-mono, weight-top, weight-zero}
 use Rattle.campaigns.specs.declared.Campaign.{Campaign}
 use Rattle.campaigns.specs.declared.Phase.{Phase}
 use Rattle.campaigns.specs.declared.Plan.{Plan}
-use Rattle.campaigns.specs.declared.pass.Sums.{Sums}
+use Rattle.campaigns.specs.declared.sums.Sums.{Sums}
 use Rattle.campaigns.specs.Campaign.{spending, claim, depth-fits, width-fits, power-fits, sound-plan, sound-campaign, empty}
-use Rattle.campaigns.specs.Inner.{Rows, waiting, sums-of, no-sums, summed, empty-from}
+use Rattle.campaigns.specs.Inner.{waiting, sums-of, no-sums, summed, empty-from}
 use Rattle.campaigns.proofs.Laws.{Sized, plan-sized, spending-within}
-use Rattle.campaigns.proofs.Totals.{Held, campaign-held, sums-partial}
+use Rattle.campaigns.proofs.Totals.{Held, campaign-held, turned-most, waited-most}
 use Rattle.day.specs.declared.Day.{Day}
 use Rattle.day.specs.Day.{campaign, full, taken, claimed, budgeted}
 use Rattle.day.specs.Sound.{sound, phase-holds}
 use Rattle.day.specs.Inner.{not-sound, audited, Bounded, claim-sum, settled}
 
--- question 5 by the row of powers
-pub row-tells : (pl : Plan) (up : List ℕ) → up ≡ row-of (min (pl .width) 16) → (depth-fits pl && width-fits pl) ≡ true → not (eqb (getD up (pl .depth) 0) 0) ≡ sound-plan pl
+-- questions 3 to 5, the last by the greatest exponent that fits
+pub plan-tells : (pl : Plan) (r : ℕ) → (pl .width ≤ 16 → Deepest (pl .width) r) → (depth-fits pl && width-fits pl && leb (pl .depth) r) ≡ sound-plan pl
 unfolding sound-plan
-row-tells pl up e t = rw t (ap (λ (x : ℕ). not (eqb x 0)) is ∙ go (eqb (entry (pl .width) (pl .depth)) 0) refl)
+plan-tells pl r h = go (depth-fits pl) refl (width-fits pl) refl
   where
-    d : depth-fits pl ≡ true
-    d = both-left (depth-fits pl) (width-fits pl) t
+    go : (d : Bool) → depth-fits pl ≡ d → (w : Bool) → width-fits pl ≡ w → (d && w && leb (pl .depth) r) ≡ (d && w && power-fits pl)
+    go false p w q = refl
+    go true p false q = refl
+    go true p true q =
+        h (leb-true (pl .width) 16 (both-right (leb 1 (pl .width)) (leb (pl .width) 16) q)) (pl .depth)
+        (leb-true (pl .depth) 32 (both-right (leb 1 (pl .depth)) (leb (pl .depth) 32) p))
 
-    w : width-fits pl ≡ true
-    w = both-right (depth-fits pl) (width-fits pl) t
-
-    wide : 1 ≤ pl .width
-    wide = leb-true 1 (pl .width) (both-left (leb 1 (pl .width)) (leb (pl .width) 16) w)
-
-    is : getD up (pl .depth) 0 ≡ entry (pl .width) (pl .depth)
-    is = ap (λ (l : List ℕ). getD l (pl .depth) 0) (e ∙ ap row-of (min-eq-left (leb-true (pl .width) 16 (both-right (leb 1 (pl .width)) (leb (pl .width) 16) w))))
-        ∙ row-at (pl .width) (pl .depth) (leb-true (pl .depth) 32 (both-right (leb 1 (pl .depth)) (leb (pl .depth) 32) d))
-
-    go : (b : Bool) → eqb (entry (pl .width) (pl .depth)) 0 ≡ b → not b ≡ power-fits pl
-    go true z = sym (entry-over (pl .width) (pl .depth) wide (eqb-true (entry (pl .width) (pl .depth)) 0 z))
-    go false z = sym (entry-under (pl .width) (pl .depth) (eqb-false (entry (pl .width) (pl .depth)) 0 z))
-
--- the rows of a sound plan
-pub rows-of : (pl : Plan) (up down : List ℕ) → sound-plan pl ≡ true → up ≡ row-of (min (pl .width) 16) → down ≡ row-of (min (pl .width - 1) 16) → Rows pl up down
-rows-of pl up down e u d =
-    let z = plan-sized pl e in
-    record { plan-sound = e; up-is = u ∙ ap row-of (min-eq-left (z .narrow)); down-is = d ∙ ap row-of (min-eq-left (omega arith)) }
-
-module _ (pl : Plan) (up down : List ℕ) (r : Rows pl up down) where
+-- the top weight and the share of a sound plan
+module _ (pl : Plan) (e : sound-plan pl ≡ true) (h l : ℕ) (high : h ≡ weight (pl .depth) (pl .width) (pl .depth)) (low : l ≡ weight (pl .depth) (pl .width) 0) where
   size-of : Sized pl
-  size-of = plan-sized pl (r .plan-sound)
+  size-of = plan-sized pl e
 
-  pub high-is : getD up (pl .depth) 0 ≡ pl .width ^ pl .depth
-  high-is =
-      ap (λ (l : List ℕ). getD l (pl .depth) 0) (r .up-is) ∙ row-at (pl .width) (pl .depth) (size-of .shallow) ∙ entry-is (pl .width) (pl .depth) (size-of .top)
+  pub high-is : h ≡ pl .width ^ pl .depth
+  high-is = high ∙ weight-top (pl .depth) (pl .width)
 
-  pub low-is : getD down (pl .depth) 0 ≡ (pl .width - 1) ^ pl .depth
-  low-is =
-      ap (λ (l : List ℕ). getD l (pl .depth) 0) (r .down-is) ∙ row-at (pl .width - 1) (pl .depth) (size-of .shallow)
-      ∙ entry-is (pl .width - 1) (pl .depth) (le-trans (pow-le-pow-left (sub-le (pl .width) 1) (pl .depth)) (size-of .top))
+  low-is : l ≡ (pl .width - 1) ^ pl .depth
+  low-is = low ∙ weight-zero (pl .depth) (pl .width)
 
-  pub share-is : getD up (pl .depth) 0 - getD down (pl .depth) 0 ≡ share (pl .depth) (pl .width)
+  pub share-is : h - l ≡ share (pl .depth) (pl .width)
   unfolding share
   share-is = rw (high-is, low-is)
 
-  pub low-below : getD down (pl .depth) 0 < getD up (pl .depth) 0
-  low-below =
-      rw (high-is, low-is) (pow-lt-pow-left (omega (arith, size-of .wide)) (λ e. omega (arith, size-of .deep)))
+  pub low-below : l < h
+  low-below = rw (high-is, low-is) (pow-lt-pow-left (omega (arith, size-of .wide)) (λ e. omega (arith, size-of .deep)))
 
 -- a product is at most a number exactly if the quotient is at least the factor
 pub over : (x y n : ℕ) → 0 < y → n / y < x → n < x * y
@@ -168,13 +146,12 @@ module _ (s : Day) (p : plan-part s ≡ true) (c : campaign-part s ≡ true) whe
   pub sums-bounded : Bounded (sums-of (s .plan) (s .count) (campaign s))
   unfolding sums-of budgeted
   sums-bounded =
-      let r = sums-partial (s .phase) (s .plan) (s .accepted) (s .count) (campaign s) (plan-of s p) (views-of s p) (few-of s p) each in
       record {
         takings-bound = le-trans (sum-le (s .count) (λ i. spending (campaign s i)) (λ i. campaign s i .budget) (λ i l. spending-within (campaign s i) (held i l .price-least) (held i l .within-whole)))
             (leb-true (budgeted s) 2_000_000_000 (both-right (every (s .count) (λ i. sound-campaign (s .phase) (s .plan) (s .accepted) (campaign s i)) && empty-from (s .count) (campaign s)) (leb (budgeted s) 2_000_000_000)
             (both-left (every (s .count) (λ i. sound-campaign (s .phase) (s .plan) (s .accepted) (campaign s i)) && empty-from (s .count) (campaign s) && leb (budgeted s) 2_000_000_000) (phase-holds (s .phase) (s .accepted) (taken s)) c)));
-        turned-bound = r .turned-room;
-        waited-bound = r .waited-room;
+        turned-bound = turned-most (s .phase) (s .plan) (s .accepted) (s .count) (campaign s) (few-of s p) each (views-of s p);
+        waited-bound = waited-most (s .phase) (s .plan) (s .accepted) (s .count) (campaign s) (few-of s p) each (plan-of s p);
       }
 
   pub audit-third : audited s ≡ settled (s .plan) (sums-of (s .plan) (s .count) (campaign s))

@@ -1,5 +1,4 @@
 pub mod Questions
 pub mod State
 pub mod Audits
-pub mod Marks
 pub mod Shown

@@ -82,6 +82,16 @@ module _ (s : Day) (c : Call) (q : ℕ) (e : q ≡ first-no (questions s c)) whe
   pub accepted-is : q ≡ 0 → result s c ≡ call s c
   accepted-is z = sym (call-yes s c (asked-yes z))
 
+-- a state that is not sound refuses every call with 1
+pub unsound-refused : (s : Day) (c : Call) → sound s ≡ false → refused s 1 ≡ call s c
+unfolding call first-no
+unsound-refused s (open-plan pl) e = rw e
+unsound-refused s (add-campaign t) e = rw e
+unsound-refused s start-day e = rw e
+unsound-refused s (show-view w) e = rw e
+unsound-refused s (ask-tally i) e = rw e
+unsound-refused s close-day e = rw e
+
 -- the audit tells whether the state is sound, and its figures
 pub audit-sound : (s : Day) (a : Audit) → a ≡ audited s → a .sound ≡ sound s
 unfolding audited

@@ -47,6 +47,10 @@ sound-facts s e =
       covered = leb-true (claimed s) (full (s .plan) (taken s)) (p .1 .1 .1 .1 .1 .1 .0);
     }
 
+pub plan-unsound : (s : Day) → sound-plan (s .plan) ≡ false → sound s ≡ false
+unfolding sound
+plan-unsound s e = rw e
+
 -- an entry below the last is a sound campaign, one past it is all zero
 pub sound-at : (s : Day) → Sound s → (i : ℕ) → i < s .count → sound-campaign (s .phase) (s .plan) (s .accepted) (campaign s i) ≡ true
 sound-at s h i l = sym (ap (λ (b : Bool). cond b (sound-campaign (s .phase) (s .plan) (s .accepted) (campaign s i)) (empty (campaign s i))) (lt-ltb i (s .count) l)) ∙ every-at 64 (sound-entry s) (h .entries) i (omega (arith, h .few))
@@ -66,7 +70,7 @@ pub record Lengths (s : Day) : Type 0 where
   pub ages-length : length (s .ages) ≡ 64
   pub named-length : length (s .named) ≡ 64
 
-array-is : (l : List ℕ) (g : ℕ → ℕ) → length l ≡ 64 → ((i : ℕ) → i < 64 → getD l i 0 ≡ g i) → l ≡ table 64 g
+pub array-is : (l : List ℕ) (g : ℕ → ℕ) → length l ≡ 64 → ((i : ℕ) → i < 64 → getD l i 0 ≡ g i) → l ≡ table 64 g
 array-is l g e h = list-table 64 l e ∙ table-eq 64 (λ i. getD l i 0) g h
 
 -- a state is known by its campaigns

@@ -3,24 +3,28 @@ use mathlib.Core.Bool.{true, false, cond, _&&_}
 use mathlib.Core.List.{List, [], _∷_}
 use mathlib.Core.Path.{_≡_}
 use Prim.Native.Nat.{ℕ, _+_, _*_, _≤_, _<_}
-use lib.Dec.{leb, ltb, eqb}
+use lib.Dec.{leb, ltb}
 use Rattle.sets.specs.Set.{size, within}
 use Rattle.powers.specs.Power.{share}
-use Rattle.campaigns.specs.declared.Campaign.{Campaign}
 use Rattle.campaigns.specs.declared.Phase.{Phase}
 use Rattle.campaigns.specs.declared.Plan.{Plan}
 use Rattle.campaigns.specs.declared.Terms.{Terms}
 use Rattle.campaigns.specs.declared.View.{View}
 use Rattle.campaigns.specs.declared.pass.Leader.{Leader}
-use Rattle.campaigns.specs.declared.pass.Sums.{Sums}
-use Rattle.campaigns.specs.Choice.{role-of}
-use Rattle.campaigns.specs.Campaign.{can-pay, after, depth-fits, width-fits, power-fits}
-use Rattle.campaigns.specs.View.{names}
+use Rattle.campaigns.specs.declared.sums.Sums.{Sums}
+use Rattle.campaigns.specs.Campaign.{depth-fits, width-fits, power-fits}
+use Rattle.day.specs.declared.Answer.{Answer}
+use Rattle.day.specs.declared.Answer.the-variants.{Refused, Done, Played, Nobody, Tallied, Closing}
 use Rattle.day.specs.declared.Day.{Day}
 use Rattle.day.specs.declared.audit.Audit.{Audit}
-use Rattle.day.specs.Day.{campaign, holding, full, taken, claimed, budgeted, is-filling, is-running}
+use Rattle.day.specs.Day.{full, taken, claimed, budgeted, is-filling, is-running}
 use Rattle.day.specs.Sound.{sound}
-use Rattle.day.specs.Calls.{Question, question}
+use Rattle.day.specs.Calls.{Question, question, call}
+use Rattle.day.specs.Calls.Call.{show-view}
+
+-- a state by its parts
+abbrev pub state-of : Phase → Plan → (count accepted : ℕ) → (prices budgets plays turns ages named : List ℕ) → Day
+state-of p pl n a x b l t g m = record { phase = p; plan = pl; count = n; accepted = a; prices = x; budgets = b; plays = l; turns = t; ages = g; named = m }
 
 -- an audit that fails, and that of a state
 abbrev pub not-sound : Audit
@@ -56,12 +60,26 @@ view-questions p pl n a w =
     question 11 (is-running p) ∷ question 12 (ltb a 4_096) ∷ question 13 (within n (w .set)) ∷
     question 14 (leb 1 (size (w .set)) && leb (size (w .set)) (pl .width)) ∷ []
 
--- the campaigns after a view that leader l plays, and the state that holds them
-abbrev pub remade : Day → View → Leader → ℕ → Campaign
-remade s w l i = after (s .plan .depth) (role-of (names w i) (can-pay (campaign s i)) (l .found && eqb i (l .campaign))) (campaign s i)
+-- the answer that names leader l
+abbrev pub answer-of : Leader → Answer
+answer-of l = cond (l .found) (Played (l .campaign) (l .paid)) Nobody
 
-unfoldable pub marked : Day → View → Leader → Day
-marked s w l = holding (s .phase) (s .plan) (s .count) (s .accepted + 1) (remade s w l)
+-- one for an accepted view
+abbrev pub counts : Answer → ℕ
+counts (Refused q) = 0
+counts Done = 1
+counts (Played i p) = 1
+counts Nobody = 1
+counts (Tallied p t a n) = 1
+counts (Closing t c f) = 1
+
+-- the answer to a view and the counts after it are those of the call
+pub record Shows (s : Day) (w : View) (r : Answer) (l t g m : List ℕ) : Type 0 where
+  pub answer-is : r ≡ call s (show-view w) .answer
+  pub plays-are : l ≡ call s (show-view w) .day .plays
+  pub turns-are : t ≡ call s (show-view w) .day .turns
+  pub ages-are : g ≡ call s (show-view w) .day .ages
+  pub named-are : m ≡ call s (show-view w) .day .named
 
 -- there is room for one campaign more, whose terms fit the arrays
 pub record Joinable (s : Day) (t : Terms) : Type 0 where

@@ -2,15 +2,15 @@
 use crate::Day;
 use campaigns::Phase;
 use campaigns::Plan;
-use campaigns::pass::Sums;
+use campaigns::columns::empty_from;
+use campaigns::sums::Sums;
+use campaigns::sums::sum_all;
+use campaigns::weights::weigh;
 ghost use mathlib.Core.Path.{_≡_};
-ghost use mathlib.Core.Bool.{true};
-ghost use Prim.Native.Nat.{min, _-_};
-ghost use Rattle.powers.specs.Power.{row-of};
 ghost use Rattle.campaigns.specs.Campaign.{depth-fits, width-fits, sound-plan};
-ghost use Rattle.campaigns.specs.Inner.{Rows};
+ghost use Rattle.campaigns.specs.Inner.{Weights};
 ghost use Rattle.day.specs.Sound.{phase-holds};
-ghost use Rattle.day.specs.Inner.{not-sound, Bounded, settled, audited};
+ghost use Rattle.day.specs.Inner.{state-of, not-sound, Bounded, settled, audited};
 
 // Whether the state is sound and, if so, the sum of its budgets, its takings, total claim and full.
 pub struct Audit {
@@ -22,7 +22,7 @@ pub struct Audit {
 }
 
 impl Audit {
-    fn unsound() -> Audit
+    pub fn unsound() -> Audit
         ensures { λ r. ⌜ r ≡ not-sound ⌝ }
     {
         Audit {
@@ -47,16 +47,11 @@ pub fn width_fits(plan: Plan) -> bool
     (1 <= plan.width) & (plan.width <= Day::MAX_WIDTH)
 }
 
-// Questions 3 to 5, the last by the row of the width's powers, where 0 says "above the limit".
-fn plan_fits(plan: Plan, up: &[u64; 33]) -> bool
-    requires { ⌜ now up ≡ row-of (min (plan .width) 16) ⌝ }
+// Questions 3 to 5.
+pub fn plan_fits(plan: Plan) -> bool
     ensures { λ r. ⌜ r ≡ sound-plan plan ⌝ }
 {
-    if !(depth_fits(plan) & width_fits(plan)) {
-        return false;
-    }
-    let depth = plan.depth as usize;
-    up[depth] != 0
+    depth_fits(plan) & width_fits(plan) & (plan.depth <= powers::deepest(plan.width))
 }
 
 // In Filling no view is accepted; a Closed phase holds the takings.
@@ -72,14 +67,13 @@ fn phase_holds(phase: Phase, accepted: u64, takings: u64) -> bool
 
 // The last question of soundness: the total claim, turned × (d^k − (d−1)^k) + waited, is at most full. The product is
 // formed only once it is known to be at most full.
-fn settle<'a>(sums: Sums, plan: Plan, up: &'a [u64; 33], down: &'a [u64; 33]) -> Audit
-    requires { ⌜ Rows plan (now up) (now down) ⌝ }
+fn settle(sums: Sums, plan: Plan, weights: &[u64; 33]) -> Audit
+    requires { ⌜ Weights plan (now weights) ⌝ }
     requires { ⌜ Bounded sums ⌝ }
     ensures { λ r. ⌜ r ≡ settled plan sums ⌝ }
 {
-    let depth = plan.depth as usize;
-    let high = up[depth];
-    let share = high - down[depth];
+    let high = weigh(plan.depth, plan, weights);
+    let share = high - weigh(0, plan, weights);
     let full = high * sums.takings;
     if full / share < sums.turned {
         return Audit::unsound();
@@ -97,14 +91,13 @@ fn settle<'a>(sums: Sums, plan: Plan, up: &'a [u64; 33], down: &'a [u64; 33]) ->
     }
 }
 
-// The audit of a state, handed in by its parts so that no array is copied.
+// The audit of a state whose plan fits, handed in by its parts so that no array is copied. The callers have its weights.
 pub fn examine<'a>(
     phase: Phase,
     plan: Plan,
     count: u64,
     accepted: u64,
-    up: &'a [u64; 33],
-    down: &'a [u64; 33],
+    weights: &'a [u64; 33],
     prices: &'a [u32; 64],
     budgets: &'a [u32; 64],
     plays: &'a [u16; 64],
@@ -112,21 +105,19 @@ pub fn examine<'a>(
     ages: &'a [u16; 64],
     named: &'a [u16; 64],
 ) -> Audit
-    requires { ⌜ now up ≡ row-of (min (plan .width) 16) ⌝ }
-    requires { ⌜ now down ≡ row-of (min (plan .width - 1) 16) ⌝ }
-    ensures { λ r. ⌜ r ≡ audited (record { phase = phase; plan = plan; count = count; accepted = accepted; prices = now (prices .entry); budgets = now (budgets .entry); plays = now (plays .entry); turns = now (turns .entry); ages = now (ages .entry); named = now (named .entry) }) ⌝ }
+    requires { ⌜ Weights plan (now weights) ⌝ }
+    ensures { λ r. ⌜ r ≡ audited (state-of phase plan count accepted (now (prices .entry)) (now (budgets .entry)) (now (plays .entry)) (now (turns .entry)) (now (ages .entry)) (now (named .entry))) ⌝ }
 {
-    if !(plan_fits(plan, up) & (count <= Day::MAX_CAMPAIGNS) & (accepted <= Day::MAX_VIEWS)) {
+    if !((count <= Day::MAX_CAMPAIGNS) & (accepted <= Day::MAX_VIEWS)) {
         return Audit::unsound();
     }
     let n = count as usize;
-    let sums = campaigns::pass::sum_all(
+    let sums = sum_all(
         n,
         phase,
         plan,
         accepted,
-        up,
-        down,
+        weights,
         prices,
         budgets,
         plays,
@@ -134,12 +125,11 @@ pub fn examine<'a>(
         ages,
         named,
     );
-    let empty = campaigns::pass::empty_from(n, prices, budgets, plays, turns, ages, named);
     if !(sums.sound
-        & empty
+        & empty_from(n, prices, budgets, plays, turns, ages, named)
         & (sums.budgets <= Day::MAX_BUDGET)
         & phase_holds(phase, accepted, sums.takings)) {
         return Audit::unsound();
     }
-    settle(sums, plan, up, down)
+    settle(sums, plan, weights)
 }

@@ -7,7 +7,7 @@ use campaigns::Phase;
 use campaigns::Plan;
 use campaigns::Terms;
 ghost use mathlib.Core.Path.{_≡_};
-ghost use Prim.Native.Nat.{_+_, _-_};
+ghost use Prim.Native.Nat.{_+_};
 ghost use Rattle.day.specs.Day.{in-phase, is-filling, is-closed};
 ghost use Rattle.day.specs.Calls.{first-no, questions, result, call};
 ghost use Rattle.day.specs.Calls.Call.{open-plan, add-campaign, start-day, ask-tally, close-day};
@@ -33,16 +33,6 @@ fn closed(phase: Phase) -> bool
     }
 }
 
-// One less, or 0.
-pub fn less_one(x: u64) -> u64
-    ensures { λ r. ⌜ r ≡ x - 1 ⌝ }
-{
-    if x == 0 {
-        return 0;
-    }
-    x - 1
-}
-
 // The number of the first of questions 3 to 5 that a plan fails, or 0; the last is looked up in the table.
 fn plan_question(plan: Plan) -> u64
     ensures { λ r. ⌜ r ≡ first-no (plan-questions plan) ⌝ }
@@ -65,15 +55,16 @@ impl Day {
     {
         let phase = self.phase;
         let plan = self.plan;
-        let up = powers::row(plan.width);
-        let down = powers::row(less_one(plan.width));
+        if !crate::audit::plan_fits(plan) {
+            return Audit::unsound();
+        }
+        let weights = campaigns::weights::weights(plan);
         crate::audit::examine(
             phase,
             plan,
             self.count,
             self.accepted,
-            &up,
-            &down,
+            &weights,
             &self.prices,
             &self.budgets,
             &self.plays,

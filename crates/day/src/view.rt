@@ -2,20 +2,23 @@
 use crate::Answer;
 use crate::Day;
 use crate::Outcome;
+use crate::audit::examine;
+use crate::audit::plan_fits;
 use campaigns::Phase;
 use campaigns::Plan;
 use campaigns::View;
 use campaigns::pass::Leader;
+use campaigns::pass::choose;
+use campaigns::pass::mark;
+use campaigns::weights::weights;
 ghost use mathlib.Core.Path.{_≡_};
 ghost use mathlib.Core.Bool.{true};
-ghost use Prim.Native.Nat.{_<_};
-ghost use Rattle.sets.specs.Set.{within};
-ghost use Rattle.campaigns.specs.Inner.{Rows};
+ghost use Rattle.campaigns.specs.Inner.{Weights, Entries};
 ghost use Rattle.day.specs.Day.{is-running};
 ghost use Rattle.day.specs.Sound.{sound};
 ghost use Rattle.day.specs.Calls.{first-no, call};
 ghost use Rattle.day.specs.Calls.Call.{show-view};
-ghost use Rattle.day.specs.Inner.{view-questions, marked};
+ghost use Rattle.day.specs.Inner.{state-of, view-questions, answer-of, counts, Shows};
 
 pub fn running(phase: Phase) -> bool
     ensures { λ r. ⌜ r ≡ is-running phase ⌝ }
@@ -48,115 +51,229 @@ fn view_question(phase: Phase, plan: Plan, count: u64, accepted: u64, view: View
     0
 }
 
-impl Day {
-    // What the view does to the campaigns that it names, and one accepted view more.
-    fn marked(mut self, view: View, leader: Leader) -> Day
-        requires { ⌜ sound self ≡ true ⌝ }
-        requires { ⌜ self .accepted < 4096 ⌝ }
-        requires { ⌜ within (self .count) (view .set) ≡ true ⌝ }
-        ensures { λ r. ⌜ r ≡ marked self view leader ⌝ }
-    {
-        let set = view.set;
-        let depth = self.plan.depth;
-        let mut i = sets::next_from(set, 0);
-        while i < 64 {
-            let at = i as usize;
-            let c = campaigns::entry::entry(
-                at,
-                &self.prices,
-                &self.budgets,
-                &self.plays,
-                &self.turns,
-                &self.ages,
-                &self.named,
-            );
-            let v = c.viewed(depth, leader.found & (i == leader.campaign));
-            self.plays[at] = v.plays as u16;
-            self.turns[at] = v.turns as u16;
-            self.ages[at] = v.age as u16;
-            self.named[at] = v.named as u16;
-            i = sets::next_from(set, i + 1);
-        }
-        self.accepted = self.accepted + 1;
-        self
+// Who plays, and what is paid.
+fn told(leader: Leader) -> Answer
+    ensures { λ r. ⌜ r ≡ answer-of leader ⌝ }
+{
+    if leader.found {
+        return Answer::Played {
+            campaign: leader.campaign,
+            paid: leader.paid,
+        };
     }
+    Answer::Nobody
+}
 
-    // The view of a sound state, whose rows of powers the caller has taken.
-    fn shown<'a>(self, view: View, up: &'a [u64; 33], down: &'a [u64; 33]) -> Outcome
-        requires { ⌜ sound self ≡ true ⌝ }
-        requires { ⌜ Rows (self .plan) (now up) (now down) ⌝ }
+// One for an accepted view.
+pub fn counts(answer: Answer) -> u64
+    ensures { λ r. ⌜ r ≡ counts answer ⌝ }
+{
+    match answer {
+        Answer::Refused(_) => 0,
+        Answer::Done => 1,
+        Answer::Played {
+            campaign: _,
+            paid: _,
+        } => 1,
+        Answer::Nobody => 1,
+        Answer::Tallied {
+            plays: _,
+            turns: _,
+            age: _,
+            named: _,
+        } => 1,
+        Answer::Closing {
+            takings: _,
+            claim: _,
+            full: _,
+        } => 1,
+    }
+}
+
+// The view of a sound state, whose counts are changed where they stand. `show` calls it.
+fn show_sound<'a>(
+    phase: Phase,
+    plan: Plan,
+    count: u64,
+    accepted: u64,
+    view: View,
+    weights: &'a [u64; 33],
+    prices: &'a [u32; 64],
+    budgets: &'a [u32; 64],
+    plays: &'a mut [u16; 64],
+    turns: &'a mut [u16; 64],
+    ages: &'a mut [u16; 64],
+    named: &'a mut [u16; 64],
+) -> Answer
+    requires { ⌜ Weights plan (now weights) ⌝ }
+    requires { ⌜ Entries (now plays) (now turns) (now ages) (now named) ⌝ }
+    requires { ⌜ sound (state-of phase plan count accepted (now prices) (now budgets) (now plays) (now turns) (now ages) (now named)) ≡ true ⌝ }
+    ensures { λ r. ⌜ Shows (state-of phase plan count accepted (now (prices .entry)) (now (budgets .entry)) (now (plays .entry)) (now (turns .entry)) (now (ages .entry)) (now (named .entry))) view r (now (plays .exit)) (now (turns .exit)) (now (ages .exit)) (now (named .exit)) ⌝ }
+{
+    let question = view_question(phase, plan, count, accepted, view);
+    if question != 0 {
+        return Answer::Refused(question);
+    }
+    let leader = choose(
+        view,
+        plan,
+        weights,
+        prices,
+        budgets,
+        plays,
+        turns,
+        ages,
+        named,
+    );
+    mark(
+        view,
+        plan,
+        leader,
+        prices,
+        budgets,
+        plays,
+        turns,
+        ages,
+        named,
+    );
+    told(leader)
+}
+
+// Question 1, unless the state is known to be sound.
+fn is_sound<'a>(
+    checked: bool,
+    phase: Phase,
+    plan: Plan,
+    count: u64,
+    accepted: u64,
+    weights: &'a [u64; 33],
+    prices: &'a [u32; 64],
+    budgets: &'a [u32; 64],
+    plays: &'a [u16; 64],
+    turns: &'a [u16; 64],
+    ages: &'a [u16; 64],
+    named: &'a [u16; 64],
+) -> bool
+    requires { ⌜ Weights plan (now weights) ⌝ }
+    requires { ⌜ (checked ≡ true → sound (state-of phase plan count accepted (now prices) (now budgets) (now plays) (now turns) (now ages) (now named)) ≡ true) ⌝ }
+    ensures { λ r. ⌜ r ≡ sound (state-of phase plan count accepted (now (prices .entry)) (now (budgets .entry)) (now (plays .entry)) (now (turns .entry)) (now (ages .entry)) (now (named .entry))) ⌝ }
+{
+    if checked {
+        return true;
+    }
+    let audit = examine(
+        phase,
+        plan,
+        count,
+        accepted,
+        weights,
+        prices,
+        budgets,
+        plays,
+        turns,
+        ages,
+        named,
+    );
+    audit.sound
+}
+
+// A view of the state that is handed in by its parts: its counts are changed where they stand, and one view more is
+// accepted unless the answer is a refusal. The caller may know the state to be sound, as every state is that the
+// operations hand back from a sound one; else `checked` is false.
+pub fn show<'a>(
+    checked: bool,
+    phase: Phase,
+    plan: Plan,
+    count: u64,
+    accepted: u64,
+    view: View,
+    prices: &'a [u32; 64],
+    budgets: &'a [u32; 64],
+    plays: &'a mut [u16; 64],
+    turns: &'a mut [u16; 64],
+    ages: &'a mut [u16; 64],
+    named: &'a mut [u16; 64],
+) -> Answer
+    requires { ⌜ Entries (now plays) (now turns) (now ages) (now named) ⌝ }
+    requires { ⌜ (checked ≡ true → sound (state-of phase plan count accepted (now prices) (now budgets) (now plays) (now turns) (now ages) (now named)) ≡ true) ⌝ }
+    ensures { λ r. ⌜ Shows (state-of phase plan count accepted (now (prices .entry)) (now (budgets .entry)) (now (plays .entry)) (now (turns .entry)) (now (ages .entry)) (now (named .entry))) view r (now (plays .exit)) (now (turns .exit)) (now (ages .exit)) (now (named .exit)) ⌝ }
+{
+    if !plan_fits(plan) {
+        return Answer::Refused(1);
+    }
+    let weights = weights(plan);
+    if !is_sound(
+        checked,
+        phase,
+        plan,
+        count,
+        accepted,
+        &weights,
+        prices,
+        budgets,
+        plays,
+        turns,
+        ages,
+        named,
+    ) {
+        return Answer::Refused(1);
+    }
+    show_sound(
+        phase,
+        plan,
+        count,
+        accepted,
+        view,
+        &weights,
+        prices,
+        budgets,
+        plays,
+        turns,
+        ages,
+        named,
+    )
+}
+
+impl Day {
+    // The view of a state that may be known to be sound: question 1 need not be asked again.
+    pub fn view_checked(mut self, checked: bool, view: View) -> Outcome
+        requires { ⌜ (checked ≡ true → sound self ≡ true) ⌝ }
         ensures { λ r. ⌜ r ≡ call self (show-view view) ⌝ }
     {
         let phase = self.phase;
         let plan = self.plan;
-        let question = view_question(phase, plan, self.count, self.accepted, view);
-        if question != 0 {
-            return self.refused(question);
-        }
-        let leader = campaigns::pass::choose(
-            view,
+        let mut plays = self.plays;
+        let mut turns = self.turns;
+        let mut ages = self.ages;
+        let mut named = self.named;
+        let answer = show(
+            checked,
+            phase,
             plan,
-            up,
-            down,
+            self.count,
+            self.accepted,
+            view,
             &self.prices,
             &self.budgets,
-            &self.plays,
-            &self.turns,
-            &self.ages,
-            &self.named,
+            &mut plays,
+            &mut turns,
+            &mut ages,
+            &mut named,
         );
-        let day = self.marked(view, leader);
-        if leader.found {
-            return Outcome {
-                day: day,
-                answer: Answer::Played {
-                    campaign: leader.campaign,
-                    paid: leader.paid,
-                },
-            };
-        }
+        self.plays = plays;
+        self.turns = turns;
+        self.ages = ages;
+        self.named = named;
+        self.accepted = self.accepted + counts(answer);
         Outcome {
-            day: day,
-            answer: Answer::Nobody,
+            day: self,
+            answer: answer,
         }
-    }
-
-    // The view of a state that is known to be sound, as every state is that these operations hand back from a sound
-    // one: question 1 need not be asked again.
-    pub fn view_sound(self, view: View) -> Outcome
-        requires { ⌜ sound self ≡ true ⌝ }
-        ensures { λ r. ⌜ r ≡ call self (show-view view) ⌝ }
-    {
-        let plan = self.plan;
-        let up = powers::row(plan.width);
-        let down = powers::row(crate::ops::less_one(plan.width));
-        self.shown(view, &up, &down)
     }
 
     pub fn view(self, view: View) -> Outcome
         ensures { λ r. ⌜ r ≡ call self (show-view view) ⌝ }
     {
-        let phase = self.phase;
-        let plan = self.plan;
-        let up = powers::row(plan.width);
-        let down = powers::row(crate::ops::less_one(plan.width));
-        let audit = crate::audit::examine(
-            phase,
-            plan,
-            self.count,
-            self.accepted,
-            &up,
-            &down,
-            &self.prices,
-            &self.budgets,
-            &self.plays,
-            &self.turns,
-            &self.ages,
-            &self.named,
-        );
-        if !audit.sound {
-            return self.refused(1);
-        }
-        self.shown(view, &up, &down)
+        self.view_checked(false, view)
     }
 }

@@ -11,8 +11,7 @@ ghost use mathlib.Core.Path.{_≡_};
 ghost use mathlib.Core.Bool.{true};
 ghost use Prim.Native.Nat.{_+_, _≤_};
 ghost use lib.ListN.{length};
-ghost use Rattle.day.specs.Calls.{call, refused};
-ghost use Rattle.day.specs.Calls.Call.{show-view};
+ghost use Rattle.day.specs.Calls.{refused};
 ghost use Rattle.day.specs.Sound.{sound};
 ghost use Rattle.desk.specs.Desk.{request, obeyed, outcome, Serves};
 
@@ -31,17 +30,6 @@ fn refuse(day: Day, question: u64) -> Outcome
     }
 }
 
-// A view; a state that is known to be sound is not examined again.
-fn show(day: Day, checked: bool, view: View) -> Outcome
-    requires { ⌜ (checked ≡ true → sound day ≡ true) ⌝ }
-    ensures { λ r. ⌜ r ≡ call day (show-view view) ⌝ }
-{
-    if checked {
-        return day.view_sound(view);
-    }
-    day.view(view)
-}
-
 fn obey(day: Day, checked: bool, input: Record) -> Outcome
     requires { ⌜ (checked ≡ true → sound day ≡ true) ⌝ }
     ensures { λ r. ⌜ r ≡ obeyed day (request input) ⌝ }
@@ -50,7 +38,7 @@ fn obey(day: Day, checked: bool, input: Record) -> Outcome
         Record::Plan { depth, width } => day.open(Plan { depth, width }),
         Record::Campaign { price, budget } => day.add(Terms { price, budget }),
         Record::Start => day.start(),
-        Record::View(set) => show(day, checked, View { set }),
+        Record::View(set) => day.view_checked(checked, View { set }),
         Record::Close => day.close(),
         Record::Done => refuse(day, 17),
         Record::Play {

@@ -2,8 +2,9 @@
 use mathlib.Core.Path.{_≡_, refl, ap, sym, _∙_, subst⁻¹}
 use mathlib.Core.Bool.{Bool, true, false, cond, _&&_}
 use mathlib.Core.List.{List, [], _∷_}
-use Prim.Native.Nat.{ℕ, zero, suc, _≤_, _<_}
+use Prim.Native.Nat.{ℕ, zero, suc, _+_, _≤_, _<_}
 use native.Mathlib.Nat.{le-refl, le-step, not-suc-le-zero}
+use native.Mathlib.Numerals.{add-one}
 use native.Mathlib.Omega.{arith}
 use lib.Dec.{ltb, eqb}
 use borrow.Author.Tests.{eqb-true, eqb-false, ltb-true, lt-ltb}
@@ -63,6 +64,9 @@ every-of (suc n) p h = both-join (every n p) (p n) (every-of n p (λ i l. h i (l
 pub every-suc : (n : ℕ) (p : ℕ → Bool) → every (suc n) p ≡ (every n p && p n)
 unfolding every
 every-suc n p = refl
+
+pub every-next : (n : ℕ) (p : ℕ → Bool) → every (n + 1) p ≡ (every n p && p n)
+every-next n p = ap (λ (m : ℕ). every m p) (add-one n) ∙ every-suc n p
 
 -- one index that fails
 pub every-not : (n : ℕ) (p : ℕ → Bool) (i : ℕ) → i < n → p i ≡ false → every n p ≡ false

@@ -5,6 +5,8 @@ use campaigns::Terms;
 use campaigns::View;
 use day::Answer;
 use day::Day;
+use day::view::counts;
+use day::view::show;
 
 // A checksum of one word more.
 fn fold(sum: u64, word: u64) -> u64 {
@@ -55,12 +57,60 @@ fn shown(start: Day, views: &[u64]) -> Viewed {
     let mut sum: u64 = 0;
     for i in 0..views.len() {
         let outcome = day.view(View { set: views[i] });
-        let answer = outcome.answer;
-        sum = fold_answer(sum, answer);
         let next = outcome.day;
         day = next;
+        let answer = outcome.answer;
+        sum = fold_answer(sum, answer);
     }
     Viewed { day: day, sum: sum }
+}
+
+// The same with the counts changed where they stand.
+fn shown_in_place(start: Day, views: &[u64]) -> Viewed {
+    let phase = start.phase;
+    let plan = start.plan;
+    let count = start.count;
+    let prices = start.prices;
+    let budgets = start.budgets;
+    let mut accepted = start.accepted;
+    let mut plays = start.plays;
+    let mut turns = start.turns;
+    let mut ages = start.ages;
+    let mut named = start.named;
+    let mut sum: u64 = 0;
+    for i in 0..views.len() {
+        let answer = show(
+            false,
+            phase,
+            plan,
+            count,
+            accepted,
+            View { set: views[i] },
+            &prices,
+            &budgets,
+            &mut plays,
+            &mut turns,
+            &mut ages,
+            &mut named,
+        );
+        accepted = accepted + counts(answer);
+        sum = fold_answer(sum, answer);
+    }
+    Viewed {
+        day: Day {
+            phase: phase,
+            plan: plan,
+            count: count,
+            accepted: accepted,
+            prices: prices,
+            budgets: budgets,
+            plays: plays,
+            turns: turns,
+            ages: ages,
+            named: named,
+        },
+        sum: sum,
+    }
 }
 
 fn wide(x: u16) -> u64 {
@@ -79,9 +129,8 @@ fn fold_counts(start: u64, day: Day) -> u64 {
     sum
 }
 
-// Opens a plan on the blank state, adds the campaigns, starts, and shows each view.
-#[no_mangle]
-pub extern "C" fn wezghuli_views(depth: u64, width: u64, terms: &[u64], views: &[u64]) -> u64 {
+// A plan opened on the blank state, with its campaigns, and started.
+fn started(depth: u64, width: u64, terms: &[u64]) -> Day {
     let opened = Day::blank().open(Plan {
         depth: depth,
         width: width,
@@ -89,8 +138,26 @@ pub extern "C" fn wezghuli_views(depth: u64, width: u64, terms: &[u64], views: &
     let empty = opened.day;
     let full = filled(empty, terms);
     let started = full.start();
-    let running = started.day;
-    let end = shown(running, views);
+    started.day
+}
+
+// A day of views, each by value.
+#[no_mangle]
+pub extern "C" fn wezghuli_views(depth: u64, width: u64, terms: &[u64], views: &[u64]) -> u64 {
+    let end = shown(started(depth, width, terms), views);
+    let day = end.day;
+    fold_counts(end.sum, day)
+}
+
+// The same in place.
+#[no_mangle]
+pub extern "C" fn wezghuli_views_in_place(
+    depth: u64,
+    width: u64,
+    terms: &[u64],
+    views: &[u64],
+) -> u64 {
+    let end = shown_in_place(started(depth, width, terms), views);
     let day = end.day;
     fold_counts(end.sum, day)
 }

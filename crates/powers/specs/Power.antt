@@ -1,7 +1,8 @@
 -- Powers as the table holds them, and the weights made of them, at depth k and width d.
 use mathlib.Core.Bool.{cond, _&&_}
 use mathlib.Core.List.{List}
-use Prim.Native.Nat.{ℕ, _+_, _-_, _*_, _^_}
+use mathlib.Core.Path.{_≡_}
+use Prim.Native.Nat.{ℕ, _+_, _-_, _*_, _^_, _≤_}
 use lib.Dec.{leb}
 use Rattle.finite.specs.Finite.{table}
 
@@ -20,6 +21,10 @@ grid = table 16 (λ i. row-of (i + 1))
 -- the entry for a width and an exponent, or 0 where the table has none
 unfoldable pub listed : ℕ → ℕ → ℕ
 listed width exponent = cond (leb 1 width && leb width 16 && leb exponent 32) (entry width exponent) 0
+
+-- r is the greatest exponent up to 32 whose power is at most 4,294,967,296
+abbrev pub Deepest : (width r : ℕ) → Type 0
+Deepest w r = (k : ℕ) → k ≤ 32 → leb k r ≡ leb (w ^ k) 4_294_967_296
 
 -- W(a) = d^a × (d − 1)^(k − a); (d − 1)^0 is 1 also for d = 1
 unfoldable pub weight : (k d : ℕ) → ℕ → ℕ

@@ -2,32 +2,32 @@
 pub mod table;
 
 ghost use mathlib.Core.Path.{_≡_};
-ghost use Prim.Native.Nat.{min};
-ghost use Rattle.powers.specs.Power.{row-of, listed};
+ghost use Prim.Native.Nat.{_≤_};
+ghost use Rattle.powers.specs.Power.{Deepest, listed};
 
-// The powers of a base up to 16; of 16 for any greater one. A row is taken out by a match, since the whole table
-// would be written to the stack at each use.
-pub fn row(base: u64) -> [u64; 33]
-    ensures { λ r. ⌜ r ≡ row-of (min base 16) ⌝ }
+// The greatest exponent up to 32 whose power of the width is at most 4,294,967,296, for a width up to 16: what the table
+// says of question 5, without writing the table to the stack.
+pub fn deepest(width: u64) -> u64
+    ensures { λ r. ⌜ (width ≤ 16 → Deepest width r) ⌝ }
 {
-    match base {
-        0 => table::POWERS_OF_0,
-        1 => table::POWERS_OF_1,
-        2 => table::POWERS_OF_2,
-        3 => table::POWERS_OF_3,
-        4 => table::POWERS_OF_4,
-        5 => table::POWERS_OF_5,
-        6 => table::POWERS_OF_6,
-        7 => table::POWERS_OF_7,
-        8 => table::POWERS_OF_8,
-        9 => table::POWERS_OF_9,
-        10 => table::POWERS_OF_10,
-        11 => table::POWERS_OF_11,
-        12 => table::POWERS_OF_12,
-        13 => table::POWERS_OF_13,
-        14 => table::POWERS_OF_14,
-        15 => table::POWERS_OF_15,
-        _ => table::POWERS_OF_16,
+    match width {
+        0 => 32,
+        1 => 32,
+        2 => 32,
+        3 => 20,
+        4 => 16,
+        5 => 13,
+        6 => 12,
+        7 => 11,
+        8 => 10,
+        9 => 10,
+        10 => 9,
+        11 => 9,
+        12 => 8,
+        13 => 8,
+        14 => 8,
+        15 => 8,
+        _ => 8,
     }
 }
 

@@ -13,7 +13,7 @@ use Rattle.campaigns.proofs.pass.challenge.Tie as tie
 use Rattle.campaigns.proofs.pass.challenge.Reads as reads
 use Rattle.campaigns.proofs.pass.challenge.Lts as lts
 use Rattle.campaigns.proofs.Campaign.can_pay.Reads as can-pay-reads
-use Rattle.campaigns.proofs.rules.weigh.Reads as weigh-reads
+use Rattle.campaigns.proofs.weights.weigh.Reads as weigh-reads
 
 able : (c : tie.Else1) → can-pay (c .before .before .args .c) ≡ true
 able c = sym (c .before .can-pay .ensures) ∙ not-false (c .before .can-pay .result) (c .if1 .left)

@@ -20,10 +20,10 @@ use Rattle.campaigns.proofs.pass.challenge.Reads as challenge-reads
 use Rattle.sets.proofs.next_from.Reads as next-from-reads
 
 abbrev Inv-loop : tie.InvT-loop
-Inv-loop plan up down prices budgets plays turns ages named set leader₀ i₀ leader i = (i ≤ 64) × (leader ≡ leader-of plan (record { set = set }) (campaign-at prices budgets plays turns ages named) i) × (i < 64 → member set i ≡ true)
+Inv-loop plan weights prices budgets plays turns ages named set leader₀ i₀ leader i = (i ≤ 64) × (leader ≡ leader-of plan (record { set = set }) (campaign-at prices budgets plays turns ages named) i) × (i < 64 → member set i ≡ true)
 
 abbrev μ-loop : tie.MeasureT-loop
-μ-loop plan up down prices budgets plays turns ages named set leader₀ i₀ leader i = 64 - i
+μ-loop plan weights prices budgets plays turns ages named set leader₀ i₀ leader i = 64 - i
 
 -- src/pass.rt:194:9
 next-from-requires : tie.Need-next-from-requires Inv-loop μ-loop

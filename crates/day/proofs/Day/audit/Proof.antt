@@ -1,35 +1,47 @@
-use Rattle.powers.specs.Power.{row-of}
-use Prim.Native.Nat.{ℕ, min}
-use mathlib.Core.Path.{ap, _∙_}
+use Rattle.day.proofs.Audits.{audit-first, plan-part}
+use borrow.Author.Tests.{not-true, not-false}
+use mathlib.Core.Path.{_≡_, sym, _∙_}
 use borrow.Author.Needs.{needs}
 use Rattle.day.proofs.Day.audit.Statement.{statement}
 use Rattle.day.proofs.Day.audit.Tie as tie
 use Rattle.day.proofs.Day.audit.Reads as reads
 use Rattle.day.proofs.Day.audit.Lts as lts
+use Rattle.campaigns.proofs.weights.weights.Reads as weights-reads
+use Rattle.day.proofs.audit.Audit.unsound.Reads as unsound-reads
 use Rattle.day.proofs.audit.examine.Reads as examine-reads
-use Rattle.day.proofs.ops.less_one.Reads as less-one-reads
-use Rattle.powers.proofs.row.Reads as row-reads
+use Rattle.day.proofs.audit.plan_fits.Reads as plan-fits-reads
 
--- src/ops.rt:69:18
-row-requires : tie.Need-row-requires
-row-requires c κs = search needs
+-- src/ops.rt:58:13
+plan-fits-requires : tie.Need-plan-fits-requires
+plan-fits-requires c κs = search needs
 
--- src/ops.rt:70:32
-less-one-requires : tie.Need-less-one-requires
-less-one-requires c κs = search needs
+-- src/ops.rt:59:13
+unsound-requires : tie.Need-unsound-requires
+unsound-requires c κs = search needs
 
--- src/ops.rt:70:20
-row-requires-2 : tie.Need-row-requires-2
-row-requires-2 c κs = search needs
-
--- src/ops.rt:71:9
-examine-requires : tie.Need-examine-requires
-examine-requires c κs = (c .before .before .before .before .before .before .before .before .before .before .before .row .ensures, c .before .before .before .before .before .before .before .before .before .row2 .ensures ∙ ap (λ (x : ℕ). row-of (min x 16)) (c .before .before .before .before .before .before .before .before .before .before .less-one .ensures))
-
--- src/ops.rt:64:5
+-- src/ops.rt:59:13
 returns : tie.Need-returns
-returns c = search needs
+returns c = c .unsound .ensures ∙ sym (audit-first (c .before .before .before .before .args .t1) (rw (sym (c .before .before .plan-fits .ensures) ∙ not-true (c .before .before .plan-fits .result) (c .before .if1 .taken))))
+
+-- src/ops.rt:61:23
+weights-requires : tie.Need-weights-requires
+weights-requires c κs = sym (c .before .plan-fits .ensures) ∙ not-false (c .before .plan-fits .result) (c .if1 .left)
+
+-- src/ops.rt:62:9
+examine-requires : tie.Need-examine-requires
+examine-requires c κs = search needs
+
+-- src/ops.rt:53:5
+returns-2 : tie.Need-returns-2
+returns-2 c = search needs
 
 pub audit-spec : {M : Type 1} → statement M
 audit-spec =
-    tie.close (tie.spec row-requires less-one-requires row-requires-2 examine-requires returns)
+    tie.close
+    (tie.spec
+    plan-fits-requires
+    unsound-requires
+    returns
+    weights-requires
+    examine-requires
+    returns-2)

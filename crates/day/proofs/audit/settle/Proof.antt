@@ -1,132 +1,113 @@
-use mathlib.Core.Bool.{true}
 use Rattle.day.proofs.Audits.{high-is, share-is, low-below, over, under, settled-not, settled-is}
 use Rattle.day.specs.declared.audit.Audit.{Audit}
-use Rattle.day.specs.Day.{full}
-use Rattle.campaigns.proofs.Laws.{Sized, plan-sized}
+use Rattle.campaigns.proofs.Laws.{plan-sized}
 use Rattle.powers.specs.Power.{share}
-use lib.ListN.{getD}
 use native.Mathlib.Omega.{arith}
 use native.Mathlib.Nat.{mul-le-mul}
 use Prim.Native.Nat.{ℕ, _+_, _-_, _*_, _^_, _≤_, _<_}
+use mathlib.Core.Bool.{true}
 use mathlib.Core.Path.{_≡_, ap₂, sym, subst₂, _∙_}
 use borrow.Author.Needs.{needs}
 use Rattle.day.proofs.audit.settle.Statement.{statement}
 use Rattle.day.proofs.audit.settle.Tie as tie
 use Rattle.day.proofs.audit.settle.Reads as reads
 use Rattle.day.proofs.audit.settle.Lts as lts
+use Rattle.campaigns.proofs.weights.weigh.Reads as weigh-reads
 use Rattle.day.proofs.audit.Audit.unsound.Reads as unsound-reads
 
-size-of : (s : tie.Start) → Sized (s .args .plan)
-size-of s = plan-sized (s .args .plan) (s .pre .0 .plan-sound)
+-- d^k and (d − 1)^k
+abbrev top : tie.After-weigh2 → ℕ
+top c = c .before .weigh .result
 
-abbrev top : tie.Start → ℕ
-top s = getD (s .args .up .now) (s .args .plan .depth) 0
+abbrev bottom : tie.After-weigh2 → ℕ
+bottom c = c .weigh2 .result
 
-abbrev bottom : tie.Start → ℕ
-bottom s = getD (s .args .down .now) (s .args .plan .depth) 0
+high : (c : tie.After-weigh2) → top c ≡ c .before .before .args .plan .width ^ c .before .before .args .plan .depth
+high c = high-is (c .before .before .args .plan) (c .before .before .pre .0 .plan-sound) (top c) (bottom c) (c .before .weigh .ensures .0) (c .weigh2 .ensures .0)
 
-high : (s : tie.Start) → top s ≡ s .args .plan .width ^ s .args .plan .depth
-high s = high-is (s .args .plan) (s .args .up .now) (s .args .down .now) (s .pre .0)
+span : (c : tie.After-weigh2) → top c - bottom c ≡ share (c .before .before .args .plan .depth) (c .before .before .args .plan .width)
+span c = share-is (c .before .before .args .plan) (c .before .before .pre .0 .plan-sound) (top c) (bottom c) (c .before .weigh .ensures .0) (c .weigh2 .ensures .0)
 
-span : (s : tie.Start) → top s - bottom s ≡ share (s .args .plan .depth) (s .args .plan .width)
-span s = share-is (s .args .plan) (s .args .up .now) (s .args .down .now) (s .pre .0)
-
-gap : (s : tie.Start) → bottom s < top s
-gap s = low-below (s .args .plan) (s .args .up .now) (s .args .down .now) (s .pre .0)
+gap : (c : tie.After-weigh2) → bottom c < top c
+gap c = low-below (c .before .before .args .plan) (c .before .before .pre .0 .plan-sound) (top c) (bottom c) (c .before .weigh .ensures .0) (c .weigh2 .ensures .0)
 
 -- full is at most 2^32 × 2,000,000,000
-full-fits : (s : tie.Start) → top s * s .args .sums .takings ≤ 8_589_934_592_000_000_000
-full-fits s =
-    let l : top s ≤ 4_294_967_296 = omega (arith, high s, size-of s .top) in
-    mul-le-mul l (s .pre .1 .takings-bound)
+full-fits : (c : tie.After-weigh2) → top c * c .before .before .args .sums .takings ≤ 8_589_934_592_000_000_000
+full-fits c = mul-le-mul (c .before .weigh .ensures .1) (c .before .before .pre .1 .takings-bound)
 
-product-within : (c : tie.Else1) → c .before .before .before .before .before .args .sums .turned * (top (c .before .before .before .before .before) - bottom (c .before .before .before .before .before)) ≤ top (c .before .before .before .before .before) * c .before .before .before .before .before .args .sums .takings
-product-within c =
-    let s = c .before .before .before .before .before in
-    under (s .args .sums .turned) (top s - bottom s) (top s * s .args .sums .takings) (omega (arith, gap s)) (c .if1 .left)
+product-within : (c : tie.Else1) → c .before .before .before .before .before .args .sums .turned * (top (c .before .before .before) - bottom (c .before .before .before)) ≤ top (c .before .before .before) * c .before .before .before .before .before .args .sums .takings
+product-within c = under (c .before .before .before .before .before .args .sums .turned) (top (c .before .before .before) - bottom (c .before .before .before)) (top (c .before .before .before) * c .before .before .before .before .before .args .sums .takings) (omega (arith, gap (c .before .before .before))) (c .if1 .left)
 
 -- the figures, by the top power h and the share x
 abbrev given : tie.Start → (h x : ℕ) → Audit
 given s h x = record { sound = true; budgets = s .args .sums .budgets; takings = s .args .sums .takings; claim = s .args .sums .turned * x + s .args .sums .waited; full = h * s .args .sums .takings }
 
--- src/audit.rt:81:16
-mul-high : tie.Need-mul-high
-mul-high c = let z = size-of c in omega arith
+-- src/audit.rt:75:9
+weigh-requires : tie.Need-weigh-requires
+weigh-requires c κs = (c .pre .0, omega arith)
 
--- src/audit.rt:81:16
-element-copy-out-high : tie.Need-element-copy-out-high
-element-copy-out-high c = let z = size-of c in omega arith
+-- src/audit.rt:76:24
+weigh-requires-2 : tie.Need-weigh-requires-2
+weigh-requires-2 c κs = (c .before .pre .0, omega arith)
 
--- src/audit.rt:82:24
-mul-share : tie.Need-mul-share
-mul-share c = let z = size-of (c .before) in omega arith
-
--- src/audit.rt:82:24
-element-copy-out-share : tie.Need-element-copy-out-share
-element-copy-out-share c = let z = size-of (c .before) in omega arith
-
--- src/audit.rt:82:17
+-- src/audit.rt:76:17
 sub-share : tie.Need-sub-share
-sub-share c = let h = gap (c .before .before) in omega arith
+sub-share c = omega (arith, gap c)
 
--- src/audit.rt:83:16
+-- src/audit.rt:77:16
 mul-full : tie.Need-mul-full
-mul-full c = let h = full-fits (c .before .before .before) in record { fits = omega arith }
+mul-full c = record { fits = omega (arith, full-fits (c .before)) }
 
--- src/audit.rt:84:8
+-- src/audit.rt:78:8
 div-if1 : tie.Need-div-if1
-div-if1 c = let h = gap (c .before .before .before) in omega arith
+div-if1 c = omega (arith, gap (c .before))
 
--- src/audit.rt:85:9
+-- src/audit.rt:79:9
 unsound-requires : tie.Need-unsound-requires
 unsound-requires c κs = search needs
 
--- src/audit.rt:85:9
+-- src/audit.rt:79:9
 returns : tie.Need-returns
-returns c =
-    let s = c .before .before .before .before .before .before in
+returns c = let s = c .before .before .before .before .before .before in
+    let w = c .before .before .before .before in
     c .unsound .ensures
     ∙ sym (settled-not (s .args .plan) (s .args .sums)
-    (let l = subst₂ (λ (h x : ℕ). h * s .args .sums .takings < s .args .sums .turned * x) (high s) (span s)
-    (over (s .args .sums .turned) (top s - bottom s) (top s * s .args .sums .takings) (omega (arith, gap s)) (c .before .if1 .taken)) in
+    (let l = subst₂ (λ (h x : ℕ). h * s .args .sums .takings < s .args .sums .turned * x) (high w) (span w)
+    (over (s .args .sums .turned) (top w - bottom w) (top w * s .args .sums .takings) (omega (arith, gap w)) (c .before .if1 .taken)) in
     omega arith))
 
--- src/audit.rt:87:17
+-- src/audit.rt:81:17
 mul-claim : tie.Need-mul-claim
-mul-claim c = let l = product-within (c .before) in let h = full-fits (c .before .before .before .before .before .before) in record { fits = omega arith }
+mul-claim c = let l = product-within (c .before) in let h = full-fits (c .before .before .before .before) in record { fits = omega arith }
 
--- src/audit.rt:87:17
+-- src/audit.rt:81:17
 add-claim : tie.Need-add-claim
-add-claim c = let l = product-within (c .before .before) in let h = full-fits (c .before .before .before .before .before .before .before) in record { fits = omega (arith, c .before .before .before .before .before .before .before .pre .1 .waited-bound) }
+add-claim c = let l = product-within (c .before .before) in let h = full-fits (c .before .before .before .before .before) in record { fits = omega (arith, c .before .before .before .before .before .before .before .pre .1 .waited-bound) }
 
--- src/audit.rt:89:9
+-- src/audit.rt:83:9
 unsound-requires-2 : tie.Need-unsound-requires-2
 unsound-requires-2 c κs = search needs
 
--- src/audit.rt:89:9
+-- src/audit.rt:83:9
 returns-2 : tie.Need-returns-2
-returns-2 c =
-    let s = c .before .before .before .before .before .before .before .before .before in
+returns-2 c = let s = c .before .before .before .before .before .before .before .before .before in
     c .unsound2 .ensures
     ∙ sym (settled-not (s .args .plan) (s .args .sums)
-    (subst₂ (λ (h x : ℕ). h * s .args .sums .takings < s .args .sums .turned * x + s .args .sums .waited) (high s) (span s) (c .before .if2 .taken)))
+    (subst₂ (λ (h x : ℕ). h * s .args .sums .takings < s .args .sums .turned * x + s .args .sums .waited) (high (c .before .before .before .before .before .before .before)) (span (c .before .before .before .before .before .before .before)) (c .before .if2 .taken)))
 
--- src/audit.rt:75:1
+-- src/audit.rt:70:1
 returns-3 : tie.Need-returns-3
-returns-3 c =
-    let s = c .before .before .before .before .before .before .before .before in
+returns-3 c = let s = c .before .before .before .before .before .before .before .before in
     sym (settled-is (s .args .plan) (s .args .sums)
-    (subst₂ (λ (h x : ℕ). s .args .sums .turned * x + s .args .sums .waited ≤ h * s .args .sums .takings) (high s) (span s) (c .if2 .left))
-    ∙ ap₂ (λ (h x : ℕ). given s h x) (sym (high s)) (sym (span s)))
+    (subst₂ (λ (h x : ℕ). s .args .sums .turned * x + s .args .sums .waited ≤ h * s .args .sums .takings) (high (c .before .before .before .before .before .before)) (span (c .before .before .before .before .before .before)) (c .if2 .left))
+    ∙ ap₂ (λ (h x : ℕ). given s h x) (sym (high (c .before .before .before .before .before .before))) (sym (span (c .before .before .before .before .before .before))))
 
 pub settle-spec : {M : Type 1} → statement M
 settle-spec =
     tie.close
     (tie.spec
-    mul-high
-    element-copy-out-high
-    mul-share
-    element-copy-out-share
+    weigh-requires
+    weigh-requires-2
     sub-share
     mul-full
     div-if1

@@ -13,7 +13,7 @@ use Rattle.day.proofs.Day.close.Reads as close-reads
 use Rattle.day.proofs.Day.open.Reads as open-reads
 use Rattle.day.proofs.Day.start.Reads as start-reads
 use Rattle.desk.proofs.line.refuse.Reads as refuse-reads
-use Rattle.desk.proofs.line.show.Reads as show-reads
+use Rattle.day.proofs.Day.view_checked.Reads as view-checked-reads
 
 -- o is what the record r asks for, where r is t
 made : (s : Day) {r t : Record} {o : Outcome} → r ≡ t → o ≡ obeyed s (request t) → o ≡ obeyed s (request r)
@@ -48,8 +48,8 @@ enum-known-input-3 : tie.Need-enum-known-input-3
 enum-known-input-3 c = search needs
 
 -- src/line.rt:53:30
-show-requires : tie.Need-show-requires
-show-requires c κs = search needs
+view-checked-requires : tie.Need-view-checked-requires
+view-checked-requires c κs = search needs
 
 -- src/line.rt:54:26
 enum-told-2 : tie.Need-enum-told-2
@@ -121,7 +121,7 @@ returns-3 c = made (c .before .before .before .args .day) (c .before .enum-told 
 
 -- src/line.rt:45:1
 returns-4 : tie.Need-returns-4
-returns-4 c = made (c .before .before .before .before .args .day) (c .before .before .input3 .given .1) (c .show .ensures)
+returns-4 c = made (c .before .before .before .before .args .day) (c .before .before .input3 .given .1) (c .view-checked .ensures)
 
 -- src/line.rt:45:1
 returns-5 : tie.Need-returns-5
@@ -162,7 +162,7 @@ obey-spec =
     enum-told
     start-requires
     enum-known-input-3
-    show-requires
+    view-checked-requires
     enum-told-2
     close-requires
     enum-told-3

@@ -1,0 +1,41 @@
+use Rattle.day.specs.Inner.{state-of}
+use lib.ListN.{length}
+use Prim.Native.Nat.{ℕ, _+_, _<_}
+use Rattle.day.proofs.Shown.{shows-call, shows-room}
+use native.Mathlib.Omega.{arith}
+use mathlib.Core.Path.{_≡_, ap, sym, _∙_}
+use borrow.Author.Needs.{needs}
+use Rattle.day.proofs.Day.view_checked.Statement.{statement}
+use Rattle.day.proofs.Day.view_checked.Tie as tie
+use Rattle.day.proofs.Day.view_checked.Reads as reads
+use Rattle.day.proofs.Day.view_checked.Lts as lts
+use Rattle.day.proofs.view.counts.Reads as counts-reads
+use Rattle.day.proofs.view.show.Reads as show-reads
+
+prices-length : (s : tie.Start) → length (s .args .t1 .prices) ≡ 64
+prices-length s = search needs
+
+budgets-length : (s : tie.Start) → length (s .args .t1 .budgets) ≡ 64
+budgets-length s = search needs
+
+below : (s : tie.Start) → s .args .t1 .accepted < 18_446_744_073_709_551_616
+below s = search needs
+
+-- src/view.rt:249:13
+show-requires : tie.Need-show-requires
+show-requires c κs = search needs
+
+-- src/view.rt:267:41
+counts-requires : tie.Need-counts-requires
+counts-requires c κs = search needs
+
+-- src/view.rt:267:25
+add-self : tie.Need-add-self
+add-self c = record { fits = omega (arith, c .counts .ensures, shows-room (c .before .before .before .before .before .before .before .before .before .before .before .before .before .before .args .t1) (c .before .before .before .before .before .before .before .before .before .before .before .before .before .before .args .view) (prices-length (c .before .before .before .before .before .before .before .before .before .before .before .before .before .before)) (budgets-length (c .before .before .before .before .before .before .before .before .before .before .before .before .before .before)) (c .before .show .result) _ _ _ _ (c .before .show .ensures) (below (c .before .before .before .before .before .before .before .before .before .before .before .before .before .before))) }
+
+-- src/view.rt:239:5
+returns : tie.Need-returns
+returns c = shows-call (c .before .before .before .before .before .before .before .before .before .before .before .before .before .before .args .t1) (c .before .before .before .before .before .before .before .before .before .before .before .before .before .before .args .view) (prices-length (c .before .before .before .before .before .before .before .before .before .before .before .before .before .before)) (budgets-length (c .before .before .before .before .before .before .before .before .before .before .before .before .before .before)) (c .before .show .result) _ _ _ _ (c .before .show .ensures) (c .counts .result) (c .counts .ensures)
+
+pub view-checked-spec : {M : Type 1} → statement M
+view-checked-spec = tie.close (tie.spec show-requires counts-requires add-self returns)

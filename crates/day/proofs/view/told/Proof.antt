@@ -1,0 +1,16 @@
+use borrow.Author.Needs.{needs}
+use Rattle.day.proofs.view.told.Statement.{statement}
+use Rattle.day.proofs.view.told.Tie as tie
+use Rattle.day.proofs.view.told.Reads as reads
+use Rattle.day.proofs.view.told.Lts as lts
+
+-- src/view.rt:59:9
+returns : tie.Need-returns
+returns c = rw (c .if1 .taken)
+
+-- src/view.rt:55:1
+returns-2 : tie.Need-returns-2
+returns-2 c = rw (c .if1 .left)
+
+pub told-spec : {M : Type 1} → statement M
+told-spec = tie.close (tie.spec returns returns-2)
