@@ -91,7 +91,7 @@ pub fn counts(answer: Answer) -> u64
 }
 
 // The view of a sound state, whose counts are changed where they stand. `show` calls it.
-fn show_sound<'a>(
+pub fn show_sound<'a>(
     phase: Phase,
     plan: Plan,
     count: u64,

@@ -3,5 +3,7 @@ pub mod Ranges
 pub mod Serving
 pub mod Sessions
 pub mod Turns
+pub mod Ends
+pub mod Stretches
 pub mod Desks
 pub mod Pieces

@@ -35,7 +35,7 @@ pub struct Cursor {
 }
 
 // The place of the first byte 10 of s from the place at on, or the end of s.
-fn line_end(s: &[u8], at: usize) -> usize
+pub fn line_end(s: &[u8], at: usize) -> usize
     requires { ⌜ at ≤ length (now s) ⌝ }
     ensures { λ r. ⌜ (r ≡ at + upto (drop at (now (s .entry)))) × (r ≤ length (now (s .entry))) ⌝ }
 {
@@ -145,7 +145,8 @@ fn run(
             return t;
         }
         let next = advance(t, checked, held, input, out);
-        t = next;
+        let after = crate::stretch::pass(next, checked, input, out);
+        t = after;
     }
     t
 }

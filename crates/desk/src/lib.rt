@@ -2,6 +2,7 @@
 pub mod feed;
 pub mod line;
 pub mod say;
+pub mod stretch;
 
 use day::Day;
 ghost use mathlib.Core.Path.{_≡_};

@@ -1,5 +1,5 @@
 use mathlib.Core.Path.{_≡_, sym, _∙_}
-use Prim.Native.Nat.{_-_}
+use Prim.Native.Nat.{_-_, _<_}
 use native.Mathlib.Omega.{arith}
 use lib.ListN.{length}
 use Rattle.desk.specs.Session.{session, Stands}
@@ -33,21 +33,29 @@ advance-requires c κs =
     let i = c .before .before .before .before .before .before .loop .inv in
     ((i .few, i .wide, i .inside), (i .sure, omega (arith, i .put .same, i .fits)))
 
+-- the turn, before the stretch
+turned : (c : tie.After-advance Inv-loop μ-loop) → Stands (session (c .before .before .before .before .before .before .before .before .before .before .before .args .day) (c .before .before .before .before .before .before .before .before .before .before .before .args .held .now) (c .before .before .before .before .before .before .before .before .before .before .before .args .kept)) (c .before .before .before .before .before .before .before .before .before .before .before .args .input .now) (c .before .before .before .before .before .before .before .before .before .before .before .args .out .now) (c .before .before .before .before .before .before .before .before .before .before .before .args .checked) (c .advance .result) (c .advance .last .1 .1 .0) (c .advance .last .1 .1 .1 .1 .0)
+turned c =
+    let a = c .before .before .before .before .before .before .before .before .before .before .before .args in
+    let o = c .before .before .before .before .before .before .before .loop in
+    let n = c .advance in
+    turned-stands (session (a .day) (a .held .now) (a .kept)) (a .input .now) (a .out .now) (a .checked) (o .t) (n .result) (o .held) (n .last .1 .1 .0) (o .out) (n .last .1 .1 .1 .1 .0) (o .inv) (omega (arith, o .inv .put .same, o .inv .fits)) (n .ensures .1) (n .ensures .0)
+
+further : (c : tie.After-advance Inv-loop μ-loop) → c .before .before .before .before .before .before .before .loop .t .from < c .advance .result .from
+further c =
+    let a = c .before .before .before .before .before .before .before .before .before .before .before .args in
+    let o = c .before .before .before .before .before .before .before .loop in
+    let n = c .advance in
+    turned-less (session (a .day) (a .held .now) (a .kept)) (a .input .now) (a .out .now) (a .checked) (o .t) (n .result) (o .held) (n .last .1 .1 .0) (o .out) (n .last .1 .1 .1 .1 .0) (o .inv) (omega (arith, o .inv .put .same, o .inv .fits)) (n .ensures .1) (omega arith) (n .ensures .0)
+
+pass-requires : tie.Need-pass-requires Inv-loop μ-loop
+pass-requires c κs = let t = turned (c .before .before .before .before .before) in ((t .inside, omega (arith, t .fits, t .put .same)), t .sure)
+
 loop-less : tie.Need-loop-less Inv-loop μ-loop
-loop-less c =
-    let a = c .before .before .before .before .before .before .before .before .before .before .before .before .before .before .before .args in
-    let o = c .before .before .before .before .before .before .before .before .before .before .before .loop in
-    let n = c .before .before .before .before .advance in
-    let x = session (a .day) (a .held .now) (a .kept) in
-    omega (arith, turned-less x (a .input .now) (a .out .now) (a .checked) (o .t) (n .result) (o .held) (n .last .1 .1 .0) (o .out) (n .last .1 .1 .1 .1 .0) (o .inv) (omega (arith, o .inv .put .same, o .inv .fits)) (n .ensures .1) (omega arith) (n .ensures .0))
+loop-less c = omega (arith, further (c .before .before .before .before .before .before .before .before), c .before .before .pass .ensures .1, c .before .before .before .before .before .before .before .before .before .before .before .before .before .if1 .taken)
 
 loop-again : tie.Need-loop-again Inv-loop μ-loop
-loop-again c =
-    let a = c .before .before .before .before .before .before .before .before .before .before .before .before .before .before .before .args in
-    let o = c .before .before .before .before .before .before .before .before .before .before .before .loop in
-    let n = c .before .before .before .before .advance in
-    let x = session (a .day) (a .held .now) (a .kept) in
-    turned-stands x (a .input .now) (a .out .now) (a .checked) (o .t) (n .result) (o .held) (n .last .1 .1 .0) (o .out) (n .last .1 .1 .1 .1 .0) (o .inv) (omega (arith, o .inv .put .same, o .inv .fits)) (n .ensures .1) (n .ensures .0)
+loop-again c = let a = c .before .before .before .before .before .before .before .before .before .before .before .before .before .before .before .before .before .before .before .args in c .before .before .pass .ensures .0 (session (a .day) (a .held .now) (a .kept)) (a .out .now) (c .before .before .before .before .before .before .before .before .advance .last .1 .1 .0) (turned (c .before .before .before .before .before .before .before .before))
 
 returns-2 : tie.Need-returns-2 Inv-loop μ-loop
 returns-2 c =
@@ -67,6 +75,7 @@ run-spec =
     (λ c. c .before .before .before .before .loop .inv .put .same)
     returns
     advance-requires
+    pass-requires
     loop-less
     loop-again
     (λ c. c .before .before .loop .inv .wide ∙ sym (c .before .before .before .before .before .before .pre .0 .1))

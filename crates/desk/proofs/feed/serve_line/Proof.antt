@@ -1,28 +1,13 @@
-use mathlib.Core.Path.{_≡_, sym, ap, _∙_, subst}
-use mathlib.Core.List.{List, _++_}
+use mathlib.Core.Path.{sym, subst}
+use mathlib.Core.List.{List}
 use Prim.Native.Nat.{ℕ}
 use native.Mathlib.Omega.{arith}
-use lib.ListN.{take}
 use lib.Seq.{length-take-le}
 use borrow.Author.Needs.{needs}
-use Rattle.writer.specs.Buffer.{Put}
-use Rattle.day.specs.declared.Day.{Day}
-use Rattle.desk.specs.declared.line.Served.{Served}
-use Rattle.desk.specs.Desk.{reply, next, Serves}
-use Rattle.desk.specs.Session.{line-of}
-use Rattle.desk.proofs.Sessions.{cut-reply, cut-next}
+use Rattle.desk.specs.Desk.{Serves}
+use Rattle.desk.proofs.Ends.{uncut}
 use Rattle.desk.proofs.feed.serve_line.Statement.{statement}
 use Rattle.desk.proofs.feed.serve_line.Tie as tie
-
--- where nothing is kept, the line is answered as it lies in the input, though it may be longer than what would be held
-uncut : (s : Day) (h l : List ℕ) (k : ℕ) {d e : List ℕ} {at : ℕ} {r : Served} → k ≡ 0 → Serves s l d e at r → Serves s (line-of h k l) d e at r
-uncut s h l k {d} {e} {at} {r} z p =
-    let q : line-of h k l ≡ take 201 l = ap (λ (i : ℕ). take 201 (take i h ++ l)) z in
-    record {
-      day = p .day ∙ sym (ap (next s) q ∙ cut-next s l);
-      put = subst (Put d e at (r .at)) (sym (ap (reply s) q ∙ cut-reply s l)) (p .put);
-      fits = p .fits;
-    }
 
 returns : tie.Need-returns
 returns c =
