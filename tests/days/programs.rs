@@ -17,8 +17,13 @@ pub struct Ran {
 }
 
 fn run(program: &str, input: &[u8]) -> Ran {
-    let mut child =
-        Command::new(program).stdin(Stdio::piped()).stdout(Stdio::piped()).spawn().expect("the program starts");
+    // a program that fails says so in every trial of the shrinking: how it ended is enough
+    let mut child = Command::new(program)
+        .stdin(Stdio::piped())
+        .stdout(Stdio::piped())
+        .stderr(Stdio::null())
+        .spawn()
+        .expect("the program starts");
     let mut stdin = child.stdin.take().expect("a pipe");
     let mut stdout = child.stdout.take().expect("a pipe");
     let bytes = input.to_vec();
