@@ -91,6 +91,9 @@ fn blocks(talk: &mut Talk) {
     let lines = BLOCKS / line.len();
     talk.send(line.repeat(lines));
     talk.hear("(refused 11)\n".repeat(lines));
+    // thirteen times as many bytes come out as go in
+    talk.send("\n".repeat(BLOCKS));
+    talk.hear("(refused 17)\n".repeat(BLOCKS));
 }
 
 /// 64 campaigns and one more, 4,096 views and one more, and a closing with 64 tallies.
