@@ -96,6 +96,24 @@ fn blocks(talk: &mut Talk) {
     talk.hear("(refused 17)\n".repeat(BLOCKS));
 }
 
+/// A line of 30,000,000 bytes and a million lines take no more memory than the first ones.
+fn constant_memory(talk: &mut Talk) {
+    blocks(talk);
+    let before = talk.memory();
+    let piece = "x".repeat(1_000_000);
+    for _ in 0..30 {
+        talk.send(&piece);
+    }
+    talk.say("\n", "(refused 16)\n");
+    for _ in 0..10 {
+        talk.say("(start)\n".repeat(100_000), "(refused 6)\n".repeat(100_000));
+    }
+    let more = talk.memory() - before;
+    if more > 256 {
+        talk.fail(&format!("{more} KiB more memory after a long input"));
+    }
+}
+
 /// 64 campaigns and one more, 4,096 views and one more, and a closing with 64 tallies.
 fn full_day(talk: &mut Talk) {
     talk.say("(plan (depth 1) (width 1))\n", "(ok)\n");
@@ -169,10 +187,12 @@ fn main() {
     talked("empty lines", &empty_lines);
     talked("long lines in pieces", &long_in_pieces);
     talked("several blocks", &blocks);
+    talked("constant memory", &constant_memory);
     talked("a full day", &full_day);
     last_lines(program);
     last_line_closes(program, &day);
     talk::reader_gone(program);
+    talk::no_room(program);
     talk::unreadable(program);
-    println!("{} passed, 0 failed", passed + 4);
+    println!("{} passed, 0 failed", passed + 5);
 }

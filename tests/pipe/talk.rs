@@ -89,6 +89,17 @@ impl Talk {
         self.heard.clear();
     }
 
+    /// The most memory that the program has used so far, in KiB.
+    pub fn memory(&self) -> u64 {
+        let status = std::fs::read_to_string(format!("/proc/{}/status", self.child.id())).expect("its status");
+        let line = status.lines().find_map(|l| l.strip_prefix("VmHWM:")).expect("its memory");
+        line.trim().trim_end_matches(" kB").parse().expect("a number")
+    }
+
+    pub fn fail(&self, what: &str) -> ! {
+        fail(&self.name, what)
+    }
+
     pub fn say(&mut self, line: impl AsRef<[u8]>, answer: impl AsRef<[u8]>) {
         self.send(line);
         self.hear(answer);
@@ -123,6 +134,15 @@ pub fn reader_gone(program: &str) {
     drop(child.stdout.take());
     let _ = input.write_all(b"(start)\n");
     ended("no reader", &mut child, false);
+}
+
+/// A write that fails ends the program, although its input goes on: this device takes nothing.
+pub fn no_room(program: &str) {
+    let full = File::options().write(true).open("/dev/full").expect("a device that is full");
+    let mut child = Command::new(program).stdin(Stdio::piped()).stdout(full).spawn().expect("the program starts");
+    let mut input = child.stdin.take().expect("a pipe");
+    let _ = input.write_all(b"(start)\n");
+    ended("no room", &mut child, false);
 }
 
 /// A read that fails counts as the end of input: a folder cannot be read.
