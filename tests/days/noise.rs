@@ -4,7 +4,26 @@ use crate::random::Random;
 use crate::state::{deepest, Call, Phase, State, MOST_BUDGET, MOST_CAMPAIGNS, MOST_PRICE, MOST_VIEWS};
 
 const EDGES: [u64; 20] = [
-    0, 1, 2, 3, 9, 10, 15, 16, 17, 31, 32, 33, 63, 64, MOST_PRICE, MOST_PRICE + 1, MOST_BUDGET, MOST_BUDGET + 1, 4_096, 4_294_967_295,
+    0,
+    1,
+    2,
+    3,
+    9,
+    10,
+    15,
+    16,
+    17,
+    31,
+    32,
+    33,
+    63,
+    64,
+    MOST_PRICE,
+    MOST_PRICE + 1,
+    MOST_BUDGET,
+    MOST_BUDGET + 1,
+    4_096,
+    4_294_967_295,
 ];
 
 /// A call that one of the questions which the phase leaves refuses.
@@ -148,14 +167,42 @@ fn damaged(r: &mut Random) -> Vec<u8> {
 /// A line of at most 200 bytes that is no input form. `damaged` may by rare chance give an input form again, as where a
 /// view loses a space; the lines after it are then aimed a little beside the mark.
 pub fn no_form(r: &mut Random) -> Vec<u8> {
-    let number = r.of(&["4294967296", "9999999999", "18446744073709551616", "00", "01", "", "-1", "+1", "1.0", " 1", "1 ", "x"]);
+    let number =
+        r.of(&["4294967296", "9999999999", "18446744073709551616", "00", "01", "", "-1", "+1", "1.0", " 1", "1 ", "x"]);
     match r.below(10) {
         0 => vec![],
         1 => vec![r.of(b"x( 0)\0\xff"); r.of(&[1, 199, 200])],
         2 => format!("(plan (depth {number}) (width 1))").into_bytes(),
         3 => format!("(campaign (price 1) (budget {number}))").into_bytes(),
-        4 => r.of(&["(view 0 0)", "(view 1 0)", "(view 64)", "(view 63 64)", "(view 00)", "(view 0 01)", "(view  0)", "(view 0 )", "(view 4294967296)"]).into(),
-        5 => r.of(&["(START)", " (start)", "(start) ", "(start)\r", "start", "()", "(start", "(start)(start)", "(plan (width 2) (depth 2))", "(campaign (price 5))", "(tally 0)", "(close )"]).into(),
+        4 => r
+            .of(&[
+                "(view 0 0)",
+                "(view 1 0)",
+                "(view 64)",
+                "(view 63 64)",
+                "(view 00)",
+                "(view 0 01)",
+                "(view  0)",
+                "(view 0 )",
+                "(view 4294967296)",
+            ])
+            .into(),
+        5 => r
+            .of(&[
+                "(START)",
+                " (start)",
+                "(start) ",
+                "(start)\r",
+                "start",
+                "()",
+                "(start",
+                "(start)(start)",
+                "(plan (width 2) (depth 2))",
+                "(campaign (price 5))",
+                "(tally 0)",
+                "(close )",
+            ])
+            .into(),
         // an input form padded to the greatest length is none
         6 => format!("{:200}", Call::Start.line()).into_bytes(),
         7 => {

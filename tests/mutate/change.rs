@@ -175,7 +175,11 @@ impl Changer<'_> {
         }
         if token.kind == Kind::Word && after != ":" && after != "(" && before != "let" {
             // a field, where the same value's other field is used too, or a row of powers that is handed on
-            let owner = if before == "." { format!("{}.", at.checked_sub(2).map_or("", |i| all[i].text)) } else { String::new() };
+            let owner = if before == "." {
+                format!("{}.", at.checked_sub(2).map_or("", |i| all[i].text))
+            } else {
+                String::new()
+            };
             let used = |other: &&&str| **other != token.text && scope.names.contains(&format!("{owner}{other}"));
             let group = ALIKE.iter().filter(|g| g.contains(&token.text) && (before == "." || g[0] == "up"));
             let by = group.flat_map(|g| g.iter()).find(used);

@@ -1,8 +1,8 @@
 //! Single changes of the proved sources, each of which the prover should refuse.
 //!
 //! mutants ROOT FOLDER [--each N] [--limit SECONDS] [--sample N] [--list | --compile] (CRATE | ID)...
-//! ROOT is the project; FOLDER gets `list`, `results` and the copy that is changed. What stands in `results` is not run again,
-//! unless the crate is another by now or the time was too short. ROOT/docs/MUTANTS.md is written anew from the results.
+//! ROOT is the project; FOLDER gets `list`, `results` and the copy that is changed. What stands in `results` is not run
+//! again, unless the crate is another by now or the time was too short. ROOT/docs/MUTANTS.md is written anew.
 
 mod change;
 mod prover;
@@ -206,7 +206,8 @@ fn main() {
     let numbers = source::numbers(&sources);
     let changer = Changer { siblings: &siblings, numbers: &numbers };
     let all: Vec<Mutant> = CRATES.iter().flat_map(|name| mutants(&root, name, o.each, &changer)).collect();
-    let line = |m: &Mutant| format!("{}\t{}:{}\t{}\t{}\t{}\n", m.id, m.file.display(), m.line, m.item, m.operator, m.diff());
+    let line =
+        |m: &Mutant| format!("{}\t{}:{}\t{}\t{}\t{}\n", m.id, m.file.display(), m.line, m.item, m.operator, m.diff());
     fs::write(folder.join("list"), all.iter().map(line).collect::<String>()).expect("a file");
     if o.list {
         println!("{} changes, listed in {}", all.len(), folder.join("list").display());

@@ -81,7 +81,11 @@ impl Prover {
         let start = Instant::now();
         let run = self.with(file, changed, || {
             let quick = self.run("dev", name, self.limit);
-            if quick.status == Some(0) { self.run("check", name, self.limit) } else { quick }
+            if quick.status == Some(0) {
+                self.run("check", name, self.limit)
+            } else {
+                quick
+            }
         });
         let seconds = start.elapsed().as_secs_f64();
         let (mut word, why) = verdict(&run);
@@ -98,7 +102,8 @@ impl Prover {
 fn verdict(run: &Run) -> (&'static str, String) {
     let text = |line: Option<&str>| line.unwrap_or("").chars().take(160).collect::<String>();
     let compiler = first(&run.log, |l| l.contains(".rt:") && l.contains(": error["));
-    let unproved = first(&run.log, |l| l.starts_with("fn ") && (l.contains(": not proved") || l.contains(": no proof")));
+    let unproved =
+        first(&run.log, |l| l.starts_with("fn ") && (l.contains(": not proved") || l.contains(": no proof")));
     let error = |l: &&str| l.contains(".antt:") && l.contains(": error:");
     let left_over = |l: &&str| l.contains(".rt:") && l.contains(": it is not proved that ");
     let fact = first(&run.log, |l| left_over(l) || error(l) && !SHAPE.iter().any(|s| l.contains(s)));

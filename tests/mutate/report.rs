@@ -43,19 +43,21 @@ fn table(out: &mut String, head: &str, rows: impl Iterator<Item = String>) {
 pub fn text(all: &[Mutant], results: &Results, each: usize) -> String {
     let of = |m: &Mutant| results.get(&m.key());
     let word = |m: &Mutant| of(m).map_or("", |r| r.0.as_str());
-    let count = |name: &str, w: &str| all.iter().filter(|m| (name.is_empty() || m.name == name) && word(m) == w).count();
+    let count =
+        |name: &str, w: &str| all.iter().filter(|m| (name.is_empty() || m.name == name) && word(m) == w).count();
     let mut out = format!(
         "# Single changes of the proved code\n\n\
-        Each change is one small fault in one line: a comparison, an operation, a constant by 1, operands, a field, a call, an \
-        enum's case, all of which keep the steps of the code; or an argument or an index by 1, a store that leaves what was \
-        there, a branch, which may not. At most {each} of a function or constant are taken, in turn \
+        Each change is one small fault in one line: a comparison, an operation, a constant by 1, operands, a field, a \
+        call, an enum's case, all of which keep the steps of the code; or an argument or an index by 1, a store that \
+        leaves what was there, a branch, which may not. At most {each} of a function or constant are taken, in turn \
         from each kind. The prover should refuse each one that changes what the code does.\n\n\
-        Made by `tests/mutants` on {}. `tests/mutants CRATE...`, or with ids, runs what was not run on the crate as it is and \
-        writes this page; `--list` only lists, `--compile` only compiles, `--sample N` takes some N of a crate, `--each N` takes more of each function, `--limit SECONDS` is the time for \
-        one (300). The results stand in `target/mutants`, or in the folder that MUTANTS names; `rt ci` removes the former.\n\n\
-        *Refused*: a fact fails. *Refused by its shape*: the errors say only that the proof no longer fits the steps. *SURVIVED*: \
-        `rt check` proves the crate with the change; each is to be explained or its contract made stronger. *The same \
-        code* and *not compiled* count for nothing.\n\n",
+        Made by `tests/mutants` on {}. `tests/mutants CRATE...`, or with ids, runs what was not run on the crate as it \
+        is and writes this page; `--list` only lists, `--compile` only compiles, `--sample N` takes some N of a crate, \
+        `--each N` takes more of each function, `--limit SECONDS` is the time for one (300). The results stand in \
+        `target/mutants`, or in the folder that MUTANTS names; `rt ci` removes the former.\n\n\
+        *Refused*: a fact fails. *Refused by its shape*: the errors say only that the proof no longer fits the steps. \
+        *SURVIVED*: `rt check` proves the crate with the change; each is to be explained or its contract made \
+        stronger. *The same code* and *not compiled* count for nothing.\n\n",
         today()
     );
     let row = |name: &str| {
@@ -70,14 +72,25 @@ pub fn text(all: &[Mutant], results: &Results, each: usize) -> String {
     for (w, title) in [("SURVIVED", "Survived"), ("unclear", "Unclear"), ("no answer in time", "No answer in time")] {
         if count("", w) > 0 {
             let rows = all.iter().filter(|m| word(m) == w);
-            let row = |m: &Mutant| format!("| {} | {}:{} | {} | {} |\n", m.id, m.file.display(), m.line, m.item, cell(&m.diff()));
+            let row = |m: &Mutant| {
+                format!("| {} | {}:{} | {} | {} |\n", m.id, m.file.display(), m.line, m.item, cell(&m.diff()))
+            };
             let _ = writeln!(out, "## {title}\n");
             table(&mut out, "| id | line | in | change |", rows.map(row));
         }
     }
     out.push_str("## All that were run\n\n");
     let row = |m: &Mutant| {
-        format!("| {} | {}:{} | {} | {} | {} | {} |\n", m.id, m.file.display(), m.line, m.item, m.operator, cell(&m.diff()), word(m))
+        format!(
+            "| {} | {}:{} | {} | {} | {} | {} |\n",
+            m.id,
+            m.file.display(),
+            m.line,
+            m.item,
+            m.operator,
+            cell(&m.diff()),
+            word(m)
+        )
     };
     table(&mut out, "| id | line | in | kind | change | result |", all.iter().filter(|m| !word(m).is_empty()).map(row));
     out.trim_end().to_string() + "\n"

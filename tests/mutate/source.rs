@@ -134,7 +134,11 @@ pub fn numbers(sources: &[String]) -> BTreeSet<String> {
             }
             let end = closing(&lines, at, indent(line), &["}"]);
             for (name, number) in typed(&lines[at..end]) {
-                if number { numbers.insert(name) } else { others.insert(name) };
+                if number {
+                    numbers.insert(name)
+                } else {
+                    others.insert(name)
+                };
             }
         }
     }
