@@ -80,12 +80,15 @@ fn main() {
     }
     fs::write(format!("{out}/coverage"), seen.report()).expect("a file");
     println!("{lines} lines from {seeds} seeds; {} cases, counted in {out}/coverage", seen.len());
-    let missing = seen.missing();
-    if !missing.is_empty() {
-        println!("{}", missing.join("\n"));
-        if seeds >= ENOUGH {
-            fail("not every case was seen");
-        }
+    let (wrong, unseen) = (seen.wrong(), seen.unseen());
+    if !wrong.is_empty() {
+        fail(&wrong.join("\n"));
+    }
+    if seeds >= ENOUGH && !unseen.is_empty() {
+        fail(&unseen.join("\n"));
+    }
+    if !unseen.is_empty() {
+        println!("{} cases not seen in so few", unseen.len());
     }
     println!("{} passed, 0 failed", files.len() as u64 + seeds);
 }

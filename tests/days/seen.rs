@@ -165,12 +165,16 @@ impl Seen {
         }
     }
 
-    /// The things that were wanted and not seen, and what was seen that cannot be.
-    pub fn missing(&self) -> Vec<String> {
+    /// What was wanted and not seen.
+    pub fn unseen(&self) -> Vec<String> {
+        self.counts.iter().filter(|c| *c.1 == 0).map(|c| format!("not seen: {}", c.0)).collect()
+    }
+
+    /// What was seen and cannot be, by document 01.
+    pub fn wrong(&self) -> Vec<String> {
         let known = wanted();
-        let unseen = self.counts.iter().filter(|c| *c.1 == 0).map(|c| format!("not seen: {}", c.0));
-        let unknown = self.counts.keys().filter(|name| !known.contains(name)).map(|name| format!("cannot be: {name}"));
-        unseen.chain(unknown).chain(self.odd.iter().cloned()).collect()
+        let unknown = self.counts.keys().filter(|name| !known.contains(name));
+        unknown.map(|name| format!("cannot be: {name}")).chain(self.odd.iter().cloned()).collect()
     }
 
     /// How often each was seen, one to a line.
