@@ -1,163 +1,183 @@
-//! Generated input: days near every limit, calls out of order, damaged and over-long lines.
+//! Generated input: some days after one another, among them lines aimed at each refusal that the phase allows.
 
-/// SplitMix64.
-pub struct Random(u64);
+use crate::noise;
+use crate::random::Random;
+use crate::state::{deepest, Call, Phase, State, MOST_BUDGET, MOST_CAMPAIGNS, MOST_PRICE, MOST_VIEWS};
 
-impl Random {
-    fn next(&mut self) -> u64 {
-        self.0 = self.0.wrapping_add(0x9e37_79b9_7f4a_7c15);
-        let mut z = self.0;
-        z = (z ^ (z >> 30)).wrapping_mul(0xbf58_476d_1ce4_e5b9);
-        z = (z ^ (z >> 27)).wrapping_mul(0x94d0_49bb_1331_11eb);
-        z ^ (z >> 31)
-    }
-
-    /// A number from 0 to n - 1.
-    fn below(&mut self, n: u64) -> u64 {
-        self.next() % n
-    }
-
-    fn one_in(&mut self, n: u64) -> bool {
-        self.below(n) == 0
-    }
-
-    fn of<T: Copy>(&mut self, choices: &[T]) -> T {
-        choices[self.below(choices.len() as u64) as usize]
-    }
+/// What the campaigns of a day have in common.
+#[derive(Clone, Copy, PartialEq)]
+enum Style {
+    /// Any prices, and budgets for up to 60 plays.
+    Mixed,
+    /// One price for all: equal scores among campaigns of equal age.
+    OnePrice,
+    /// Prices d^i × (d − 1)^(6 − i): equal scores among campaigns of other prices and ages.
+    Stepped,
+    /// One to three plays each: most views find nobody.
+    Poor,
+    /// The greatest price, and budgets that together make the most there may be.
+    Rich,
 }
 
-const EDGES: [u64; 22] = [
-    0, 1, 2, 3, 9, 10, 15, 16, 17, 31, 32, 33, 63, 64, 65, 4_095, 4_096, 1_000_000, 1_000_001, 2_000_000_000, 2_000_000_001,
-    4_294_967_295,
-];
+const STYLES: [Style; 5] = [Style::Mixed, Style::OnePrice, Style::Stepped, Style::Poor, Style::Rich];
 
-/// The greatest depth that a width allows.
-fn depth_of(width: u64) -> u64 {
-    (1..=32).take_while(|k| width.checked_pow(*k as u32).is_some_and(|p| p <= 1 << 32)).last().unwrap_or(1)
+struct Maker {
+    r: Random,
+    state: State,
+    out: Vec<u8>,
 }
 
-fn plan(r: &mut Random) -> (u64, u64) {
-    if r.one_in(8) {
-        return (r.of(&EDGES), r.of(&EDGES));
+impl Maker {
+    fn put(&mut self, line: &[u8]) {
+        self.out.extend(line);
+        self.out.push(10);
     }
-    let width = 1 + r.below(16);
-    let top = depth_of(width);
-    let depth = if r.one_in(3) { top + r.below(2) } else { 1 + r.below(top) };
-    (depth, width)
-}
 
-fn terms(r: &mut Random, campaigns: u64) -> (u64, u64) {
-    if r.one_in(12) {
-        return (r.of(&EDGES), r.of(&EDGES));
-    }
-    let price = if r.one_in(4) { 1 + r.below(4) } else { 1 + r.below(1_000_000) };
-    let most_plays = if r.one_in(3) { 3 } else { 60 };
-    let plays = 1 + r.below(most_plays);
-    let most = 2_000_000_000 / campaigns;
-    (price, (price * plays + r.below(price)).min(most.max(price)))
-}
-
-/// A set of one to `width` campaigns, or now and then one that a question refuses.
-fn names(r: &mut Random, campaigns: u64, width: u64) -> u64 {
-    if r.one_in(25) {
-        return r.next() & r.next() & r.next();
-    }
-    let mut set = 0u64;
-    let wanted = 1 + r.below(width.clamp(1, 16)) + u64::from(r.one_in(30));
-    for _ in 0..wanted {
-        set |= 1 << r.below(campaigns.clamp(1, 64));
-    }
-    set
-}
-
-fn view(set: u64) -> String {
-    let mut line = String::from("(view");
-    for i in (0..64).filter(|i| set >> i & 1 == 1) {
-        line += &format!(" {i}");
-    }
-    line + ")"
-}
-
-/// The line with a byte changed, left out or put in.
-fn damaged(r: &mut Random, line: String) -> Vec<u8> {
-    let mut bytes = line.into_bytes();
-    let at = r.below(bytes.len() as u64 + 1) as usize;
-    let byte = r.of(&[b' ', b'0', b'9', b'(', b')', b'-', b'+', b'A', 0, 13, 127, 200, 255]);
-    match r.below(3) {
-        0 => bytes.insert(at, byte),
-        1 if at < bytes.len() => bytes[at] = byte,
-        _ if at < bytes.len() => {
-            bytes.remove(at);
+    /// The line of this call, and the state that follows it.
+    fn call(&mut self, call: Call) {
+        if self.state.failed(call).is_empty() {
+            self.state.accept(call);
         }
-        _ => bytes.push(byte),
+        self.put(call.line().as_bytes());
     }
-    bytes
-}
 
-/// A line that is no input: an output form, an empty one, one of 199 to 201 bytes, or a number beyond its range.
-fn stray(r: &mut Random) -> Vec<u8> {
-    match r.below(6) {
-        0 => b"(ok)".to_vec(),
-        1 => b"(play 0 (paid 5))".to_vec(),
-        2 => vec![],
-        3 => vec![b'x'; 199 + r.below(4) as usize],
-        4 => format!("(campaign (price 1) (budget {}))", 4_294_967_295 + r.below(2)).into_bytes(),
-        _ => vec![b'('; r.below(5_000) as usize],
+    /// Up to `most` lines that are refused here.
+    fn refusals(&mut self, most: u64) {
+        for _ in 0..self.r.below(most + 1) {
+            let line = match self.r.below(8) {
+                0 => noise::long(&mut self.r),
+                1 | 2 => noise::no_form(&mut self.r),
+                _ => {
+                    let call = noise::refused_call(&mut self.r, &self.state);
+                    self.call(call);
+                    continue;
+                }
+            };
+            self.put(&line);
+        }
     }
-}
 
-fn push(r: &mut Random, out: &mut Vec<u8>, line: String) {
-    if r.one_in(150) {
-        out.extend(stray(r));
-        out.push(10);
+    fn plan(&mut self) -> (u64, u64) {
+        let width = if self.r.one_in(4) { self.r.of(&[1, 2, 16]) } else { self.r.within(1, 16) };
+        let top = deepest(width);
+        let depth = match self.r.below(6) {
+            0 => 1,
+            1 | 2 => top,
+            _ => self.r.within(1, top),
+        };
+        (depth, width)
     }
-    if r.one_in(200) {
-        out.extend(damaged(r, line.clone()));
-        out.push(10);
-    }
-    out.extend(line.into_bytes());
-    out.push(10);
-}
 
-/// A call that may be out of its phase.
-fn misplaced(r: &mut Random) -> String {
-    match r.below(5) {
-        0 => format!("(plan (depth {}) (width {}))", r.of(&EDGES), r.of(&EDGES)),
-        1 => format!("(campaign (price {}) (budget {}))", r.of(&EDGES), r.of(&EDGES)),
-        2 => "(start)".into(),
-        3 => "(close)".into(),
-        _ => view(r.next() & r.next()),
+    /// Price and budget of the next campaign, when `open` more are wanted. The money is kept for all of them.
+    fn terms(&mut self, style: Style, open: u64) -> (u64, u64) {
+        let left = MOST_BUDGET - self.state.budgets();
+        let base = self.state.width.min(9);
+        let r = &mut self.r;
+        if style == Style::Rich {
+            let plays = r.within(1, 900).min(left / MOST_PRICE);
+            return (MOST_PRICE, if open == 1 { left } else { MOST_PRICE * plays });
+        }
+        if r.one_in(15) {
+            return (r.of(&[1, 2, MOST_PRICE, MOST_PRICE + 1]), r.of(&[1, 2, MOST_PRICE, left, left + 1]));
+        }
+        let step = r.below(7) as u32;
+        let price = match style {
+            Style::OnePrice => 1 + self.state.depth * 7,
+            Style::Stepped => (base.pow(step) * (base - 1).pow(6 - step)).max(1),
+            _ if r.one_in(4) => r.within(1, 4),
+            _ => r.within(1, MOST_PRICE),
+        };
+        let most = if style == Style::Poor { 3 } else { 60 };
+        let plays = r.within(1, most).min(left / open / price).max(1);
+        (price, if r.one_in(8) { price } else { price * plays + r.below(price) })
+    }
+
+    /// A set of 1 to d campaigns; often as many as d, and often the same ones, so that some age together.
+    fn names(&mut self) -> u64 {
+        let (count, width) = (self.state.count().clamp(1, 64), self.state.width);
+        let wanted = if self.r.one_in(3) { width } else { self.r.within(1, width) };
+        let from = self.r.below(count);
+        let near = self.r.one_in(2);
+        let mut set = 0u64;
+        for i in 0..wanted {
+            let name = if near { from + i } else { self.r.below(count) };
+            set |= 1 << (name % count);
+        }
+        set
+    }
+
+    fn filling(&mut self, style: Style) {
+        let campaigns = match self.r.below(10) {
+            _ if style == Style::Rich => self.r.within(1, 3),
+            0 => 0,
+            1 | 2 => MOST_CAMPAIGNS,
+            3 => self.r.within(1, 2),
+            _ => self.r.within(1, 20),
+        };
+        self.refusals(3);
+        // some of them are refused, so that a full plan may take more lines
+        for tried in 0..2 * campaigns {
+            if self.state.count() == campaigns || campaigns < MOST_CAMPAIGNS && tried == campaigns {
+                break;
+            }
+            let open = campaigns.saturating_sub(self.state.count()).max(1);
+            let (price, budget) = self.terms(style, open);
+            self.call(Call::Campaign(price, budget));
+            if self.r.one_in(6) {
+                self.refusals(2);
+            }
+        }
+        self.refusals(3);
+    }
+
+    fn running(&mut self, full: bool) {
+        let views = match self.r.below(8) {
+            _ if full => MOST_VIEWS,
+            0 => 0,
+            1 => self.r.within(1, 900),
+            _ => self.r.within(1, 120),
+        };
+        self.refusals(3);
+        for _ in 0..views {
+            let set = self.names();
+            self.call(Call::View(set));
+            if self.r.one_in(40) {
+                self.refusals(2);
+            }
+        }
+        self.refusals(4);
     }
 }
 
 /// Some days after one another, as one input.
 pub fn input(seed: u64) -> Vec<u8> {
-    let mut r = Random(seed);
-    let mut out = vec![];
-    for _ in 0..1 + r.below(3) {
-        let (depth, width) = plan(&mut r);
-        push(&mut r, &mut out, format!("(plan (depth {depth}) (width {width}))"));
-        let campaigns = if r.one_in(5) { 60 + r.below(8) } else { r.below(20) };
-        for _ in 0..campaigns {
-            let (price, budget) = terms(&mut r, campaigns);
-            push(&mut r, &mut out, format!("(campaign (price {price}) (budget {budget}))"));
+    let mut m = Maker { r: Random(seed), state: State::blank(), out: vec![] };
+    if m.r.one_in(60) {
+        m.refusals(3);
+        return m.out;
+    }
+    for _ in 0..m.r.within(1, 4) {
+        m.refusals(6);
+        let style = m.r.of(&STYLES);
+        let (depth, width) = if style == Style::Rich { m.r.of(&[(32, 2), (8, 16)]) } else { m.plan() };
+        m.call(Call::Plan(depth, width));
+        m.filling(style);
+        if m.r.one_in(30) {
+            break;
         }
-        push(&mut r, &mut out, "(start)".into());
-        let views = if r.one_in(12) { 4_090 + r.below(10) } else { r.below(900) };
-        for _ in 0..views {
-            if r.one_in(120) {
-                let line = misplaced(&mut r);
-                push(&mut r, &mut out, line);
-            }
-            let set = names(&mut r, campaigns, width);
-            push(&mut r, &mut out, view(set));
-        }
-        if !r.one_in(10) {
-            push(&mut r, &mut out, "(close)".into());
+        m.call(Call::Start);
+        let full = m.r.one_in(if style == Style::Rich { 8 } else { 20 });
+        m.running(full);
+        // a day that stays open has the next one's lines refused
+        if !m.r.one_in(12) {
+            m.call(Call::Close);
         }
     }
-    if r.one_in(4) {
-        out.pop();
+    if m.state.phase == Phase::Closed {
+        m.refusals(6);
     }
-    out
+    if m.r.one_in(4) {
+        m.out.pop();
+    }
+    m.out
 }

@@ -1,97 +1,94 @@
 //! Days of text for both programs, and their outputs compared byte for byte.
 //!
-//! days PUMPDAY SECOND FOLDER SEEDS [FIRST]: runs the files of FOLDER and the days of SEEDS seeds from FIRST on (0).
-//! A difference leaves the shortest input found, and both outputs, in the current folder.
+//! days PUMPDAY SECOND CORPUS OUT SEEDS FIRST: the files of the folder CORPUS, then the days of SEEDS seeds from FIRST on.
+//! OUT gets `coverage`, how often each case was seen in the generated days, and after a difference the smallest input
+//! found and both outputs.
 
 mod day;
+mod noise;
+mod programs;
+mod random;
+mod seen;
+mod shrink;
+mod state;
 
+use programs::Pair;
+use seen::Seen;
 use std::fs;
-use std::io::Write;
-use std::process::{Command, Stdio};
+use std::path::Path;
 
-/// What a program writes when it is given this input.
-fn run(program: &str, input: &[u8]) -> Vec<u8> {
-    let mut child = Command::new(program)
-        .stdin(Stdio::piped())
-        .stdout(Stdio::piped())
-        .spawn()
-        .expect("the program starts");
-    let mut stdin = child.stdin.take().expect("a pipe");
-    let bytes = input.to_vec();
-    let writer = std::thread::spawn(move || {
-        let _ = stdin.write_all(&bytes);
-    });
-    let output = child.wait_with_output().expect("the program ends").stdout;
-    writer.join().expect("the input is written");
-    output
+/// From so many seeds on, every case must have been seen.
+const ENOUGH: u64 = 2_000;
+
+fn fail(what: &str) -> ! {
+    println!("{what}");
+    println!("0 passed, 1 failed");
+    std::process::exit(1)
 }
 
-struct Pair<'a> {
-    first: &'a str,
-    second: &'a str,
+/// The answers, the same from both programs.
+fn compare(pair: &Pair, out: &str, name: &str, input: &[u8]) -> Vec<u8> {
+    let [first, second] = pair.run(input);
+    if first == second {
+        return first.output;
+    }
+    let least = shrink::least(input, &|input| pair.differ(input));
+    let ran = pair.run(&least);
+    let file = |end: &str| format!("{out}/difference.{end}");
+    for (end, bytes) in [("in", &least), ("pumpday", &ran[0].output), ("second", &ran[1].output)] {
+        fs::write(file(end), bytes).expect("a file");
+    }
+    println!("{name}: the outputs differ ({}; {}). The smallest input found is in", ran[0].ending, ran[1].ending);
+    println!("  {}, the outputs in", file("in"));
+    fail(&format!("  {} and {}", file("pumpday"), file("second")))
 }
 
-impl Pair<'_> {
-    fn differ(&self, input: &[u8]) -> bool {
-        run(self.first, input) != run(self.second, input)
-    }
-
-    /// The shortest input found by leaving out runs of lines, while the outputs still differ.
-    fn shortened(&self, input: &[u8]) -> Vec<u8> {
-        let mut lines: Vec<&[u8]> = input.split_inclusive(|b| *b == 10).collect();
-        let mut size = lines.len() / 2;
-        while size > 0 {
-            let mut at = 0;
-            while at < lines.len() {
-                let end = (at + size).min(lines.len());
-                let fewer = [&lines[..at], &lines[end..]].concat();
-                if self.differ(&fewer.concat()) {
-                    lines = fewer;
-                } else {
-                    at = end;
-                }
-            }
-            size /= 2;
-        }
-        lines.concat()
-    }
-
-    fn report(&self, name: &str, input: &[u8]) -> ! {
-        let least = self.shortened(input);
-        fs::write("difference.in", &least).expect("a file");
-        fs::write("difference.pumpday", run(self.first, &least)).expect("a file");
-        fs::write("difference.second", run(self.second, &least)).expect("a file");
-        println!("{name}: the outputs differ; see difference.in, .pumpday and .second");
-        println!("0 passed, 1 failed");
-        std::process::exit(1)
-    }
-
-    fn compare(&self, name: &str, input: &[u8]) {
-        if self.differ(input) {
-            self.report(name, input);
+/// A file of the corpus; its answers stand beside it where they are known.
+fn compare_file(pair: &Pair, out: &str, file: &Path) {
+    let name = file.display().to_string();
+    let output = compare(pair, out, &name, &fs::read(file).expect("a file"));
+    if let Ok(answers) = fs::read(file.with_extension("answers")) {
+        if output != answers {
+            fs::write(format!("{out}/output"), output).expect("a file");
+            fail(&format!("{name}: both programs answer otherwise: {out}/output"));
         }
     }
 }
 
 fn main() {
     let args: Vec<String> = std::env::args().skip(1).collect();
-    let pair = Pair { first: &args[0], second: &args[1] };
-    let seeds: u64 = args[3].parse().expect("a number of seeds");
-    let from: u64 = args.get(4).map_or(0, |a| a.parse().expect("a seed"));
-    let (mut passed, mut lines) = (0, 0);
-    let mut files: Vec<_> = fs::read_dir(&args[2]).expect("a folder").map(|f| f.expect("a file").path()).collect();
+    let [first, second, corpus, out, seeds, from] = &args[..] else {
+        panic!("days PUMPDAY SECOND CORPUS OUT SEEDS FIRST")
+    };
+    let pair = Pair { first, second };
+    let seeds: u64 = seeds.parse().expect("a number of seeds");
+    let from: u64 = from.parse().expect("a seed");
+    let mut files: Vec<_> = fs::read_dir(corpus).expect("a folder").map(|f| f.expect("a file").path()).collect();
+    files.retain(|file| file.extension().is_none_or(|e| e != "answers"));
     files.sort();
-    for file in files {
-        let input = fs::read(&file).expect("a file");
-        pair.compare(&file.display().to_string(), &input);
-        passed += 1;
+    for file in &files {
+        compare_file(&pair, out, file);
     }
+    let mut seen = Seen::new();
+    let mut lines = 0;
     for seed in from..from + seeds {
         let input = day::input(seed);
         lines += input.iter().filter(|b| **b == 10).count();
-        pair.compare(&format!("seed {seed}"), &input);
-        passed += 1;
+        let name = format!("seed {seed}");
+        let output = compare(&pair, out, &name, &input);
+        seen.walk(&name, &input, &output);
     }
-    println!("{lines} lines from {seeds} seeds");
-    println!("{passed} passed, 0 failed");
+    fs::write(format!("{out}/coverage"), seen.report()).expect("a file");
+    println!("{lines} lines from {seeds} seeds; {} cases, counted in {out}/coverage", seen.len());
+    let (wrong, unseen) = (seen.wrong(), seen.unseen());
+    if !wrong.is_empty() {
+        fail(&wrong.join("\n"));
+    }
+    if seeds >= ENOUGH && !unseen.is_empty() {
+        fail(&unseen.join("\n"));
+    }
+    if !unseen.is_empty() {
+        println!("{} cases not seen in so few", unseen.len());
+    }
+    println!("{} passed, 0 failed", files.len() as u64 + seeds);
 }

@@ -1,0 +1,222 @@
+//! Lines that are refused: by a question of the phase that the day is in, as too long, or as no form.
+
+use crate::random::Random;
+use crate::state::{deepest, Call, Phase, State, MOST_BUDGET, MOST_CAMPAIGNS, MOST_PRICE, MOST_VIEWS};
+
+const EDGES: [u64; 20] = [
+    0,
+    1,
+    2,
+    3,
+    9,
+    10,
+    15,
+    16,
+    17,
+    31,
+    32,
+    33,
+    63,
+    64,
+    MOST_PRICE,
+    MOST_PRICE + 1,
+    MOST_BUDGET,
+    MOST_BUDGET + 1,
+    4_096,
+    4_294_967_295,
+];
+
+/// A call that one of the questions which the phase leaves refuses.
+pub fn refused_call(r: &mut Random, state: &State) -> Call {
+    match (state.phase, r.below(10)) {
+        (Phase::Blank | Phase::Closed, 0..=4) => bad_plan(r),
+        (Phase::Filling | Phase::Running, 0 | 1) => any_plan(r),
+        (Phase::Filling, 2..=6) => bad_campaign(r, state),
+        (Phase::Running, 2..=6) => bad_view(r, state),
+        (Phase::Running, 7) => Call::Start,
+        (Phase::Running, _) => any_campaign(r),
+        (Phase::Filling, 7) => Call::Close,
+        (Phase::Filling, _) => any_view(r),
+        (_, 5 | 6) => any_campaign(r),
+        (_, 7) => Call::Start,
+        (_, 8) => Call::Close,
+        _ => any_view(r),
+    }
+}
+
+fn any_plan(r: &mut Random) -> Call {
+    if r.one_in(2) {
+        Call::Plan(r.of(&EDGES), r.of(&EDGES))
+    } else {
+        bad_plan(r)
+    }
+}
+
+fn bad_plan(r: &mut Random) -> Call {
+    match r.below(4) {
+        0 => Call::Plan(r.of(&[0, 33, 34, 64, 4_294_967_295]), r.of(&EDGES)),
+        1 => Call::Plan(r.within(1, 32), r.of(&[0, 17, 18, 64, 4_294_967_295])),
+        2 => {
+            let width = r.within(3, 16);
+            Call::Plan(r.within(deepest(width) + 1, 32), width)
+        }
+        _ => {
+            let width = r.within(1, 16);
+            Call::Plan(deepest(width) + 1, width)
+        }
+    }
+}
+
+fn any_campaign(r: &mut Random) -> Call {
+    Call::Campaign(r.of(&EDGES), r.of(&EDGES))
+}
+
+fn bad_campaign(r: &mut Random, state: &State) -> Call {
+    let left = MOST_BUDGET - state.budgets();
+    if state.count() == MOST_CAMPAIGNS {
+        return if r.one_in(2) { Call::Campaign(1, 1) } else { any_campaign(r) };
+    }
+    match r.below(4) {
+        0 => Call::Campaign(r.of(&[0, MOST_PRICE + 1, 4_294_967_295]), r.of(&EDGES)),
+        1 => {
+            let price = r.within(1, MOST_PRICE);
+            Call::Campaign(price, r.of(&[0, price - 1, MOST_BUDGET + 1, 4_294_967_295]))
+        }
+        // with no campaign yet, only the budget's own limit is left to break
+        2 => Call::Campaign((left + 1).min(MOST_PRICE), left + 1),
+        _ => Call::Campaign(1, r.within(left + 1, MOST_BUDGET + 1)),
+    }
+}
+
+fn any_view(r: &mut Random) -> Call {
+    Call::View(match r.below(4) {
+        0 => 0,
+        1 => u64::MAX,
+        2 => 1 << r.below(64),
+        _ => r.next() & r.next(),
+    })
+}
+
+fn bad_view(r: &mut Random, state: &State) -> Call {
+    let (count, width) = (state.count(), state.width);
+    if state.views == MOST_VIEWS {
+        return if r.one_in(2) { Call::View(1) } else { any_view(r) };
+    }
+    let beyond = |i: u64| if count < MOST_CAMPAIGNS { 1 << (count + i % (64 - count)) } else { 0 };
+    let more = if count > width { (1 << (width + 1)) - 1 } else { 0 };
+    Call::View(match r.below(6) {
+        0 => 0,
+        1 => more,
+        2 => beyond(0),
+        3 if count < MOST_CAMPAIGNS => beyond(r.below(64)) | u64::from(count > 0),
+        4 => beyond(0) | more,
+        _ if count < MOST_CAMPAIGNS => 1 << 63,
+        _ => u64::MAX,
+    })
+}
+
+/// A line of more than 200 bytes.
+pub fn long(r: &mut Random) -> Vec<u8> {
+    let length = match r.below(6) {
+        0 | 1 => 201,
+        2 => 202,
+        3 => r.within(203, 70_000),
+        _ => r.within(203, 1_000),
+    } as usize;
+    // a form at its front or repeated is not read
+    match r.below(3) {
+        0 => vec![r.of(b"x(0 \0\xff"); length],
+        1 => b"(start)".iter().copied().chain(std::iter::repeat(b' ')).take(length).collect(),
+        _ => b"(close)(view 0 1) ".iter().copied().cycle().take(length).collect(),
+    }
+}
+
+fn form(r: &mut Random) -> String {
+    match r.below(11) {
+        0 => "(ok)".into(),
+        1 => "(nobody)".into(),
+        2 => format!("(play {} (paid {}))", r.below(65), r.of(&EDGES)),
+        3 => format!("(refused {})", r.below(20)),
+        4 => format!("(closed (takings {}) (claim {}) (full {}))", r.of(&EDGES), r.next(), u64::MAX),
+        5 => format!("(tally {} (plays {}) (turns 2) (age 0) (named {}))", r.below(65), r.of(&EDGES), r.of(&EDGES)),
+        6 => Call::Plan(r.of(&EDGES), r.of(&EDGES)).line(),
+        7 => any_campaign(r).line(),
+        8 => any_view(r).line(),
+        9 => Call::Start.line(),
+        _ => Call::Close.line(),
+    }
+}
+
+/// A form with one byte changed, left out or put in. No digit is put in, so that no other input form comes of it.
+fn damaged(r: &mut Random) -> Vec<u8> {
+    let mut bytes = form(r).into_bytes();
+    let at = r.below(bytes.len() as u64) as usize;
+    let byte = r.of(b" ()-+A/:xyz.\t\r\0\x7f\x80\xc8\xff");
+    match r.below(4) {
+        0 => bytes.insert(at, byte),
+        1 => bytes.push(byte),
+        2 if !bytes[at].is_ascii_digit() => {
+            bytes.remove(at);
+        }
+        _ if bytes[at] != byte => bytes[at] = byte,
+        _ => bytes[at] = b'!',
+    }
+    bytes
+}
+
+/// A line of at most 200 bytes that is no input form. `damaged` may by rare chance give an input form again, as where a
+/// view loses a space; the lines after it are then aimed a little beside the mark.
+pub fn no_form(r: &mut Random) -> Vec<u8> {
+    let number =
+        r.of(&["4294967296", "9999999999", "18446744073709551616", "00", "01", "", "-1", "+1", "1.0", " 1", "1 ", "x"]);
+    match r.below(10) {
+        0 => vec![],
+        1 => vec![r.of(b"x( 0)\0\xff"); r.of(&[1, 199, 200])],
+        2 => format!("(plan (depth {number}) (width 1))").into_bytes(),
+        3 => format!("(campaign (price 1) (budget {number}))").into_bytes(),
+        4 => r
+            .of(&[
+                "(view 0 0)",
+                "(view 1 0)",
+                "(view 64)",
+                "(view 63 64)",
+                "(view 00)",
+                "(view 0 01)",
+                "(view  0)",
+                "(view 0 )",
+                "(view 4294967296)",
+            ])
+            .into(),
+        5 => r
+            .of(&[
+                "(START)",
+                " (start)",
+                "(start) ",
+                "(start)\r",
+                "start",
+                "()",
+                "(start",
+                "(start)(start)",
+                "(plan (width 2) (depth 2))",
+                "(campaign (price 5))",
+                "(tally 0)",
+                "(close )",
+            ])
+            .into(),
+        // an input form padded to the greatest length is none
+        6 => format!("{:200}", Call::Start.line()).into_bytes(),
+        7 => {
+            let line = form(r);
+            if is_output(&line) {
+                line.into_bytes()
+            } else {
+                b"(ok)".to_vec()
+            }
+        }
+        _ => damaged(r),
+    }
+}
+
+fn is_output(line: &str) -> bool {
+    ["(ok", "(nobody", "(play", "(refused", "(closed", "(tally"].iter().any(|w| line.starts_with(w))
+}

@@ -1,0 +1,97 @@
+//! The results as a page.
+
+use crate::{Mutant, CRATES};
+use std::collections::BTreeMap;
+use std::fmt::Write;
+use std::fs;
+use std::path::Path;
+use std::process::Command;
+
+/// By the change's key: the verdict, and the line of the log that tells.
+pub type Results = BTreeMap<String, (String, String)>;
+
+const WORDS: [&str; 7] =
+    ["refused", "refused by its shape", "SURVIVED", "the same code", "not compiled", "no answer in time", "unclear"];
+
+pub fn read(file: &Path) -> Results {
+    let text = fs::read_to_string(file).unwrap_or_default();
+    let fields = |line: &str| -> Option<(String, (String, String))> {
+        let parts: Vec<&str> = line.split('\t').collect();
+        let [id, print, diff, word, why] = parts[..] else { return None };
+        Some((format!("{id}\t{print}\t{diff}"), (word.into(), why.into())))
+    };
+    text.lines().filter_map(fields).collect()
+}
+
+fn today() -> String {
+    let output = Command::new("date").arg("+%F").output().expect("date runs");
+    String::from_utf8_lossy(&output.stdout).trim().into()
+}
+
+/// A change inside a table's cell.
+fn cell(text: &str) -> String {
+    format!("`{}`", text.replace('|', "\\|"))
+}
+
+fn table(out: &mut String, head: &str, rows: impl Iterator<Item = String>) {
+    let columns = head.matches('|').count() - 1;
+    let _ = writeln!(out, "{head}\n|{}", "---|".repeat(columns));
+    rows.for_each(|row| out.push_str(&row));
+    out.push('\n');
+}
+
+pub fn text(all: &[Mutant], results: &Results, each: usize) -> String {
+    let of = |m: &Mutant| results.get(&m.key());
+    let word = |m: &Mutant| of(m).map_or("", |r| r.0.as_str());
+    let count =
+        |name: &str, w: &str| all.iter().filter(|m| (name.is_empty() || m.name == name) && word(m) == w).count();
+    let mut out = format!(
+        "# Single changes of the proved code\n\n\
+        Each change is one small fault in one line: a comparison, an operation, a constant by 1, operands, a field, a \
+        call, an enum's case, all of which keep the steps of the code; or an argument or an index by 1, a store that \
+        leaves what was there, a branch, which may not. At most {each} of a function or constant are taken, in turn \
+        from each kind. The prover should refuse each one that changes what the code does.\n\n\
+        Made by `tests/mutants` on {}. `tests/mutants CRATE...`, or with ids, runs what was not run on the crate as it \
+        is and writes this page; `--list` only lists, `--compile` only compiles, `--sample N` takes some N of a crate, \
+        `--each N` takes more of each function, `--limit SECONDS` is the time for one (300). The results stand in \
+        `target/mutants`, or in the folder that MUTANTS names; `rt ci` removes the former.\n\n\
+        *Refused*: a fact fails. *Refused by its shape*: the errors say only that the proof no longer fits the steps. \
+        *SURVIVED*: `rt check` proves the crate with the change; each is to be explained or its contract made \
+        stronger. *The same code* and *not compiled* count for nothing.\n\n",
+        today()
+    );
+    let row = |name: &str| {
+        let listed = all.iter().filter(|m| name.is_empty() || m.name == name).count();
+        let counts: Vec<String> = WORDS.iter().map(|w| count(name, w).to_string()).collect();
+        let open = count(name, "");
+        let title = if name.is_empty() { "all" } else { name };
+        format!("| {title} | {listed} | {} | {open} |\n", counts.join(" | "))
+    };
+    let head = format!("| crate | changes | {} | not run |", WORDS.join(" | "));
+    table(&mut out, &head, CRATES.iter().copied().chain([""]).map(row));
+    for (w, title) in [("SURVIVED", "Survived"), ("unclear", "Unclear"), ("no answer in time", "No answer in time")] {
+        if count("", w) > 0 {
+            let rows = all.iter().filter(|m| word(m) == w);
+            let row = |m: &Mutant| {
+                format!("| {} | {}:{} | {} | {} |\n", m.id, m.file.display(), m.line, m.item, cell(&m.diff()))
+            };
+            let _ = writeln!(out, "## {title}\n");
+            table(&mut out, "| id | line | in | change |", rows.map(row));
+        }
+    }
+    out.push_str("## All that were run\n\n");
+    let row = |m: &Mutant| {
+        format!(
+            "| {} | {}:{} | {} | {} | {} | {} |\n",
+            m.id,
+            m.file.display(),
+            m.line,
+            m.item,
+            m.operator,
+            cell(&m.diff()),
+            word(m)
+        )
+    };
+    table(&mut out, "| id | line | in | kind | change | result |", all.iter().filter(|m| !word(m).is_empty()).map(row));
+    out.trim_end().to_string() + "\n"
+}
