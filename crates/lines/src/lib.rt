@@ -278,14 +278,6 @@ fn read_campaign(s: &[u8]) -> Reading
     )
 }
 
-fn read_view(s: &[u8]) -> Reading
-    requires { ⌜ length (now s) ≤ 200 ⌝ }
-    ensures { λ r. ⌜ r ≡ heldOr (Reading.Refusal 17) (Record.View 0) (now (s .entry)) ⌝ }
-{
-    let set = field(s, 0, b"(view", b'S');
-    ended(s, set.end, b")", Record::View(set.number))
-}
-
 fn read_play(s: &[u8]) -> Reading
     requires { ⌜ length (now s) ≤ 200 ⌝ }
     ensures { λ r. ⌜ r ≡ heldOr (Reading.Refusal 17) (Record.Play 0 0) (now (s .entry)) ⌝ }
@@ -301,14 +293,6 @@ fn read_play(s: &[u8]) -> Reading
             paid: paid.number,
         },
     )
-}
-
-fn read_refused(s: &[u8]) -> Reading
-    requires { ⌜ length (now s) ≤ 200 ⌝ }
-    ensures { λ r. ⌜ r ≡ heldOr (Reading.Refusal 17) (Record.Refused 0) (now (s .entry)) ⌝ }
-{
-    let number = field(s, 0, b"(refused ", b'R');
-    ended(s, number.end, b")", Record::Refused(number.number))
 }
 
 fn read_closed(s: &[u8]) -> Reading
@@ -361,7 +345,10 @@ pub fn read_line(s: &[u8]) -> Reading
         return Reading::Refusal(16);
     }
     match byte(s, 1) {
-        b'v' => read_view(s),
+        b'v' => {
+            let set = field(s, 0, b"(view", b'S');
+            ended(s, set.end, b")", Record::View(set.number))
+        }
         b'p' => match byte(s, 4) {
             b'n' => read_plan(s),
             _ => read_play(s),
@@ -374,7 +361,10 @@ pub fn read_line(s: &[u8]) -> Reading
         b's' => ended(s, 0, b"(start)", Record::Start),
         b'o' => ended(s, 0, b"(ok)", Record::Done),
         b'n' => ended(s, 0, b"(nobody)", Record::Nobody),
-        b'r' => read_refused(s),
+        b'r' => {
+            let number = field(s, 0, b"(refused ", b'R');
+            ended(s, number.end, b")", Record::Refused(number.number))
+        }
         _ => read_tally(s),
     }
 }

@@ -190,6 +190,16 @@ fn put_slot(out: &mut [u8], at: usize, slot: u8, n: u64) -> usize
     put_number(out, at, n)
 }
 
+// The line of a form with one slot.
+fn put_one(out: &mut [u8], word: &[u8], slot: u8, n: u64, end: &[u8]) -> usize
+    requires { ⌜ length (now word) + length (slotText slot n) + length (now end) ≤ length (now out) ⌝ }
+    ensures { λ r. ⌜ Put (now (out .entry)) (now (out .exit)) 0 r (now (word .entry) ++ (slotText slot n ++ now (end .entry))) ⌝ }
+{
+    let at = put(out, 0, word);
+    let at = put_slot(out, at, slot, n);
+    put(out, at, end)
+}
+
 fn put_plan(out: &mut [u8], depth: u64, width: u64) -> usize
     requires { ⌜ length (slotText 78 depth) + length (slotText 78 width) + 25 ≤ length (now out) ⌝ }
     ensures { λ r. ⌜ Put (now (out .entry)) (now (out .exit)) 0 r (line (Record.Plan depth width)) ⌝ }
@@ -212,15 +222,6 @@ fn put_campaign(out: &mut [u8], price: u64, budget: u64) -> usize
     put(out, at, b"))\n")
 }
 
-fn put_view(out: &mut [u8], set: u64) -> usize
-    requires { ⌜ length (slotText 83 set) + 7 ≤ length (now out) ⌝ }
-    ensures { λ r. ⌜ Put (now (out .entry)) (now (out .exit)) 0 r (line (Record.View set)) ⌝ }
-{
-    let at = put(out, 0, b"(view");
-    let at = put_slot(out, at, b'S', set);
-    put(out, at, b")\n")
-}
-
 fn put_play(out: &mut [u8], campaign: u64, paid: u64) -> usize
     requires { ⌜ length (slotText 67 campaign) + length (slotText 78 paid) + 16 ≤ length (now out) ⌝ }
     ensures { λ r. ⌜ Put (now (out .entry)) (now (out .exit)) 0 r (line (Record.Play campaign paid)) ⌝ }
@@ -230,15 +231,6 @@ fn put_play(out: &mut [u8], campaign: u64, paid: u64) -> usize
     let at = put(out, at, b" (paid ");
     let at = put_slot(out, at, b'N', paid);
     put(out, at, b"))\n")
-}
-
-fn put_refused(out: &mut [u8], number: u64) -> usize
-    requires { ⌜ length (slotText 82 number) + 11 ≤ length (now out) ⌝ }
-    ensures { λ r. ⌜ Put (now (out .entry)) (now (out .exit)) 0 r (line (Record.Refused number)) ⌝ }
-{
-    let at = put(out, 0, b"(refused ");
-    let at = put_slot(out, at, b'R', number);
-    put(out, at, b")\n")
 }
 
 fn put_closed(out: &mut [u8], takings: u64, claim: u64, full: u64) -> usize
@@ -287,12 +279,12 @@ fn put_record(r: Record, out: &mut [u8]) -> usize
         Record::Plan { depth, width } => put_plan(out, depth, width),
         Record::Campaign { price, budget } => put_campaign(out, price, budget),
         Record::Start => put(out, 0, b"(start)\n"),
-        Record::View(set) => put_view(out, set),
+        Record::View(set) => put_one(out, b"(view", b'S', set, b")\n"),
         Record::Close => put(out, 0, b"(close)\n"),
         Record::Done => put(out, 0, b"(ok)\n"),
         Record::Play { campaign, paid } => put_play(out, campaign, paid),
         Record::Nobody => put(out, 0, b"(nobody)\n"),
-        Record::Refused(number) => put_refused(out, number),
+        Record::Refused(number) => put_one(out, b"(refused ", b'R', number, b")\n"),
         Record::Closed {
             takings,
             claim,

@@ -6,7 +6,7 @@ use lib.ListN.{length}
 use borrow.Author.Needs.{needs}
 use Rattle.lines.specs.Form.{template, numbers, piece, after, filled}
 use Rattle.lines.specs.declared.Record.{Record}
-use Rattle.lines.specs.declared.Record.the-variants.{Start, Close, Done, Nobody}
+use Rattle.lines.specs.declared.Record.the-variants.{Start, View, Close, Done, Nobody, Refused}
 use Rattle.writer.specs.Buffer.{Put}
 use Rattle.writer.specs.Writing.{line}
 use Rattle.writer.proofs.Lengths.{filledSize, line-size, line-filled}
@@ -37,7 +37,9 @@ put-record-spec =
     (λ c. search needs)
     (λ c κs. omega (arith, room (c .before .before .enum-told .given .1) (c .before .before .before .before .before .pre)))
     (λ c. search needs)
-    (λ c κs. omega (arith, room (c .before .before .r3 .given .1) (c .before .before .before .before .before .pre)))
+    (λ c. search needs)
+    (λ c. search needs)
+    (λ c κs. omega (arith, room (c .before .before .before .before .r3 .given .1) (c .before .before .before .before .before .before .before .pre)))
     (λ c. search needs)
     (λ c. search needs)
     (λ c κs. omega (arith, room (c .before .before .enum-told2 .given .1) (c .before .before .before .before .before .pre)))
@@ -50,7 +52,9 @@ put-record-spec =
     (λ c. search needs)
     (λ c κs. omega (arith, room (c .before .before .enum-told4 .given .1) (c .before .before .before .before .before .pre)))
     (λ c. search needs)
-    (λ c κs. omega (arith, room (c .before .before .r5 .given .1) (c .before .before .before .before .before .pre)))
+    (λ c. search needs)
+    (λ c. search needs)
+    (λ c κs. omega (arith, room (c .before .before .before .before .r5 .given .1) (c .before .before .before .before .before .before .before .pre)))
     (λ c. search needs)
     (λ c κs. omega (arith, room (c .before .before .r6 .given .1) (c .before .before .before .before .before .pre)))
     (λ c. search needs)
@@ -62,7 +66,7 @@ put-record-spec =
     (λ c. search needs)
     (λ c. word Start (c .before .before .before .before .before .enum-told .given .1) (sym (line-filled Start)) (c .before .before .put .ensures))
     (λ c. search needs)
-    (λ c. puts (c .before .before .before .before .before .r3 .given .1) (c .before .before .put-view .ensures))
+    (λ c. word (View _) (c .before .before .before .before .before .before .before .r3 .given .1) (sym (line-filled (View _))) (c .before .before .put-one .ensures))
     (λ c. search needs)
     (λ c. word Close (c .before .before .before .before .before .enum-told2 .given .1) (sym (line-filled Close)) (c .before .before .put2 .ensures))
     (λ c. search needs)
@@ -72,7 +76,7 @@ put-record-spec =
     (λ c. search needs)
     (λ c. word Nobody (c .before .before .before .before .before .enum-told4 .given .1) (sym (line-filled Nobody)) (c .before .before .put4 .ensures))
     (λ c. search needs)
-    (λ c. puts (c .before .before .before .before .before .r5 .given .1) (c .before .before .put-refused .ensures))
+    (λ c. word (Refused _) (c .before .before .before .before .before .before .before .r5 .given .1) (sym (line-filled (Refused _))) (c .before .before .put-one2 .ensures))
     (λ c. search needs)
     (λ c. puts (c .before .before .before .before .before .r6 .given .1) (c .before .before .put-closed .ensures))
     (λ c. search needs)
