@@ -1,7 +1,6 @@
-use mathlib.Core.List.{append-assoc}
 use native.Mathlib.Omega.{arith}
 use borrow.Author.Needs.{needs}
-use Rattle.writer.proofs.Buffers.{start, then, ends}
+use Rattle.writer.proofs.Buffers.{before}
 use Rattle.writer.proofs.put_one.Statement.{statement}
 use Rattle.writer.proofs.put_one.Tie as tie
 
@@ -17,5 +16,4 @@ put-one-spec =
     let p2 = c .before .before in
     let s1 = p2 .before .before .before .before in
     let p1 = s1 .before .before .before .before in
-    let a = p1 .before .before .before .before .before .args in
-    ends (then (then (then (start (a .out .now) 0) (p1 .put .ensures)) (s1 .put-slot .ensures)) (p2 .put2 .ensures)) (append-assoc (a .word .now) _ (a .end .now))))
+    before (before (p1 .put .ensures) (s1 .put-slot .ensures)) (p2 .put2 .ensures)))
