@@ -17,7 +17,7 @@ use Rattle.lines.specs.declared.Reading.{Reading}
 use Rattle.lines.specs.declared.Reading.the-variants.{Got, Refusal}
 use Rattle.lines.specs.Form.{template, numbers, after, inSlot, inSlots, inRange}
 use Rattle.lines.specs.Reading.{reading}
-use Rattle.lines.proofs.Choice.{Is}
+use Rattle.lines.specs.OneText.{Is}
 use Rattle.lines.proofs.Inverse.{refused as reading-refused}
 use Rattle.campaigns.specs.declared.View.{View as Viewing}
 use Rattle.campaigns.specs.Choice.{Choice}

@@ -11,13 +11,10 @@ use Rattle.lines.specs.declared.Record.{Record}
 use Rattle.lines.specs.declared.Record.the-variants.{Plan, Campaign, Start, View, Close, Done, Play, Nobody, Refused, Closed, Tally}
 use Rattle.lines.specs.declared.Reading.the-variants.{Got, Refusal}
 use Rattle.lines.specs.Form.{template, numbers, piece, after, filled, inSlots, text, inRange}
+use Rattle.lines.specs.OneText.{Is}
 use Rattle.lines.specs.Reading.{Rest, none, some, isDigit, restOf, numbersOf, made, isEnd, endedOr, heldOr, forms, firstOf}
 use Rattle.lines.proofs.Digits.{apart}
 use Rattle.lines.proofs.Templates.{fair, taken, most, sound, complete, filled-most}
-
--- l is the text of r, whose numbers are in their ranges
-abbrev pub Is : List ℕ → Record → Type 0
-Is l r = (inRange r ≡ true) × (l ≡ text r)
 
 -- the form that the bytes at 1, 4 and 6 leave
 unfoldable pub chosen : List ℕ → Record

@@ -1,13 +1,13 @@
 -- Laws of digits and of the slots' ranges.
 use mathlib.Core.Path.{_≡_, refl, sym, ap, _∙_}
-use mathlib.Core.Bool.{Bool, true, false, cond, _&&_}
+use mathlib.Core.Bool.{Bool, true, false, cond, not, _&&_, _||_}
 use mathlib.Core.List.{List, [], _∷_}
-use Prim.Native.Nat.{ℕ, _+_, _*_, _-_, _^_, _≤_, _<_}
+use Prim.Native.Nat.{ℕ, _+_, _*_, _-_, _/_, _%_, _^_, _≤_, _<_}
 use native.Mathlib.Omega.{arith}
-use lib.Dec.{ltb, leb, eqb}
-use borrow.Author.Tests.{leb-true, le-leb, lt-leb, lt-ltb, le-ltb, ltb-true, ltb-false}
+use lib.Dec.{leb, eqb}
+use borrow.Author.Tests.{leb-true, leb-false, le-leb, lt-leb, eqb-true, eqb-false, ne-eqb}
 use Rattle.finite.proofs.Tests.{both-left, both-right}
-use Rattle.lines.specs.Form.{inSlot}
+use Rattle.lines.specs.Form.{slotMax, inSlot}
 use Rattle.lines.specs.Reading.{Seen, seen, unseen, value, isDigit, digits, ranged}
 
 pub apart : {A : Type 0} → false ≡ true → A
@@ -29,13 +29,14 @@ pub digit-from : (b : ℕ) → isDigit b ≡ true → (48 ≤ b) × (b ≤ 57)
 unfolding isDigit
 digit-from b e = (leb-true 48 b (both-left (leb 48 b) (leb b 57) e), leb-true b 57 (both-right (leb 48 b) (leb b 57) e))
 
--- whether a further digit fits 64 bits, where all but the last are at the limit
-pub last-digit : (n d : ℕ) → n ≡ 1844674407370955161 → ltb d 6 ≡ ltb (n * 10 + d) (2 ^ 64)
-last-digit n d h = go (ltb d 6) refl
+-- whether a further digit stays within m, where all but the last are at the limit or past it
+pub last-digit : (n d m : ℕ) → m / 10 ≤ n → (eqb n (m / 10) && leb d (m % 10)) ≡ leb (n * 10 + d) m
+last-digit n d m h = go (eqb n (m / 10)) (leb d (m % 10)) refl refl
   where
-    go : (t : Bool) → ltb d 6 ≡ t → t ≡ ltb (n * 10 + d) (2 ^ 64)
-    go true e = sym (lt-ltb (n * 10 + d) (2 ^ 64) (omega (arith, ltb-true d 6 e)))
-    go false e = sym (le-ltb (n * 10 + d) (2 ^ 64) (omega (arith, ltb-false d 6 e)))
+    go : (x y : Bool) → eqb n (m / 10) ≡ x → leb d (m % 10) ≡ y → (x && y) ≡ leb (n * 10 + d) m
+    go true true p q = sym (le-leb (n * 10 + d) m (omega (arith, eqb-true n (m / 10) p, leb-true d (m % 10) q)))
+    go true false p q = sym (lt-leb (n * 10 + d) m (omega (arith, eqb-true n (m / 10) p, leb-false d (m % 10) q)))
+    go false y p q = sym (lt-leb (n * 10 + d) m (omega (arith, eqb-false n (m / 10) p)))
 
 -- more digits make no smaller number
 pub digits-least : (l : List ℕ) (a : ℕ) → a ≤ value (digits a l)
@@ -47,27 +48,34 @@ digits-least (b ∷ l) a = go (isDigit b) (digits-least l (a * 10 + (b - 48)))
     go true ih = omega arith
     go false ih = omega arith
 
--- a slot's range is within 64 bits
+-- every slot has room for a digit, and stays within 64 bits
+pub max-range : (slot : ℕ) → (9 ≤ slotMax slot) × (slotMax slot < 2 ^ 64)
+max-range slot = go (eqb slot 78) (eqb slot 67) (eqb slot 82)
+  where
+    go : (x y z : Bool) → let m : ℕ = cond x 4294967295 (cond y 63 (cond z 18 18446744073709551615)) in (9 ≤ m) × (m < 2 ^ 64)
+    go true y z = (omega arith, omega arith)
+    go false true z = (omega arith, omega arith)
+    go false false true = (omega arith, omega arith)
+    go false false false = (omega arith, omega arith)
+
+pub slot-most : (slot n : ℕ) → inSlot slot n ≡ true → n ≤ slotMax slot
+unfolding inSlot
+slot-most slot n h = leb-true n (slotMax slot) (both-right (not (eqb slot 82) || leb 1 n) (leb n (slotMax slot)) h)
+
 pub slot-small : (slot n : ℕ) → inSlot slot n ≡ true → n < 2 ^ 64
-unfolding inSlot
-slot-small slot n = go (eqb slot 78) (eqb slot 67) (eqb slot 82)
-  where
-    go : (x y z : Bool) → cond x (leb n 4294967295) (cond y (leb n 63) (cond z (leb 1 n && leb n 18) (leb n 18446744073709551615))) ≡ true → n < 2 ^ 64
-    go true y z h = omega (arith, leb-true n 4294967295 h)
-    go false true z h = omega (arith, leb-true n 63 h)
-    go false false true h = omega (arith, leb-true n 18 (both-right (leb 1 n) (leb n 18) h))
-    go false false false h = omega (arith, leb-true n 18446744073709551615 h)
+slot-small slot n h = omega (arith, slot-most slot n h, max-range slot)
 
-pub widest : (n : ℕ) → n < 2 ^ 64 → inSlot 77 n ≡ true
+pub slot-yes : (slot n : ℕ) → 1 ≤ n → n ≤ slotMax slot → inSlot slot n ≡ true
 unfolding inSlot
-widest n h = le-leb n 18446744073709551615 (omega arith)
-
-pub large : (slot n : ℕ) → 2 ^ 64 ≤ n → inSlot slot n ≡ false
-large slot n h = go (inSlot slot n) refl
+slot-yes slot n h m = go (not (eqb slot 82))
   where
-    go : (t : Bool) → inSlot slot n ≡ t → t ≡ false
-    go true e = absurd (omega (arith, slot-small slot n e))
-    go false e = refl
+    go : (t : Bool) → ((t || leb 1 n) && leb n (slotMax slot)) ≡ true
+    go true = le-leb n (slotMax slot) m
+    go false = simp (le-leb 1 n h) (le-leb n (slotMax slot) m)
+
+pub slot-zero : (slot : ℕ) → (slot ≡ 82 → ⊥) → inSlot slot 0 ≡ true
+unfolding inSlot
+slot-zero slot h = ap (λ (t : Bool). (not t || leb 1 0) && leb 0 (slotMax slot)) (ne-eqb slot 82 h) ∙ le-leb 0 (slotMax slot) (omega arith)
 
 pub ranged-yes : (slot n : ℕ) (l : List ℕ) → inSlot slot n ≡ true → ranged slot (seen n l) ≡ seen n l
 ranged-yes slot n l e = simp e
@@ -75,17 +83,10 @@ ranged-yes slot n l e = simp e
 pub ranged-no : (slot n : ℕ) (l : List ℕ) → inSlot slot n ≡ false → ranged slot (seen n l) ≡ unseen
 ranged-no slot n l e = simp e
 
-pub ranged-large : (slot : ℕ) (s : Seen) → 2 ^ 64 ≤ value s → ranged slot s ≡ unseen
-ranged-large slot unseen h = refl
-ranged-large slot (seen n l) h = ranged-no slot n l (large slot n h)
-
--- a slot asks for no more than 64 bits
-pub ranged-wide : (slot : ℕ) (s : Seen) → ranged slot (ranged 77 s) ≡ ranged slot s
-ranged-wide slot unseen = refl
-ranged-wide slot (seen n l) = go (ltb n (2 ^ 64)) refl
+pub ranged-above : (slot : ℕ) (s : Seen) → slotMax slot < value s → ranged slot s ≡ unseen
+ranged-above slot unseen h = refl
+ranged-above slot (seen n l) h = go (inSlot slot n) refl
   where
-    go : (t : Bool) → ltb n (2 ^ 64) ≡ t → ranged slot (ranged 77 (seen n l)) ≡ ranged slot (seen n l)
-    go true e = ap (ranged slot) (ranged-yes 77 n l (widest n (ltb-true n (2 ^ 64) e)))
-    go false e =
-        let h = ltb-false n (2 ^ 64) e in
-        ap (ranged slot) (ranged-no 77 n l (large 77 n h)) ∙ sym (ranged-no slot n l (large slot n h))
+    go : (t : Bool) → inSlot slot n ≡ t → ranged slot (seen n l) ≡ unseen
+    go true e = absurd (omega (arith, slot-most slot n e))
+    go false e = ranged-no slot n l e

@@ -1,5 +1,5 @@
--- Reading is the inverse of `text`: demand 2's "exactly one line of text, and that line reads back as that record; other text is refused".
-use mathlib.Core.Path.{_≡_, refl, sym, ap, _∙_}
+-- Reading is the inverse of `text`.
+use mathlib.Core.Path.{_≡_, refl, sym, ap, _∙_, subst}
 use mathlib.Core.Bool.{Bool, true, false, cond}
 use mathlib.Core.List.{List}
 use mathlib.Core.Logic.{_⊎_, inl, inr}
@@ -9,10 +9,13 @@ use lib.Dec.{ltb}
 use lib.ListN.{length}
 use borrow.Author.Tests.{ltb-true, ltb-false, le-ltb}
 use Rattle.lines.specs.declared.Record.{Record}
+use Rattle.lines.specs.declared.Reading.{Reading}
 use Rattle.lines.specs.declared.Reading.the-variants.{Got, Refusal}
 use Rattle.lines.specs.Form.{text, inRange}
 use Rattle.lines.specs.Reading.{forms, firstOf, reading}
-use Rattle.lines.proofs.Choice.{Is, text-most, held-is, held-text, held-number}
+use Rattle.lines.specs.OneText.{number, Is, Says, One-text}
+use Rattle.lines.specs.OneText.Says.{a-text, too-long, no-text}
+use Rattle.lines.proofs.Choice.{text-most, held-is, held-text, held-number}
 
 pub reading-short : (l : List ℕ) → length l ≤ 200 → reading l ≡ firstOf forms l
 unfolding reading
@@ -53,3 +56,17 @@ refused l n e = go (ltb 200 (length l)) refl e
         other r p =
             let z : Refusal n ≡ Got r = sym q ∙ ap (firstOf forms) (p .1) ∙ held-text r (p .0) in
             let y : _≡_ {A = ℕ} 0 1 = cc in omega arith
+
+says : (l : List ℕ) → Says l (number (reading l))
+says l = go (reading l) refl
+  where
+    by : (n : ℕ) → ((n ≡ 16) × (200 < length l)) ⊎ ((n ≡ 17) × (length l ≤ 200) × ((r : Record) → Is l r → ⊥)) → Says l n
+    by n (inl p) = subst (Says l) (sym (p .0)) (too-long (p .1))
+    by n (inr p) = subst (Says l) (sym (p .0)) (no-text (p .1) (p .2))
+
+    go : (a : Reading) → reading l ≡ a → Says l (number a)
+    go (Got r) e = a-text r (read-text l r e)
+    go (Refusal n) e = by n (refused l n e)
+
+pub one-text : One-text
+one-text = record { most = text-most; reads = text-reads; is-read = read-text; text-once = text-once; record-once = record-once; says = says }

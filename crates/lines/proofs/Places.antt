@@ -7,16 +7,16 @@ use Prim.Native.Nat.{ℕ, suc, _+_, _*_, _-_, _^_, _≤_, _<_}
 use native.Mathlib.Omega.{arith}
 use native.Mathlib.Numerals.{add-one}
 use lib.Dec.{leb, eqb}
-use lib.ListN.{length, drop, getD, drop-of-length-le, List·getD-eq-default}
+use lib.ListN.{length, drop, getD, drop-of-length-le}
 use lib.Seq.{drop-cons, drop-length}
-use borrow.Author.Tests.{lt-ltb, le-ltb, le-leb, lt-leb, leb-true, leb-false, eqb-true, eqb-false, eq-eqb, ne-eqb}
+use borrow.Author.Tests.{lt-ltb, le-ltb, le-leb, lt-leb, leb-true, leb-false, eq-eqb, ne-eqb}
 use Rattle.lines.specs.Form.{inSlot}
 use Rattle.lines.specs.declared.Slot.{Slot}
 use Rattle.lines.specs.declared.Record.{Record}
 use Rattle.lines.specs.declared.Reading.the-variants.{Got, Refusal}
 use Rattle.lines.specs.Reading.{Rest, none, some, Seen, seen, unseen, value, behind, isDigit, digits, numeralAt, ranged, joined, andThen, namesAt, slotAt, strip, isEnd, endedOr}
 use Rattle.lines.specs.Place.{place, stripped, Sees}
-use Rattle.lines.proofs.Digits.{apart, digit-yes, digit-below, digit-above, digit-from, digits-least, ranged-yes, ranged-no, widest}
+use Rattle.lines.proofs.Digits.{digit-yes, digit-below, digit-above, ranged-yes}
 
 pub place-in : (l : List ℕ) (at : ℕ) → at ≤ length l → place l at ≡ some (drop at l)
 unfolding place
@@ -117,17 +117,6 @@ module _ (l : List ℕ) (x : Slot) (s : Seen) where
         go unseen a e = let y : _≡_ {A = ℕ} 0 1 = cc in absurd (omega arith)
         go (seen n m) a e = cc
 
--- what is kept of x: x itself, or nothing
-pub keeps : (x y : Slot) (slot : ℕ) → (inSlot slot (x .number) ≡ true → y ≡ x) → (inSlot slot (x .number) ≡ false → (y .number ≡ 0) × (y .end ≡ 201))
-    → (l : List ℕ) (t : Seen) → length l ≤ 200 → Sees l x t → Sees l y (ranged slot t)
-keeps x y slot same lost l t b p = go (inSlot slot (x .number)) refl t p
-  where
-    go : (k : Bool) → inSlot slot (x .number) ≡ k → (t : Seen) → Sees l x t → Sees l y (ranged slot t)
-    go true e unseen q = subst (λ (z : Slot). Sees l z unseen) (sym (same e)) q
-    go true e (seen n m) q = subst (λ (z : Slot). Sees l z (ranged slot (seen n m))) (sym (same e)) (subst (Sees l x) (sym (ranged-yes slot n m (ap (inSlot slot) (sym (q .number)) ∙ e))) q)
-    go false e unseen q = misses l y unseen (lost e .0) (omega (arith, lost e .1)) refl
-    go false e (seen n m) q = misses l y (ranged slot (seen n m)) (lost e .0) (omega (arith, lost e .1)) (ranged-no slot n m (ap (inSlot slot) (sym (q .number)) ∙ e))
-
 -- Digits.
 
 module _ (l : List ℕ) (i : ℕ) (h : i < length l) (a : ℕ) where
@@ -149,18 +138,9 @@ digits-stop l i a e = go (leb (i + 1) (length l)) refl
         subst (λ (m : List ℕ). digits a m ≡ seen a m) (sym (drop-next l i h)) (rw e)
     go false q = digits-end l i a (omega (arith, leb-false (i + 1) (length l) q))
 
--- a place with a digit is in the line
-pub digit-inside : (l : List ℕ) (i : ℕ) → isDigit (getD l i 0) ≡ true → i < length l
-unfolding isDigit
-digit-inside l i e = go (leb (i + 1) (length l)) refl
-  where
-    go : (t : Bool) → leb (i + 1) (length l) ≡ t → i < length l
-    go true q = omega (arith, leb-true (i + 1) (length l) q)
-    go false q = apart (sym (ap isDigit (List·getD-eq-default l 0 (omega (arith, leb-false (i + 1) (length l) q)))) ∙ e)
-
--- a numeral of 64 bits that ends at the place i
-pub sees-number : (l : List ℕ) (a i : ℕ) (s : Seen) → a < 2 ^ 64 → i ≤ length l → s ≡ seen a (drop i l) → Sees l (record { number = a; end = i }) (ranged 77 s)
-sees-number l a i s h b e = sees l (record { number = a; end = i }) (ranged 77 s) b (ap (ranged 77) e ∙ ranged-yes 77 a (drop i l) (widest a h))
+-- a numeral in the range of the slot that ends at the place i
+pub sees-number : (l : List ℕ) (slot a i : ℕ) (s : Seen) → inSlot slot a ≡ true → i ≤ length l → s ≡ seen a (drop i l) → Sees l (record { number = a; end = i }) (ranged slot s)
+sees-number l slot a i s h b e = sees l (record { number = a; end = i }) (ranged slot s) b (ap (ranged slot) e ∙ ranged-yes slot a (drop i l) h)
 
 -- A slot at a place.
 
@@ -198,73 +178,6 @@ module _ (slot : ℕ) (l : List ℕ) (at : ℕ) where
       unfolding numeralAt
       number-other (inl a) = number-here ∙ simp (ne-eqb (getD l at 0) 48 (λ p. omega arith), digit-below (getD l at 0) a)
       number-other (inr a) = number-here ∙ simp (ne-eqb (getD l at 0) 48 (λ p. omega arith), digit-above (getD l at 0) a)
-
--- A name, of one or two digits.
-
-name-yes : (n : ℕ) (m : List ℕ) → n ≤ 63 → ranged 67 (seen n m) ≡ seen n m
-unfolding inSlot
-name-yes n m h = ranged-yes 67 n m (le-leb n 63 h)
-
-name-large : (s : Seen) → 63 < value s → ranged 67 s ≡ unseen
-unfolding inSlot
-name-large unseen h = refl
-name-large (seen n m) h = ranged-no 67 n m (lt-leb n 63 h)
-
--- the number of the digits at at and behind it
-abbrev pub two : List ℕ → ℕ → ℕ
-two l at = (getD l at 0 - 48) * 10 + (getD l (at + 1) 0 - 48)
-
-pub name-none : (l : List ℕ) (at : ℕ) → isDigit (getD l at 0) ≡ false → slotAt 67 (place l at) ≡ unseen
-name-none l at e = go (leb (at + 1) (length l)) refl
-  where
-    other : (getD l at 0 < 48) ⊎ (57 < getD l at 0)
-    other = by (leb 48 (getD l at 0)) (leb (getD l at 0) 57) refl refl
-      where
-        by : (x y : Bool) → leb 48 (getD l at 0) ≡ x → leb (getD l at 0) 57 ≡ y → (getD l at 0 < 48) ⊎ (57 < getD l at 0)
-        by false y p q = inl (leb-false 48 (getD l at 0) p)
-        by true false p q = inr (leb-false (getD l at 0) 57 q)
-        by true true p q = apart (sym e ∙ digit-yes (getD l at 0) (leb-true 48 (getD l at 0) p) (leb-true (getD l at 0) 57 q))
-
-    go : (t : Bool) → leb (at + 1) (length l) ≡ t → slotAt 67 (place l at) ≡ unseen
-    go true q = number-other 67 l at (λ p. omega arith) (omega (arith, leb-true (at + 1) (length l) q)) other
-    go false q = number-end 67 l at (λ p. omega arith) (omega (arith, leb-false (at + 1) (length l) q))
-
-module _ (l : List ℕ) (at : ℕ) (d : isDigit (getD l at 0) ≡ true) where
-  pub name-one : (isDigit (getD l (at + 1) 0) ≡ false) ⊎ (getD l at 0 - 48 ≡ 0) → slotAt 67 (place l at) ≡ seen (getD l at 0 - 48) (drop (at + 1) l)
-  name-one w = go (eqb (getD l at 0) 48) refl w
-    where
-      f : (48 ≤ getD l at 0) × (getD l at 0 ≤ 57)
-      f = digit-from (getD l at 0) d
-
-      go : (z : Bool) → eqb (getD l at 0) 48 ≡ z → (isDigit (getD l (at + 1) 0) ≡ false) ⊎ (getD l at 0 - 48 ≡ 0) → slotAt 67 (place l at) ≡ seen (getD l at 0 - 48) (drop (at + 1) l)
-      go true e w =
-          let z = eqb-true (getD l at 0) 48 e in
-          let o : 0 ≡ getD l at 0 - 48 = omega arith in
-          number-zero 67 l at (λ p. omega arith) (digit-inside l at d) z ∙ name-yes 0 (drop (at + 1) l) (omega arith) ∙ ap (λ (x : ℕ). seen x (drop (at + 1) l)) o
-      go false e (inl w) =
-          number-lead 67 l at (λ p. omega arith) (digit-inside l at d) (omega (arith, f, eqb-false (getD l at 0) 48 e)) (f .1)
-          ∙ ap (ranged 67) (digits-stop l (at + 1) (getD l at 0 - 48) w) ∙ name-yes (getD l at 0 - 48) (drop (at + 1) l) (omega (arith, f))
-      go false e (inr w) = absurd (omega (arith, f, eqb-false (getD l at 0) 48 e))
-
-  module _ (lead : (getD l at 0 - 48 ≡ 0 → ⊥)) (d′ : isDigit (getD l (at + 1) 0) ≡ true) where
-    two-digits : slotAt 67 (place l at) ≡ ranged 67 (digits (two l at) (drop (at + 1 + 1) l))
-    two-digits =
-        let f = digit-from (getD l at 0) d in
-        number-lead 67 l at (λ p. omega arith) (digit-inside l at d) (omega arith) (f .1)
-        ∙ ap (ranged 67) (digits-step l (at + 1) (digit-inside l (at + 1) d′) (getD l at 0 - 48) d′)
-
-    pub name-two : isDigit (getD l (at + 2) 0) ≡ false → two l at ≤ 63 → slotAt 67 (place l at) ≡ seen (two l at) (drop (at + 2) l)
-    name-two e h =
-        let s : at + 1 + 1 ≡ at + 2 = omega arith in
-        two-digits ∙ ap (λ (k : ℕ). ranged 67 (digits (two l at) (drop k l))) s ∙ ap (ranged 67) (digits-stop l (at + 2) (two l at) e) ∙ name-yes (two l at) (drop (at + 2) l) h
-
-    pub name-not : (isDigit (getD l (at + 2) 0) ≡ true) ⊎ (63 < two l at) → slotAt 67 (place l at) ≡ unseen
-    name-not (inr h) = two-digits ∙ name-large (digits (two l at) (drop (at + 1 + 1) l)) (omega (arith, digits-least (drop (at + 1 + 1) l) (two l at)))
-    name-not (inl e) =
-        let s : at + 1 + 1 ≡ at + 2 = omega arith in
-        let n = two l at * 10 + (getD l (at + 2) 0 - 48) in
-        two-digits ∙ ap (λ (k : ℕ). ranged 67 (digits (two l at) (drop k l))) s ∙ ap (ranged 67) (digits-step l (at + 2) (digit-inside l (at + 2) e) (two l at) e)
-        ∙ name-large (digits n (drop (at + 2 + 1) l)) (omega (arith, digits-least (drop (at + 2 + 1) l) n))
 
 -- Names.
 
@@ -307,15 +220,6 @@ unfolding namesFrom namesAt
 names-out k set none h = refl
 names-out k set (some l) h = ap (λ (n : ℕ). namesAt n set l) h
 
-pub names-lost : (k set : ℕ) (l : List ℕ) (i : ℕ) → length l < i → namesFrom k set (place l i) ≡ unseen
-unfolding namesFrom
-names-lost k set l i h = ap (namesFrom k set) (place-out l i h)
-
-names-on : (k : ℕ) (l : List ℕ) (x : Slot) (t : Seen) → Sees l x t → andThen t (namesAt k) ≡ namesFrom k (x .number) (place l (x .end))
-unfolding namesFrom
-names-on k l x unseen p = sym (ap (namesFrom k (x .number)) (p .end))
-names-on k l x (seen n m) p = sym (ap (namesFrom k (x .number)) (p .end) ∙ ap (λ (v : ℕ). namesAt k v m) (p .number))
-
 module _ (k set : ℕ) (l : List ℕ) (i : ℕ) (hk : 0 < k) where
   fuel : k ≡ suc (k - 1)
   fuel = omega arith
@@ -343,9 +247,16 @@ module _ (k set : ℕ) (l : List ℕ) (i : ℕ) (hk : 0 < k) where
           misses l (record { number = set; end = i }) s (z b) b (sym e ∙ ap (namesFrom k set) (place-out l i b))
 
   -- a name that follows joins the set
-  pub names-next : (x : Slot) → i < length l → getD l i 0 ≡ 32 → Sees l x (joined set (slotAt 67 (place l (i + 1)))) → namesFrom k set (place l i) ≡ namesFrom (k - 1) (x .number) (place l (x .end))
-  unfolding namesAt slotAt
-  names-next x h e p =
-      names-at h ∙ simp (eq-eqb (getD l i 0) 32 e)
-      (ap (λ (r : Rest). andThen (joined set (slotAt 67 r)) (namesAt (k - 1))) (sym (place-in l (i + 1) (omega arith)))
-      ∙ names-on (k - 1) l x (joined set (slotAt 67 (place l (i + 1)))) p)
+  module _ (h : i < length l) (e : getD l i 0 ≡ 32) where
+    names-name : namesFrom k set (place l i) ≡ andThen (joined set (slotAt 67 (place l (i + 1)))) (namesAt (k - 1))
+    unfolding namesAt slotAt
+    names-name =
+        names-at h ∙ simp (eq-eqb (getD l i 0) 32 e)
+        (ap (λ (r : Rest). andThen (joined set (slotAt 67 r)) (namesAt (k - 1))) (sym (place-in l (i + 1) (omega arith))))
+
+    pub names-bad : joined set (slotAt 67 (place l (i + 1))) ≡ unseen → namesFrom k set (place l i) ≡ unseen
+    names-bad q = names-name ∙ ap (λ (s : Seen). andThen s (namesAt (k - 1))) q
+
+    pub names-next : (n j : ℕ) → j ≤ length l → joined set (slotAt 67 (place l (i + 1))) ≡ seen n (drop j l) → namesFrom k set (place l i) ≡ namesFrom (k - 1) n (place l j)
+    unfolding namesFrom
+    names-next n j b q = names-name ∙ ap (λ (s : Seen). andThen s (namesAt (k - 1))) q ∙ sym (ap (namesFrom (k - 1) n) (place-in l j b))

@@ -2,7 +2,7 @@
 use Prim.Native.Nat.{ℕ, zero, suc}
 use Prim.Native.Char.{code}
 use Prim.Native.String.{String, [] as []ˢ, _∷_ as _∷ˢ_}
-use mathlib.Core.Bool.{Bool, true, cond, _&&_}
+use mathlib.Core.Bool.{Bool, true, cond, not, _&&_, _||_}
 use mathlib.Core.List.{List, [], _∷_, _++_}
 use lib.Dec.{leb, eqb}
 use lib.ListN.{getD, drop}
@@ -48,13 +48,13 @@ numbers (Tally campaign plays turns age named) = campaign ∷ plays ∷ turns �
 abbrev pub isSlot : ℕ → Bool
 isSlot b = leb 65 b && leb b 90
 
--- the range of each slot: N to 4294967295, C 0 to 63, R 1 to 18, M and S 64 bits
+-- the greatest number in each slot: N 4294967295, C 63, R 18, M and S of 64 bits
+abbrev pub slotMax : ℕ → ℕ
+slotMax slot = cond (eqb slot 78) 4294967295 (cond (eqb slot 67) 63 (cond (eqb slot 82) 18 18446744073709551615))
+
+-- the range of each slot: up to its greatest number, and R from 1
 unfoldable pub inSlot : ℕ → ℕ → Bool
-inSlot slot n =
-    cond (eqb slot 78) (leb n 4294967295)
-    (cond (eqb slot 67) (leb n 63)
-    (cond (eqb slot 82) (leb 1 n && leb n 18)
-    (leb n 18446744073709551615)))
+inSlot slot n = (not (eqb slot 82) || leb 1 n) && leb n (slotMax slot)
 
 -- the names of the set's members below n, rising, with a space before each
 unfoldable pub names : ℕ → ℕ → List ℕ

@@ -2,3 +2,4 @@ pub mod Numeral
 pub mod Form
 pub mod Reading
 pub mod Place
+pub mod OneText

@@ -1,4 +1,4 @@
--- What reading a line answers: the record whose text it is, 16 or 17. Each form is tried in turn; proofs/Reading shows that this is the inverse of `text`.
+-- What reading a line answers: the record whose text it is, 16 or 17. Each form is tried in turn; OneText says that this is the inverse of `text`.
 use Prim.Native.Nat.{ℕ, zero, suc, _+_, _*_, _-_, _^_}
 use mathlib.Core.Bool.{Bool, true, false, cond, _&&_}
 use mathlib.Core.List.{List, [], _∷_}

@@ -1,12 +1,11 @@
 // Bracket lines: the records, and the reader of one line.
 ghost use mathlib.Core.Path.{_≡_};
-ghost use mathlib.Core.Bool.{true, false};
-ghost use mathlib.Core.List.{List};
-ghost use Prim.Native.Nat.{ℕ, _+_, _*_, _<_, _≤_, _^_};
-ghost use lib.Dec.{ltb};
+ghost use mathlib.Core.Bool.{true};
+ghost use Prim.Native.Nat.{_+_, _*_, _<_, _≤_};
+ghost use lib.Dec.{leb};
 ghost use lib.ListN.{length, drop, getD};
-ghost use Rattle.lines.specs.Form.{inSlot};
-ghost use Rattle.lines.specs.Reading.{Seen, isDigit, digits, ranged, joined, slotAt, endedOr, heldOr, reading};
+ghost use Rattle.lines.specs.Form.{slotMax, inSlot};
+ghost use Rattle.lines.specs.Reading.{isDigit, digits, ranged, slotAt, endedOr, heldOr, reading};
 ghost use Rattle.lines.specs.Place.{place, stripped, Sees};
 
 // One line: an input line (the first five) or an output line. A view is a 64-bit set, bit i standing for campaign i.
@@ -106,24 +105,43 @@ fn wide(b: u8) -> u64
     b as u64
 }
 
-// Whether n * 10 + digit fits 64 bits.
-fn has_room(n: u64, digit: u64) -> bool
-    requires { ⌜ digit < 10 ⌝ }
-    ensures { λ r. ⌜ r ≡ ltb (n * 10 + digit) (2 ^ 64) ⌝ }
+// The greatest number in a slot: N, C, R, and M for all of 64 bits.
+fn slot_max(slot: u8) -> u64
+    ensures { λ r. ⌜ r ≡ slotMax slot ⌝ }
 {
-    if n < 1844674407370955161 {
-        return true;
+    match slot {
+        b'N' => 4294967295,
+        b'C' => 63,
+        b'R' => 18,
+        _ => 18446744073709551615,
     }
-    if n == 1844674407370955161 {
-        return digit < 6;
-    }
-    false
 }
 
-// The numeral whose first digits, of the value first, end at the place at.
-fn more_digits(s: &[u8], at: usize, first: u64) -> Slot
-    requires { ⌜ (length (now s) ≤ 200) × (at ≤ length (now s)) ⌝ }
-    ensures { λ r. ⌜ Sees (now (s .entry)) r (ranged 77 (digits first (drop at (now (s .entry))))) ⌝ }
+// Whether the number is in the range of the slot. A refusal number is not 0.
+pub fn in_slot(slot: u8, number: u64) -> bool
+    ensures { λ r. ⌜ r ≡ inSlot slot number ⌝ }
+{
+    ((slot != b'R') | (1 <= number)) & (number <= slot_max(slot))
+}
+
+// Whether n * 10 + digit is at most max. All but the widest slots need one test.
+fn has_room(n: u64, digit: u64, max: u64) -> bool
+    requires { ⌜ (n ≤ max) × (digit < 10) ⌝ }
+    ensures { λ r. ⌜ r ≡ leb (n * 10 + digit) max ⌝ }
+{
+    if max <= 4294967295 {
+        return n * 10 + digit <= max;
+    }
+    if n < max / 10 {
+        return true;
+    }
+    (n == max / 10) & (digit <= max % 10)
+}
+
+// The numeral whose first digits, of the value first, end at the place at. A number that leaves the range ends the loop by a jump: the place behind the numeral waits for no number.
+fn more_digits(s: &[u8], at: usize, first: u64, slot: u8) -> Slot
+    requires { ⌜ (length (now s) ≤ 200) × (at ≤ length (now s)) × (1 ≤ first) × (first ≤ slotMax slot) ⌝ }
+    ensures { λ r. ⌜ Sees (now (s .entry)) r (ranged slot (digits first (drop at (now (s .entry))))) ⌝ }
 {
     let mut number = first;
     let mut i = at;
@@ -133,35 +151,13 @@ fn more_digits(s: &[u8], at: usize, first: u64) -> Slot
             return Slot { number, end: i };
         }
         let digit = wide(b - 48);
-        if !has_room(number, digit) {
+        if !has_room(number, digit, slot_max(slot)) {
             return missing();
         }
         number = number * 10 + digit;
         i += 1;
     }
     Slot { number, end: i }
-}
-
-// Whether the number is in the range of the slot: N, C, R, and M for all of 64 bits.
-pub fn in_slot(slot: u8, number: u64) -> bool
-    ensures { λ r. ⌜ r ≡ inSlot slot number ⌝ }
-{
-    match slot {
-        b'N' => number <= 4294967295,
-        b'C' => number <= 63,
-        b'R' => (1 <= number) & (number <= 18),
-        _ => true,
-    }
-}
-
-// x, where its number is in the range of the slot.
-fn kept(x: Slot, slot: u8) -> Slot
-    ensures { λ r. ⌜ ((l : List ℕ) (t : Seen) → length l ≤ 200 → Sees l x t → Sees l r (ranged slot t)) ⌝ }
-{
-    if in_slot(slot, x.number) {
-        return x;
-    }
-    missing()
 }
 
 // The numeral at the place at, where it is in the range of the slot.
@@ -174,14 +170,16 @@ fn number(s: &[u8], at: usize, slot: u8) -> Slot
     }
     let b = s[at];
     match b {
-        48 => kept(
+        48 => {
+            if slot == b'R' {
+                return missing();
+            }
             Slot {
                 number: 0,
                 end: at + 1,
-            },
-            slot,
-        ),
-        49..=57 => kept(more_digits(s, at + 1, wide(b - 48)), slot),
+            }
+        }
+        49..=57 => more_digits(s, at + 1, wide(b - 48), slot),
         _ => missing(),
     }
 }
@@ -191,52 +189,6 @@ fn byte(s: &[u8], i: usize) -> u8
     ensures { λ r. ⌜ r ≡ getD (now (s .entry)) i 0 ⌝ }
 {
     if i < s.len() { s[i] } else { 0 }
-}
-
-// A name: a numeral from 0 to 63 at the place at.
-fn name(s: &[u8], at: usize) -> Slot
-    requires { ⌜ length (now s) ≤ 200 ⌝ }
-    ensures { λ r. ⌜ Sees (now (s .entry)) r (slotAt 67 (place (now (s .entry)) at)) ⌝ }
-{
-    let a = byte(s, at);
-    if !is_digit(a) {
-        return missing();
-    }
-    let first = wide(a - 48);
-    let b = byte(s, at + 1);
-    if !is_digit(b) | (first == 0) {
-        return Slot {
-            number: first,
-            end: at + 1,
-        };
-    }
-    let n = first * 10 + wide(b - 48);
-    if is_digit(byte(s, at + 2)) | (n > 63) {
-        return missing();
-    }
-    Slot {
-        number: n,
-        end: at + 2,
-    }
-}
-
-// The set with the name at the place at, which is above all of its members.
-fn join_name(s: &[u8], at: usize, set: u64) -> Slot
-    requires { ⌜ length (now s) ≤ 200 ⌝ }
-    ensures { λ r. ⌜ Sees (now (s .entry)) r (joined set (slotAt 67 (place (now (s .entry)) at))) ⌝ }
-{
-    let name = name(s, at);
-    if name.end > s.len() {
-        return missing();
-    }
-    let bit = 1 << name.number;
-    if bit <= set {
-        return missing();
-    }
-    Slot {
-        number: set + bit,
-        end: name.end,
-    }
 }
 
 // The names of a view, rising strictly, with a space before each.
@@ -254,12 +206,16 @@ fn names(s: &[u8], at: usize) -> Slot
                 end: i,
             };
         }
-        let next = join_name(s, i + 1, set);
-        set = next.number;
-        i = next.end;
-        if i > s.len() {
+        let name = number(s, i + 1, b'C');
+        if name.end > s.len() {
             return missing();
         }
+        let bit = 1 << name.number;
+        if bit <= set {
+            return missing();
+        }
+        set += bit;
+        i = name.end;
         left -= 1;
     }
     missing()
@@ -322,14 +278,6 @@ fn read_campaign(s: &[u8]) -> Reading
     )
 }
 
-fn read_view(s: &[u8]) -> Reading
-    requires { ⌜ length (now s) ≤ 200 ⌝ }
-    ensures { λ r. ⌜ r ≡ heldOr (Reading.Refusal 17) (Record.View 0) (now (s .entry)) ⌝ }
-{
-    let set = field(s, 0, b"(view", b'S');
-    ended(s, set.end, b")", Record::View(set.number))
-}
-
 fn read_play(s: &[u8]) -> Reading
     requires { ⌜ length (now s) ≤ 200 ⌝ }
     ensures { λ r. ⌜ r ≡ heldOr (Reading.Refusal 17) (Record.Play 0 0) (now (s .entry)) ⌝ }
@@ -345,14 +293,6 @@ fn read_play(s: &[u8]) -> Reading
             paid: paid.number,
         },
     )
-}
-
-fn read_refused(s: &[u8]) -> Reading
-    requires { ⌜ length (now s) ≤ 200 ⌝ }
-    ensures { λ r. ⌜ r ≡ heldOr (Reading.Refusal 17) (Record.Refused 0) (now (s .entry)) ⌝ }
-{
-    let number = field(s, 0, b"(refused ", b'R');
-    ended(s, number.end, b")", Record::Refused(number.number))
 }
 
 fn read_closed(s: &[u8]) -> Reading
@@ -405,7 +345,10 @@ pub fn read_line(s: &[u8]) -> Reading
         return Reading::Refusal(16);
     }
     match byte(s, 1) {
-        b'v' => read_view(s),
+        b'v' => {
+            let set = field(s, 0, b"(view", b'S');
+            ended(s, set.end, b")", Record::View(set.number))
+        }
         b'p' => match byte(s, 4) {
             b'n' => read_plan(s),
             _ => read_play(s),
@@ -418,7 +361,10 @@ pub fn read_line(s: &[u8]) -> Reading
         b's' => ended(s, 0, b"(start)", Record::Start),
         b'o' => ended(s, 0, b"(ok)", Record::Done),
         b'n' => ended(s, 0, b"(nobody)", Record::Nobody),
-        b'r' => read_refused(s),
+        b'r' => {
+            let number = field(s, 0, b"(refused ", b'R');
+            ended(s, number.end, b")", Record::Refused(number.number))
+        }
         _ => read_tally(s),
     }
 }

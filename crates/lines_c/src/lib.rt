@@ -3,59 +3,40 @@ use lines::Reading;
 use lines::Record;
 use writer::Writing;
 
-fn store(numbers: &mut [u64; 5], a: u64, b: u64, c: u64, d: u64, e: u64) {
+// Stores a record's numbers, and gives the number of its form.
+fn store(numbers: &mut [u64; 5], form: u64, a: u64, b: u64, c: u64, d: u64, e: u64) -> u64 {
     numbers[0] = a;
     numbers[1] = b;
     numbers[2] = c;
     numbers[3] = d;
     numbers[4] = e;
+    form
 }
 
 // The form's number, with the record's numbers stored.
 fn take_apart(r: Record, numbers: &mut [u64; 5]) -> u64 {
     match r {
-        Record::Plan { depth, width } => {
-            store(numbers, depth, width, 0, 0, 0);
-            0
-        }
-        Record::Campaign { price, budget } => {
-            store(numbers, price, budget, 0, 0, 0);
-            1
-        }
+        Record::Plan { depth, width } => store(numbers, 0, depth, width, 0, 0, 0),
+        Record::Campaign { price, budget } => store(numbers, 1, price, budget, 0, 0, 0),
         Record::Start => 2,
-        Record::View(set) => {
-            store(numbers, set, 0, 0, 0, 0);
-            3
-        }
+        Record::View(set) => store(numbers, 3, set, 0, 0, 0, 0),
         Record::Close => 4,
         Record::Done => 5,
-        Record::Play { campaign, paid } => {
-            store(numbers, campaign, paid, 0, 0, 0);
-            6
-        }
+        Record::Play { campaign, paid } => store(numbers, 6, campaign, paid, 0, 0, 0),
         Record::Nobody => 7,
-        Record::Refused(number) => {
-            store(numbers, number, 0, 0, 0, 0);
-            8
-        }
+        Record::Refused(number) => store(numbers, 8, number, 0, 0, 0, 0),
         Record::Closed {
             takings,
             claim,
             full,
-        } => {
-            store(numbers, takings, claim, full, 0, 0);
-            9
-        }
+        } => store(numbers, 9, takings, claim, full, 0, 0),
         Record::Tally {
             campaign,
             plays,
             turns,
             age,
             named,
-        } => {
-            store(numbers, campaign, plays, turns, age, named);
-            10
-        }
+        } => store(numbers, 10, campaign, plays, turns, age, named),
     }
 }
 

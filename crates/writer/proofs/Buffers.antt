@@ -1,18 +1,17 @@
 -- Laws of bytes laid over a buffer, and of a run of them.
-use mathlib.Core.Path.{_≡_, refl, sym, ap, _∙_}
+use mathlib.Core.Path.{_≡_, refl, sym, ap, _∙_, subst}
 use mathlib.Core.Bool.{Bool, true, false, cond}
 use mathlib.Core.List.{List, [], _∷_, _++_, append-assoc, append-nil}
 use Prim.Native.Nat.{ℕ, zero, suc, _+_, _-_, _/_, _%_, _^_, _≤_, _<_}
 use native.Mathlib.Omega.{arith}
 use native.Mathlib.Numerals.{add-one}
 use lib.Dec.{ltb}
-use lib.ListN.{length, drop, take, getD, set, length-append}
+use lib.ListN.{length, drop, take, getD, set, length-set, length-append}
 use lib.Seq.{take-suc, length-take-le}
-use borrow.Author.Tests.{ltb-true, ltb-false}
 use Rattle.lines.specs.Numeral.{numeralIn, numeral}
 use Rattle.lines.proofs.Numerals.{numeral-more}
 use Rattle.writer.specs.Buffer.{over, Put}
-use Rattle.writer.proofs.Lengths.{len-one, len-more, name-one}
+use Rattle.writer.proofs.Lengths.{len-more, name-one}
 
 pub over-none : (d : List ℕ) (at : ℕ) → over d at [] ≡ d
 unfolding over
@@ -67,33 +66,47 @@ over-next d at w i h =
     ∙ over-then d at (take i w) (getD w i 0 ∷ [])
     ∙ ap (over d at) (sym (ap (λ (k : ℕ). take k w) (add-one i) ∙ take-suc w i 0 h))
 
--- a run of puts: what it has laid over o so far
-pub record Run (o : List ℕ) (from : ℕ) (out : List ℕ) (at : ℕ) (w : List ℕ) : Type 0 where
-  pub place : at ≡ from + length w
-  pub here : out ≡ over o from w
+-- one under the other
+over-under : (d : List ℕ) (at : ℕ) (u w : List ℕ) → over (over d (at + length u) w) at u ≡ over d at (u ++ w)
+unfolding over
+over-under [] at u w = refl
+over-under (x ∷ d) zero [] w = over-none (over (x ∷ d) 0 w) 0
+over-under (x ∷ d) zero (b ∷ u) w =
+    let e : 0 + suc (length u) ≡ suc (0 + length u) = omega arith in
+    ap (λ (k : ℕ). over (over (x ∷ d) k w) 0 (b ∷ u)) e ∙ ap (λ (l : List ℕ). b ∷ l) (over-under d zero u w)
+over-under (x ∷ d) (suc at) u w =
+    let e : suc at + length u ≡ suc (at + length u) = omega arith in
+    ap (λ (k : ℕ). over (over (x ∷ d) k w) (suc at) u) e ∙ ap (λ (l : List ℕ). x ∷ l) (over-under d at u w)
 
-pub start : (o : List ℕ) (from : ℕ) → Run o from o from []
-start o from = record { place = omega arith; here = sym (over-none o from) }
+-- A run of puts.
 
-pub then : {o : List ℕ} {from : ℕ} {out : List ℕ} {at : ℕ} {w e : List ℕ} {to : ℕ} {u : List ℕ} → Run o from out at w → Put out e at to u → Run o from e to (w ++ u)
-then {o} {from} {out} {at} {w} {e} {to} {u} r p = record {
-  place = omega (arith, r .place, p .next, length-append w u);
-  here = p .here ∙ ap (λ (x : List ℕ). over x at u) (r .here) ∙ ap (λ (k : ℕ). over (over o from w) k u) (r .place) ∙ over-then o from w u;
+pub put-none : (o : List ℕ) (at : ℕ) → Put o o at at []
+put-none o at = record { next = omega arith; here = sym (over-none o at); same = refl }
+
+-- u behind w
+pub then : {o m e : List ℕ} {at mid to : ℕ} {w u : List ℕ} → Put o m at mid w → Put m e mid to u → Put o e at to (w ++ u)
+then {o} {m} {e} {at} {mid} {to} {w} {u} p q = record {
+  next = omega (arith, p .next, q .next, length-append w u);
+  here = q .here ∙ ap (λ (x : List ℕ). over x mid u) (p .here) ∙ ap (λ (k : ℕ). over (over o at w) k u) (p .next) ∙ over-then o at w u;
+  same = q .same ∙ p .same;
 }
 
-pub ends : {o : List ℕ} {from : ℕ} {e : List ℕ} {to : ℕ} {w goal : List ℕ} → Run o from e to w → w ≡ goal → Put o e from to goal
-ends {o} {from} {e} {to} {w} {goal} r q = record {
-  next = r .place ∙ ap (λ (x : List ℕ). from + length x) q;
-  here = r .here ∙ ap (over o from) q;
-  same = ap length (r .here) ∙ over-length o from w;
+-- u before w
+pub before : {o m e : List ℕ} {at mid to : ℕ} {w u : List ℕ} → Put o m mid to w → Put m e at mid u → Put o e at to (u ++ w)
+before {o} {m} {e} {at} {mid} {to} {w} {u} p q = record {
+  next = omega (arith, p .next, q .next, length-append u w);
+  here = q .here ∙ ap (λ (x : List ℕ). over x at u) (p .here) ∙ ap (λ (k : ℕ). over (over o k w) at u) (q .next) ∙ over-under o at u w;
+  same = q .same ∙ p .same;
 }
 
 -- one byte behind a word
 pub over-snoc : (d : List ℕ) (at : ℕ) (w : List ℕ) (b : ℕ) → set (over d at w) (at + length w) b ≡ over d at (w ++ (b ∷ []))
 over-snoc d at w b = over-set (over d at w) (at + length w) b ∙ over-then d at w (b ∷ [])
 
+-- Numerals.
+
 -- a numeral has a digit, and a second one from 10 on
-numeral-some : (n : ℕ) → 0 < length (numeral n)
+pub numeral-some : (n : ℕ) → 0 < length (numeral n)
 unfolding numeral numeralIn
 numeral-some n = go (ltb n 10)
   where
@@ -101,62 +114,49 @@ numeral-some n = go (ltb n 10)
     go true = omega arith
     go false = rw length-append (omega arith)
 
-at-least : (n : ℕ) → 2 ≤ length (numeral n) → 10 ≤ n
-at-least n h = go (ltb n 10) refl
-  where
-    go : (t : Bool) → ltb n 10 ≡ t → 10 ≤ n
-    go true e = absurd (omega (arith, len-one n (ltb-true n 10 e)))
-    go false e = ltb-false n 10 e
+pub numeral-two : (n : ℕ) → 10 ≤ n → n < 2 ^ 64 → 1 < length (numeral n)
+numeral-two n h b = omega (arith, len-more n h b, numeral-some (n / 10))
 
-below : (n : ℕ) → n < 2 ^ 64 → length (numeral n) ≡ 1 → n < 10
-below n b h = go (ltb n 10) refl
-  where
-    go : (t : Bool) → ltb n 10 ≡ t → n < 10
-    go true e = ltb-true n 10 e
-    go false e = absurd (omega (arith, len-more n (ltb-false n 10 e) b, numeral-some (n / 10)))
-
--- A numeral from its last digit to its first: the digits behind the first i stand, and those of rest are to come.
-pub record Tail (o out : List ℕ) (at n i rest : ℕ) : Type 0 where
+-- A numeral from its last digit to its first: the digits from the place i on stand, and those of rest are to come.
+pub record Tail (o out : List ℕ) (to n i rest : ℕ) : Type 0 where
   pub tail : List ℕ
-  pub here : out ≡ over o (at + i) tail
-  pub more : 0 < i → (numeral n ≡ numeral rest ++ tail) × (i ≡ length (numeral rest))
-  pub all : i ≡ 0 → numeral n ≡ tail
+  pub stands : Put o out i to tail
+  pub whole : numeral n ≡ numeral rest ++ tail
 
-pub tail-start : (o : List ℕ) (at n i : ℕ) → i ≡ length (numeral n) → Tail o o at n i n
-tail-start o at n i e = record {
-  tail = [];
-  here = sym (over-none o (at + i));
-  more = λ p. (sym (append-nil (numeral n)), e);
-  all = λ p. absurd (omega (arith, e, numeral-some n));
-}
+pub tail-start : (o : List ℕ) (to n : ℕ) → Tail o o to n to n
+tail-start o to n = record { tail = []; stands = put-none o to; whole = sym (append-nil (numeral n)) }
 
-pub tail-step : (o out : List ℕ) (at n i rest : ℕ) → at + i ≤ length o → 0 < i → rest < 2 ^ 64 → Tail o out at n i rest
-    → Tail o (set out (at + (i - 1)) (48 + rest % 10)) at n (i - 1) (rest / 10)
-tail-step o out at n i rest b h small t =
-    let j = i - 1 in
-    let d = 48 + rest % 10 in
-    let e : at + i ≡ suc (at + j) = omega arith in
-    let m = t .more h in
-    record {
-      tail = d ∷ t .tail;
-      here = ap (λ (x : List ℕ). set x (at + j) d) (t .here ∙ ap (λ (k : ℕ). over o k (t .tail)) e) ∙ over-before o (at + j) d (t .tail) (omega arith);
-      more = λ p.
-          let ten : 10 ≤ rest = at-least rest (omega (arith, m .1)) in (
-            m .0 ∙ ap (λ (x : List ℕ). x ++ t .tail) (numeral-more rest ten small) ∙ append-assoc (numeral (rest / 10)) (d ∷ []) (t .tail),
-            omega (arith, m .1, len-more rest ten small),
-          );
-      all = λ p.
-          let few : rest < 10 = below rest small (omega (arith, m .1)) in
-          m .0 ∙ ap (λ (x : List ℕ). x ++ t .tail) (name-one rest few);
-    }
+module _ {o out : List ℕ} {to n i rest : ℕ} (t : Tail o out to n i rest) where
+  pub tail-room : length (numeral n) ≤ to → length (numeral rest) ≤ i
+  tail-room h = omega (arith, t .stands .next, ap length (t .whole), length-append (numeral rest) (t .tail))
+
+  -- a digit in front
+  digit : (d : ℕ) → 0 < i → i ≤ length o → Put o (set out (i - 1) d) (i - 1) to (d ∷ t .tail)
+  digit d h b =
+      let e : i ≡ suc (i - 1) = omega arith in
+      let l : length (d ∷ t .tail) ≡ suc (length (t .tail)) = refl in
+      record {
+        next = omega (arith, t .stands .next, l);
+        here = ap (λ (x : List ℕ). set x (i - 1) d) (t .stands .here ∙ ap (λ (k : ℕ). over o k (t .tail)) e) ∙ over-before o (i - 1) d (t .tail) (omega arith);
+        same = length-set out (i - 1) d ∙ t .stands .same;
+      }
+
+  pub tail-step : 0 < i → i ≤ length o → 10 ≤ rest → rest < 2 ^ 64 → Tail o (set out (i - 1) (48 + rest % 10)) to n (i - 1) (rest / 10)
+  tail-step h b ten small = record {
+    tail = (48 + rest % 10) ∷ t .tail;
+    stands = digit (48 + rest % 10) h b;
+    whole = t .whole ∙ ap (λ (x : List ℕ). x ++ t .tail) (numeral-more rest ten small) ∙ append-assoc (numeral (rest / 10)) ((48 + rest % 10) ∷ []) (t .tail);
+  }
+
+  pub tail-end : 0 < i → i ≤ length o → rest < 10 → Put o (set out (i - 1) (48 + rest % 10)) (i - 1) to (numeral n)
+  tail-end h b few = subst (Put o (set out (i - 1) (48 + rest % 10)) (i - 1) to) (sym (t .whole ∙ ap (λ (x : List ℕ). x ++ t .tail) (name-one rest few))) (digit (48 + rest % 10) h b)
 
 -- two digits at a time
-pub tail-pair : (o out : List ℕ) (at n i rest : ℕ) → at + i ≤ length o → 1 < i → rest < 2 ^ 64 → Tail o out at n i rest
-    → Tail o (set (set out (at + (i - 2) + 1) (48 + rest % 100 % 10)) (at + (i - 2)) (48 + rest % 100 / 10)) at n (i - 2) (rest / 100)
-tail-pair o out at n i rest b h small t =
-    let one = tail-step o out at n i rest b (omega arith) small t in
-    let two = tail-step o (set out (at + (i - 1)) (48 + rest % 10)) at n (i - 1) (rest / 10) (omega arith) (omega arith) (omega arith) one in
-    let f₁ : at + (i - 2) + 1 ≡ at + (i - 1) = omega arith in
+pub tail-pair : {o out : List ℕ} {to n i rest : ℕ} → Tail o out to n i rest → 1 < i → i ≤ length o → 100 ≤ rest → rest < 2 ^ 64
+    → Tail o (set (set out (i - 2 + 1) (48 + rest % 100 % 10)) (i - 2) (48 + rest % 100 / 10)) to n (i - 2) (rest / 100)
+tail-pair {o} {out} {to} {n} {i} {rest} t h b many small =
+    let two = tail-step (tail-step t (omega arith) b (omega arith) small) (omega arith) (omega arith) (omega arith) (omega arith) in
+    let f₁ : i - 2 + 1 ≡ i - 1 = omega arith in
     let f₂ : rest % 100 % 10 ≡ rest % 10 = omega arith in
     let f₃ : rest % 100 / 10 ≡ rest / 10 % 10 = omega arith in
     let f₄ : rest / 100 ≡ rest / 10 / 10 = omega arith in

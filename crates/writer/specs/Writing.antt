@@ -23,3 +23,13 @@ writing r d = cond (eqb (question r d) 0) (Length (length (line r))) (Refusal (q
 -- the buffer afterwards: the line at its front and the later bytes as they were, or all as it was
 unfoldable pub written : Record → List ℕ → List ℕ
 written r d = cond (eqb (question r d) 0) (line r ++ drop (length (line r)) d) d
+
+-- the number of an answer: that of the question that failed, or 0 where the line was written
+abbrev pub number : Writing → ℕ
+number (Length n) = 0
+number (Refusal q) = q
+
+-- its values
+abbrev pub values : Writing → List ℕ
+values (Length n) = n ∷ []
+values (Refusal q) = q ∷ []

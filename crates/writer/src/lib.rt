@@ -116,39 +116,43 @@ fn size_of(r: Record) -> Size
     }
 }
 
-// The word at the place at.
-fn put(out: &mut [u8], at: usize, word: &[u8]) -> usize
-    requires { ⌜ at + length (now word) ≤ length (now out) ⌝ }
-    ensures { λ r. ⌜ Put (now (out .entry)) (now (out .exit)) at r (now (word .entry)) ⌝ }
+// A line is put from its last byte to its first: so come the digits of a numeral, and they need not be counted again. Each function is given the place where its bytes end, and gives the place where they begin.
+
+// The word that ends at the place to.
+fn put(out: &mut [u8], to: usize, word: &[u8]) -> usize
+    requires { ⌜ (length (now word) ≤ to) × (to ≤ length (now out)) ⌝ }
+    ensures { λ r. ⌜ Put (now (out .entry)) (now (out .exit)) r to (now (word .entry)) ⌝ }
 {
+    let at = to - word.len();
     let mut i = 0;
     while i < word.len() {
         out[at + i] = word[i];
         i += 1;
     }
-    at + i
+    at
 }
 
-// The numeral of n at the place at, from its last digits to its first, two at a time.
-fn put_number(out: &mut [u8], at: usize, n: u64) -> usize
-    requires { ⌜ at + length (numeral n) ≤ length (now out) ⌝ }
-    ensures { λ r. ⌜ Put (now (out .entry)) (now (out .exit)) at r (numeral n) ⌝ }
+// The numeral of n that ends at the place to, two digits at a time.
+fn put_number(out: &mut [u8], to: usize, n: u64) -> usize
+    requires { ⌜ (length (numeral n) ≤ to) × (to ≤ length (now out)) ⌝ }
+    ensures { λ r. ⌜ Put (now (out .entry)) (now (out .exit)) r to (numeral n) ⌝ }
 {
-    let len = places(n);
-    let mut i = len;
+    let mut i = to;
     let mut rest = n;
-    while i > 1 {
+    while rest > 99 {
         i -= 2;
         let pair = rest % 100;
-        out[at + i + 1] = (48 + pair % 10) as u8;
-        out[at + i] = (48 + pair / 10) as u8;
+        out[i + 1] = (48 + pair % 10) as u8;
+        out[i] = (48 + pair / 10) as u8;
         rest /= 100;
     }
-    if i == 0 {
-        return at + len;
+    i -= 1;
+    out[i] = (48 + rest % 10) as u8;
+    if rest < 10 {
+        return i;
     }
-    out[at] = (48 + rest % 10) as u8;
-    at + len
+    out[i - 1] = (48 + rest / 10) as u8;
+    i - 1
 }
 
 // A name of one or two digits at the place at, with a space before it.
@@ -180,131 +184,133 @@ fn put_names(out: &mut [u8], at: usize, set: u64) -> usize
     to
 }
 
-fn put_slot(out: &mut [u8], at: usize, slot: u8, n: u64) -> usize
-    requires { ⌜ at + length (slotText slot n) ≤ length (now out) ⌝ }
-    ensures { λ r. ⌜ Put (now (out .entry)) (now (out .exit)) at r (slotText slot n) ⌝ }
+fn put_slot(out: &mut [u8], to: usize, slot: u8, n: u64) -> usize
+    requires { ⌜ (length (slotText slot n) ≤ to) × (to ≤ length (now out)) ⌝ }
+    ensures { λ r. ⌜ Put (now (out .entry)) (now (out .exit)) r to (slotText slot n) ⌝ }
 {
     if slot == b'S' {
-        return put_names(out, at, n);
+        let at = to - names_len(n);
+        put_names(out, at, n);
+        return at;
     }
-    put_number(out, at, n)
+    put_number(out, to, n)
 }
 
-fn put_plan(out: &mut [u8], depth: u64, width: u64) -> usize
-    requires { ⌜ length (slotText 78 depth) + length (slotText 78 width) + 25 ≤ length (now out) ⌝ }
-    ensures { λ r. ⌜ Put (now (out .entry)) (now (out .exit)) 0 r (line (Record.Plan depth width)) ⌝ }
+// The line of a form with one slot.
+fn put_one(out: &mut [u8], to: usize, word: &[u8], slot: u8, n: u64, end: &[u8]) -> usize
+    requires { ⌜ (length (now word) + length (slotText slot n) + length (now end) ≤ to) × (to ≤ length (now out)) ⌝ }
+    ensures { λ r. ⌜ Put (now (out .entry)) (now (out .exit)) r to (now (word .entry) ++ (slotText slot n ++ now (end .entry))) ⌝ }
 {
-    let at = put(out, 0, b"(plan (depth ");
-    let at = put_slot(out, at, b'N', depth);
-    let at = put(out, at, b") (width ");
-    let at = put_slot(out, at, b'N', width);
-    put(out, at, b"))\n")
+    let to = put(out, to, end);
+    let to = put_slot(out, to, slot, n);
+    put(out, to, word)
 }
 
-fn put_campaign(out: &mut [u8], price: u64, budget: u64) -> usize
-    requires { ⌜ length (slotText 78 price) + length (slotText 78 budget) + 30 ≤ length (now out) ⌝ }
-    ensures { λ r. ⌜ Put (now (out .entry)) (now (out .exit)) 0 r (line (Record.Campaign price budget)) ⌝ }
+fn put_plan(out: &mut [u8], to: usize, depth: u64, width: u64) -> usize
+    requires { ⌜ (length (slotText 78 depth) + length (slotText 78 width) + 25 ≤ to) × (to ≤ length (now out)) ⌝ }
+    ensures { λ r. ⌜ Put (now (out .entry)) (now (out .exit)) r to (line (Record.Plan depth width)) ⌝ }
 {
-    let at = put(out, 0, b"(campaign (price ");
-    let at = put_slot(out, at, b'N', price);
-    let at = put(out, at, b") (budget ");
-    let at = put_slot(out, at, b'N', budget);
-    put(out, at, b"))\n")
+    let to = put(out, to, b"))\n");
+    let to = put_slot(out, to, b'N', width);
+    let to = put(out, to, b") (width ");
+    let to = put_slot(out, to, b'N', depth);
+    put(out, to, b"(plan (depth ")
 }
 
-fn put_view(out: &mut [u8], set: u64) -> usize
-    requires { ⌜ length (slotText 83 set) + 7 ≤ length (now out) ⌝ }
-    ensures { λ r. ⌜ Put (now (out .entry)) (now (out .exit)) 0 r (line (Record.View set)) ⌝ }
+fn put_campaign(out: &mut [u8], to: usize, price: u64, budget: u64) -> usize
+    requires { ⌜ (length (slotText 78 price) + length (slotText 78 budget) + 30 ≤ to) × (to ≤ length (now out)) ⌝ }
+    ensures { λ r. ⌜ Put (now (out .entry)) (now (out .exit)) r to (line (Record.Campaign price budget)) ⌝ }
 {
-    let at = put(out, 0, b"(view");
-    let at = put_slot(out, at, b'S', set);
-    put(out, at, b")\n")
+    let to = put(out, to, b"))\n");
+    let to = put_slot(out, to, b'N', budget);
+    let to = put(out, to, b") (budget ");
+    let to = put_slot(out, to, b'N', price);
+    put(out, to, b"(campaign (price ")
 }
 
-fn put_play(out: &mut [u8], campaign: u64, paid: u64) -> usize
-    requires { ⌜ length (slotText 67 campaign) + length (slotText 78 paid) + 16 ≤ length (now out) ⌝ }
-    ensures { λ r. ⌜ Put (now (out .entry)) (now (out .exit)) 0 r (line (Record.Play campaign paid)) ⌝ }
+fn put_play(out: &mut [u8], to: usize, campaign: u64, paid: u64) -> usize
+    requires { ⌜ (length (slotText 67 campaign) + length (slotText 78 paid) + 16 ≤ to) × (to ≤ length (now out)) ⌝ }
+    ensures { λ r. ⌜ Put (now (out .entry)) (now (out .exit)) r to (line (Record.Play campaign paid)) ⌝ }
 {
-    let at = put(out, 0, b"(play ");
-    let at = put_slot(out, at, b'C', campaign);
-    let at = put(out, at, b" (paid ");
-    let at = put_slot(out, at, b'N', paid);
-    put(out, at, b"))\n")
+    let to = put(out, to, b"))\n");
+    let to = put_slot(out, to, b'N', paid);
+    let to = put(out, to, b" (paid ");
+    let to = put_slot(out, to, b'C', campaign);
+    put(out, to, b"(play ")
 }
 
-fn put_refused(out: &mut [u8], number: u64) -> usize
-    requires { ⌜ length (slotText 82 number) + 11 ≤ length (now out) ⌝ }
-    ensures { λ r. ⌜ Put (now (out .entry)) (now (out .exit)) 0 r (line (Record.Refused number)) ⌝ }
+fn put_closed(out: &mut [u8], to: usize, takings: u64, claim: u64, full: u64) -> usize
+    requires { ⌜ (length (slotText 77 takings) + length (slotText 77 claim) + length (slotText 77 full) + 37 ≤ to) × (to ≤ length (now out)) ⌝ }
+    ensures { λ r. ⌜ Put (now (out .entry)) (now (out .exit)) r to (line (Record.Closed takings claim full)) ⌝ }
 {
-    let at = put(out, 0, b"(refused ");
-    let at = put_slot(out, at, b'R', number);
-    put(out, at, b")\n")
-}
-
-fn put_closed(out: &mut [u8], takings: u64, claim: u64, full: u64) -> usize
-    requires { ⌜ length (slotText 77 takings) + length (slotText 77 claim) + length (slotText 77 full) + 37 ≤ length (now out) ⌝ }
-    ensures { λ r. ⌜ Put (now (out .entry)) (now (out .exit)) 0 r (line (Record.Closed takings claim full)) ⌝ }
-{
-    let at = put(out, 0, b"(closed (takings ");
-    let at = put_slot(out, at, b'M', takings);
-    let at = put(out, at, b") (claim ");
-    let at = put_slot(out, at, b'M', claim);
-    let at = put(out, at, b") (full ");
-    let at = put_slot(out, at, b'M', full);
-    put(out, at, b"))\n")
+    let to = put(out, to, b"))\n");
+    let to = put_slot(out, to, b'M', full);
+    let to = put(out, to, b") (full ");
+    let to = put_slot(out, to, b'M', claim);
+    let to = put(out, to, b") (claim ");
+    let to = put_slot(out, to, b'M', takings);
+    put(out, to, b"(closed (takings ")
 }
 
 // The front of a tally's line.
-fn put_tally_front(out: &mut [u8], campaign: u64, plays: u64, turns: u64) -> usize
-    requires { ⌜ length (slotText 67 campaign) + length (slotText 78 plays) + length (slotText 78 turns) + 24 ≤ length (now out) ⌝ }
-    ensures { λ r. ⌜ Put (now (out .entry)) (now (out .exit)) 0 r (bytes "(tally " ++ (slotText 67 campaign ++ (bytes " (plays " ++ (slotText 78 plays ++ (bytes ") (turns " ++ slotText 78 turns))))) × (r ≡ length (slotText 67 campaign) + length (slotText 78 plays) + length (slotText 78 turns) + 24) ⌝ }
+fn put_tally_front(out: &mut [u8], to: usize, campaign: u64, plays: u64, turns: u64) -> usize
+    requires { ⌜ (length (slotText 67 campaign) + length (slotText 78 plays) + length (slotText 78 turns) + 24 ≤ to) × (to ≤ length (now out)) ⌝ }
+    ensures { λ r. ⌜ Put (now (out .entry)) (now (out .exit)) r to (bytes "(tally " ++ (slotText 67 campaign ++ (bytes " (plays " ++ (slotText 78 plays ++ (bytes ") (turns " ++ slotText 78 turns))))) ⌝ }
 {
-    let at = put(out, 0, b"(tally ");
-    let at = put_slot(out, at, b'C', campaign);
-    let at = put(out, at, b" (plays ");
-    let at = put_slot(out, at, b'N', plays);
-    let at = put(out, at, b") (turns ");
-    put_slot(out, at, b'N', turns)
+    let to = put_slot(out, to, b'N', turns);
+    let to = put(out, to, b") (turns ");
+    let to = put_slot(out, to, b'N', plays);
+    let to = put(out, to, b" (plays ");
+    let to = put_slot(out, to, b'C', campaign);
+    put(out, to, b"(tally ")
 }
 
-fn put_tally(out: &mut [u8], campaign: u64, plays: u64, turns: u64, age: u64, named: u64) -> usize
-    requires { ⌜ length (slotText 67 campaign) + length (slotText 78 plays) + length (slotText 78 turns) + length (slotText 78 age) + length (slotText 78 named) + 43 ≤ length (now out) ⌝ }
-    ensures { λ r. ⌜ Put (now (out .entry)) (now (out .exit)) 0 r (line (Record.Tally campaign plays turns age named)) ⌝ }
+fn put_tally(
+    out: &mut [u8],
+    to: usize,
+    campaign: u64,
+    plays: u64,
+    turns: u64,
+    age: u64,
+    named: u64,
+) -> usize
+    requires { ⌜ (length (slotText 67 campaign) + length (slotText 78 plays) + length (slotText 78 turns) + length (slotText 78 age) + length (slotText 78 named) + 43 ≤ to) × (to ≤ length (now out)) ⌝ }
+    ensures { λ r. ⌜ Put (now (out .entry)) (now (out .exit)) r to (line (Record.Tally campaign plays turns age named)) ⌝ }
 {
-    let at = put_tally_front(out, campaign, plays, turns);
-    let at = put(out, at, b") (age ");
-    let at = put_slot(out, at, b'N', age);
-    let at = put(out, at, b") (named ");
-    let at = put_slot(out, at, b'N', named);
-    put(out, at, b"))\n")
+    let to = put(out, to, b"))\n");
+    let to = put_slot(out, to, b'N', named);
+    let to = put(out, to, b") (named ");
+    let to = put_slot(out, to, b'N', age);
+    let to = put(out, to, b") (age ");
+    put_tally_front(out, to, campaign, plays, turns)
 }
 
-fn put_record(r: Record, out: &mut [u8]) -> usize
-    requires { ⌜ length (line r) ≤ length (now out) ⌝ }
-    ensures { λ n. ⌜ Put (now (out .entry)) (now (out .exit)) 0 n (line r) ⌝ }
+fn put_record(r: Record, out: &mut [u8], to: usize) -> usize
+    requires { ⌜ (length (line r) ≤ to) × (to ≤ length (now out)) ⌝ }
+    ensures { λ n. ⌜ Put (now (out .entry)) (now (out .exit)) n to (line r) ⌝ }
 {
     match r {
-        Record::Plan { depth, width } => put_plan(out, depth, width),
-        Record::Campaign { price, budget } => put_campaign(out, price, budget),
-        Record::Start => put(out, 0, b"(start)\n"),
-        Record::View(set) => put_view(out, set),
-        Record::Close => put(out, 0, b"(close)\n"),
-        Record::Done => put(out, 0, b"(ok)\n"),
-        Record::Play { campaign, paid } => put_play(out, campaign, paid),
-        Record::Nobody => put(out, 0, b"(nobody)\n"),
-        Record::Refused(number) => put_refused(out, number),
+        Record::Plan { depth, width } => put_plan(out, to, depth, width),
+        Record::Campaign { price, budget } => put_campaign(out, to, price, budget),
+        Record::Start => put(out, to, b"(start)\n"),
+        Record::View(set) => put_one(out, to, b"(view", b'S', set, b")\n"),
+        Record::Close => put(out, to, b"(close)\n"),
+        Record::Done => put(out, to, b"(ok)\n"),
+        Record::Play { campaign, paid } => put_play(out, to, campaign, paid),
+        Record::Nobody => put(out, to, b"(nobody)\n"),
+        Record::Refused(number) => put_one(out, to, b"(refused ", b'R', number, b")\n"),
         Record::Closed {
             takings,
             claim,
             full,
-        } => put_closed(out, takings, claim, full),
+        } => put_closed(out, to, takings, claim, full),
         Record::Tally {
             campaign,
             plays,
             turns,
             age,
             named,
-        } => put_tally(out, campaign, plays, turns, age, named),
+        } => put_tally(out, to, campaign, plays, turns, age, named),
     }
 }
 
@@ -319,6 +325,6 @@ pub fn write_line(r: Record, out: &mut [u8]) -> Writing
     if out.len() < z.len {
         return Writing::Refusal(18);
     }
-    put_record(r, out);
+    put_record(r, out, z.len);
     Writing::Length(z.len)
 }

@@ -1,5 +1,7 @@
-use native.Mathlib.Omega.{arith}
-use borrow.Author.Tests.{ne-eqb, le-leb}
+use mathlib.Core.Path.{ap}
+use mathlib.Core.Bool.{not, _&&_, _||_}
+use Prim.Native.Nat.{ℕ}
+use lib.Dec.{leb, eqb}
 use Rattle.lines.specs.Form.{inSlot}
 use Rattle.lines.proofs.in_slot.Statement.{statement}
 use Rattle.lines.proofs.in_slot.Tie as tie
@@ -9,12 +11,5 @@ unfolding inSlot
 in-slot-spec =
     tie.close
     (tie.spec
-    (λ c. simp (c .match .keys1))
-    (λ c. simp (c .match .keys2))
-    (λ c. simp (c .match .keys3))
-    (λ c. simp (
-      ne-eqb _ 78 (c .match .rest .0 .0 .1),
-      ne-eqb _ 67 (c .match .rest .0 .1),
-      ne-eqb _ 82 (c .match .rest .1),
-      le-leb (c .before .args .number) 18446744073709551615 (omega arith),
-    )))
+    (λ c κs. tt)
+    (λ c. let a = c .before .args in ap (λ (m : ℕ). (not (eqb (a .slot) 82) || leb 1 (a .number)) && leb (a .number) m) (c .slot-max .ensures)))

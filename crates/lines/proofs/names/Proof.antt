@@ -1,14 +1,16 @@
-use mathlib.Core.Path.{_≡_, refl, sym, _∙_}
+use mathlib.Core.Path.{_≡_, refl, ap, sym, _∙_}
 use mathlib.Core.Bool.{Bool, true, false}
 use mathlib.Core.List.{List}
-use Prim.Native.Nat.{ℕ, _-_, _<_}
+use Prim.Native.Nat.{ℕ, _+_, _*_, _-_, _%_, _^_, _≤_, _<_}
+use native.Mathlib.Nat.{one-mul}
 use native.Mathlib.Omega.{arith}
-use lib.Dec.{ltb}
-use lib.ListN.{length, getD, List·getD-eq-default}
+use lib.Dec.{ltb, lit<}
+use lib.ListN.{length, drop, getD, List·getD-eq-default}
+use lib.Pow.{pow-mono, shl-exact}
 use borrow.Author.Tests.{ltb-true, ltb-false}
-use Rattle.lines.specs.Reading.{slotAt}
+use Rattle.lines.specs.Reading.{unseen, joined, slotAt}
 use Rattle.lines.specs.Place.{place}
-use Rattle.lines.proofs.Places.{misses, namesFrom, names-all, names-out, names-stop, names-next, names-lost}
+use Rattle.lines.proofs.Places.{misses, seen-in, seen-out, name-small, joins, joins-not, namesFrom, names-all, names-out, names-stop, names-bad, names-next}
 use Rattle.lines.proofs.names.Statement.{statement}
 use Rattle.lines.proofs.names.Tie as tie
 
@@ -34,36 +36,85 @@ returns c =
     let o = c .before .before .before .loop in
     names-stop (o .left) (o .set) (a .s .now) (o .i) (c .before .before .loop-test .taken) (slotAt 83 (place (a .s .now) (a .at))) (o .inv .0) (λ p. c .if1 .taken (c .before .byte .ensures ∙ p)) (o .inv .1)
 
-add-join-name : tie.Need-add-join-name Inv-loop μ-loop
-add-join-name c =
+add-number : tie.Need-add-number Inv-loop μ-loop
+add-number c =
     omega (arith, inside (c .before .before .before .before .before .args .s .now) (c .before .before .before .loop .i) (c .before .byte .result) (c .before .byte .ensures) (c .if1 .left))
 
--- what a name that follows makes of the names that are left
-goes-on : (c : tie.After-join-name Inv-loop μ-loop) → let o = c .before .before .before .before .loop in let a = c .before .before .before .before .before .before .args in
-    namesFrom (o .left - 1) (c .join-name .result .number) (place (a .s .now) (c .join-name .result .end)) ≡ slotAt 83 (place (a .s .now) (a .at))
-goes-on c =
+-- what stands behind the space does not join the set
+ends : (c : tie.After-number Inv-loop μ-loop) → let l = c .before .before .before .before .before .before .args .s .now in let o = c .before .before .before .before .loop in
+    joined (o .set) (slotAt 67 (place l (o .i + 1))) ≡ unseen → slotAt 83 (place l (c .before .before .before .before .before .before .args .at)) ≡ unseen
+ends c q =
     let l = c .before .before .before .before .before .before .args .s .now in
     let o = c .before .before .before .before .loop in
     let b = c .before .before .byte in
-    let h = inside l (o .i) (b .result) (b .ensures) (c .before .if1 .left) in
-    sym (names-next (o .left) (o .set) l (o .i) (c .before .before .before .loop-test .taken) (c .join-name .result) h (sym (b .ensures) ∙ c .before .if1 .left) (c .join-name .ensures)) ∙ o .inv .0
+    sym (o .inv .0) ∙ names-bad (o .left) (o .set) l (o .i) (c .before .before .before .loop-test .taken) (inside l (o .i) (b .result) (b .ensures) (c .before .if1 .left)) (sym (b .ensures) ∙ c .before .if1 .left) q
 
--- no name is there, or it is not above the others
+-- no name is there
 returns-2 : tie.Need-returns-2 Inv-loop μ-loop
 returns-2 c =
-    let a = c .before .before .before .before .before .before .before .before .args in
+    let a = c .before .before .before .before .before .before .before .before .before .args in
     let l = a .s .now in
-    let x = c .before .before .join-name .result in
+    let o = c .before .before .before .before .before .before .before .loop in
+    let x = c .before .before .before .number in
     misses l (c .missing .result) (slotAt 83 (place l (a .at))) (c .missing .ensures .0) (omega (arith, c .missing .ensures .1))
-    (sym (goes-on (c .before .before)) ∙ names-lost (c .before .before .before .before .before .before .loop .left - 1) (x .number) l (x .end) (c .before .if2 .taken))
+    (ends (c .before .before .before) (ap (joined (o .set)) (seen-out l (x .result) (slotAt 67 (place l (o .i + 1))) (x .ensures) (c .before .if2 .taken))))
 
--- more names than a set has members
+shl-bit : tie.Need-shl-bit Inv-loop μ-loop
+shl-bit c =
+    let l = c .before .before .before .before .before .before .before .before .before .args .s .now in
+    let x = c .before .before .before .number in
+    omega (arith, name-small l (x .result) (place l (c .before .before .before .before .before .before .before .loop .i + 1)) (x .ensures) (c .before .if2 .left))
+
+-- a name's bit fits 64 bits
+bit : (n : ℕ) → n < 64 → (1 * 2 ^ n) % 18446744073709551616 ≡ 2 ^ n
+bit n h = shl-exact {a = 1} 1 n 64 (lit< tt) (omega arith) ∙ one-mul (2 ^ n)
+
+-- the name is not above the others
 returns-3 : tie.Need-returns-3 Inv-loop μ-loop
 returns-3 c =
+    let a = c .before .before .before .before .before .before .before .before .before .before .before .args in
+    let l = a .s .now in
+    let o = c .before .before .before .before .before .before .before .before .before .loop in
+    let x = c .before .before .before .before .before .number in
+    let r = place l (o .i + 1) in
+    let n = x .result .number in
+    let h = c .before .before .before .if2 .left in
+    misses l (c .missing2 .result) (slotAt 83 (place l (a .at))) (c .missing2 .ensures .0) (omega (arith, c .missing2 .ensures .1))
+    (ends (c .before .before .before .before .before)
+    (joins-not (o .set) (slotAt 67 r) n (drop (x .result .end) l) (seen-in l (x .result) (slotAt 67 r) (x .ensures) h) (omega (arith, bit n (name-small l (x .result) r (x .ensures) h)))))
+
+-- the name joins the set
+bit-of : (c : tie.Else3 Inv-loop μ-loop) → let n = c .before .before .before .before .number .result .number in ((1 * 2 ^ n) % 18446744073709551616 ≡ 2 ^ n) × (2 ^ n ≤ 2 ^ 63)
+bit-of c =
+    let l = c .before .before .before .before .before .before .before .before .before .before .args .s .now in
+    let x = c .before .before .before .before .number in
+    let h = name-small l (x .result) (place l (c .before .before .before .before .before .before .before .before .loop .i + 1)) (x .ensures) (c .before .before .if2 .left) in
+    (bit (x .result .number) h, pow-mono {i = x .result .number} {j = 63} (omega arith))
+
+loop-again : tie.Need-loop-again Inv-loop μ-loop
+loop-again c =
+    let l = c .before .before .before .before .before .before .before .before .before .before .args .s .now in
+    let o = c .before .before .before .before .before .before .before .before .loop in
+    let x = c .before .before .before .before .number in
+    let s = slotAt 67 (place l (o .i + 1)) in
+    let b = c .before .before .before .before .before .before .byte in
+    let t = c .before .before .before .before .before .if1 .left in
+    let h = c .before .before .if2 .left in
+    let e = bit-of c .0 in (
+      ap (λ (k : ℕ). namesFrom (o .left - 1) (o .set + k) (place l (x .result .end))) e
+          ∙ sym (names-next (o .left) (o .set) l (o .i) (c .before .before .before .before .before .before .before .loop-test .taken) (inside l (o .i) (b .result) (b .ensures) t) (sym (b .ensures) ∙ t)
+          (o .set + 2 ^ x .result .number) (x .result .end) h
+          (joins (o .set) s (x .result .number) (drop (x .result .end) l) (seen-in l (x .result) s (x .ensures) h) (omega (arith, e)))) ∙ o .inv .0,
+      λ q. absurd (omega arith),
+    )
+
+-- more names than a set has members
+returns-4 : tie.Need-returns-4 Inv-loop μ-loop
+returns-4 c =
     let a = c .before .before .before .before .args in
     let l = a .s .now in
     let o = c .before .before .loop in
-    misses l (c .missing2 .result) (slotAt 83 (place l (a .at))) (c .missing2 .ensures .0) (omega (arith, c .missing2 .ensures .1))
+    misses l (c .missing3 .result) (slotAt 83 (place l (a .at))) (c .missing3 .ensures .0) (omega (arith, c .missing3 .ensures .1))
     (sym (o .inv .0) ∙ names-out (o .left) (o .set) (place l (o .i)) (omega arith))
 
 pub names-spec : {M : Type 1} → statement M
@@ -75,12 +126,16 @@ names-spec =
     (λ c. (names-all (place (c .before .args .s .now) (c .before .args .at)), λ p. refl))
     (λ c κs. tt)
     returns
-    add-join-name
-    (λ c κs. c .before .before .before .before .before .pre)
+    add-number
+    (λ c κs. (c .before .before .before .before .before .pre, omega arith))
     (λ c κs. tt)
     returns-2
-    (λ c. omega arith)
-    (λ c. omega arith)
-    (λ c. (goes-on (c .before), λ q. absurd (omega arith)))
+    shl-bit
     (λ c κs. tt)
-    returns-3)
+    returns-3
+    (λ c. omega (arith, bit-of c))
+    (λ c. omega arith)
+    (λ c. omega arith)
+    loop-again
+    (λ c κs. tt)
+    returns-4)

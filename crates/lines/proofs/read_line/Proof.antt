@@ -27,10 +27,12 @@ unfolding reading
 too-long c = rw (lt-ltb 200 (length (c .before .before .args .s .now)) (c .if1 .taken))
 
 view : tie.Need-returns-2
-unfolding chosen
+unfolding chosen heldOr template restOf numbersOf step made stripped
 view c =
-    let l = c .before .before .before .before .before .args .s .now in
-    answers l (View 0) (omega arith) (simp (sym (c .before .before .byte .ensures) ∙ c .before .match .keys1)) (c .read-view .ensures)
+    let b = c .before .before .before .before in
+    let l = b .before .before .before .before .args .s .now in
+    let x = c .before .before .field .ensures in
+    answers l (View 0) (omega arith) (simp (sym (b .before .byte .ensures) ∙ b .match .keys1)) (rw (← place-start l, ← x .end, ← x .number) (c .ended .ensures))
 
 plan : tie.Need-returns-3
 unfolding chosen
@@ -57,7 +59,7 @@ close c =
     answers l Close (omega arith) (simp (
       sym (c .before .before .before .before .before .byte .ensures) ∙ c .before .before .before .before .match .keys3,
       sym (c .before .before .before .byte3 .ensures) ∙ c .before .before .match3 .keys1,
-    )) (c .ended .ensures ∙ rw place-start)
+    )) (c .ended2 .ensures ∙ rw place-start)
 
 closed : tie.Need-returns-6
 unfolding chosen
@@ -82,25 +84,27 @@ start : tie.Need-returns-8
 unfolding chosen heldOr template restOf numbersOf step made stripped
 start c =
     let l = c .before .before .before .before .before .before .args .s .now in
-    answers l Start (omega arith) (simp (sym (c .before .before .before .byte .ensures) ∙ c .before .before .match .keys4)) (c .ended2 .ensures ∙ rw place-start)
+    answers l Start (omega arith) (simp (sym (c .before .before .before .byte .ensures) ∙ c .before .before .match .keys4)) (c .ended3 .ensures ∙ rw place-start)
 
 ok : tie.Need-returns-9
 unfolding chosen heldOr template restOf numbersOf step made stripped
 ok c =
     let l = c .before .before .before .before .before .before .args .s .now in
-    answers l Done (omega arith) (simp (sym (c .before .before .before .byte .ensures) ∙ c .before .before .match .keys5)) (c .ended3 .ensures ∙ rw place-start)
+    answers l Done (omega arith) (simp (sym (c .before .before .before .byte .ensures) ∙ c .before .before .match .keys5)) (c .ended4 .ensures ∙ rw place-start)
 
 nobody : tie.Need-returns-10
 unfolding chosen heldOr template restOf numbersOf step made stripped
 nobody c =
     let l = c .before .before .before .before .before .before .args .s .now in
-    answers l Nobody (omega arith) (simp (sym (c .before .before .before .byte .ensures) ∙ c .before .before .match .keys6)) (c .ended4 .ensures ∙ rw place-start)
+    answers l Nobody (omega arith) (simp (sym (c .before .before .before .byte .ensures) ∙ c .before .before .match .keys6)) (c .ended5 .ensures ∙ rw place-start)
 
 refused : tie.Need-returns-11
-unfolding chosen
+unfolding chosen heldOr template restOf numbersOf step made stripped
 refused c =
-    let l = c .before .before .before .before .before .args .s .now in
-    answers l (Refused 0) (omega arith) (simp (sym (c .before .before .byte .ensures) ∙ c .before .match .keys7)) (c .read-refused .ensures)
+    let b = c .before .before .before .before in
+    let l = b .before .before .before .before .args .s .now in
+    let x = c .before .before .field2 .ensures in
+    answers l (Refused 0) (omega arith) (simp (sym (b .before .byte .ensures) ∙ b .match .keys7)) (rw (← place-start l, ← x .end, ← x .number) (c .ended6 .ensures))
 
 tally : tie.Need-returns-12
 unfolding chosen
@@ -121,24 +125,30 @@ read-line-spec =
     tie.close
     (tie.spec
     too-long
-    (λ c κs. search needs)
-    (λ c κs. search needs)
-    (λ c κs. search needs)
-    (λ c κs. search needs)
-    (λ c κs. search needs)
-    (λ c κs. search needs)
+    (λ c κs. tt)
     (λ c. search needs)
-    (λ c κs. search needs)
-    (λ c κs. search needs)
-    (λ c κs. search needs)
+    (λ c κs. (omega arith, omega arith))
     (λ c. search needs)
-    (λ c κs. search needs)
+    (λ c κs. omega arith)
+    (λ c κs. tt)
+    (λ c κs. omega arith)
+    (λ c κs. omega arith)
+    (λ c κs. tt)
     (λ c. search needs)
-    (λ c κs. search needs)
+    (λ c κs. omega arith)
+    (λ c κs. omega arith)
+    (λ c κs. omega arith)
     (λ c. search needs)
-    (λ c κs. search needs)
-    (λ c κs. search needs)
-    (λ c κs. search needs)
+    (λ c κs. omega arith)
+    (λ c. search needs)
+    (λ c κs. omega arith)
+    (λ c. search needs)
+    (λ c κs. omega arith)
+    (λ c. search needs)
+    (λ c κs. (omega arith, omega arith))
+    (λ c. search needs)
+    (λ c κs. omega arith)
+    (λ c κs. omega arith)
     view
     plan
     play

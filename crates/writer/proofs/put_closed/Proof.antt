@@ -1,10 +1,10 @@
-use mathlib.Core.Path.{sym}
-use mathlib.Core.List.{append-assoc}
+use mathlib.Core.Path.{sym, subst}
 use native.Mathlib.Omega.{arith}
 use borrow.Author.Needs.{needs}
 use Rattle.lines.specs.Form.{template, numbers, piece, after, filled}
 use Rattle.lines.specs.declared.Record.the-variants.{Closed}
-use Rattle.writer.proofs.Buffers.{start, then, ends}
+use Rattle.writer.specs.Buffer.{Put}
+use Rattle.writer.proofs.Buffers.{before}
 use Rattle.writer.proofs.Lengths.{line-filled}
 use Rattle.writer.proofs.put_closed.Statement.{statement}
 use Rattle.writer.proofs.put_closed.Tie as tie
@@ -24,7 +24,10 @@ put-closed-spec =
     (λ c κs. omega arith)
     (λ c κs. omega arith)
     (λ c. search needs)
-    (λ c κs. omega arith)
+    (λ c κs.
+    let s2 = c .before .before .before .before .before .before .before .before .before .before .before .before .before in
+    let p1 = s2 .before .before .before .before .before .before .before .before .before .before .before .before .before in
+    omega (arith, p1 .put .ensures .next, p1 .put .ensures .same, p1 .before .before .before .before .pre))
     (λ c. search needs)
     (λ c.
     let p4 = c .before .before in
@@ -35,4 +38,4 @@ put-closed-spec =
     let s1 = p2 .before .before .before .before .before in
     let p1 = s1 .before .before .before .before in
     let a = p1 .before .before .before .before .args in
-    ends (then (then (then (then (then (then (then (start (a .out .now) 0) (p1 .put .ensures)) (s1 .put-slot .ensures)) (p2 .put2 .ensures)) (s2 .put-slot2 .ensures)) (p3 .put3 .ensures)) (s3 .put-slot3 .ensures)) (p4 .put4 .ensures)) (simp append-assoc (sym (line-filled (Closed (a .takings) (a .claim) (a .full)))))))
+    subst (Put (a .out .now) _ _ (a .to)) (sym (line-filled (Closed (a .takings) (a .claim) (a .full)))) (before (before (before (before (before (before (p1 .put .ensures) (s1 .put-slot .ensures)) (p2 .put2 .ensures)) (s2 .put-slot2 .ensures)) (p3 .put3 .ensures)) (s3 .put-slot3 .ensures)) (p4 .put4 .ensures))))

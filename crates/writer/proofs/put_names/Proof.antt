@@ -1,4 +1,4 @@
-use mathlib.Core.Path.{_≡_, refl, ap, sym, _∙_, subst}
+use mathlib.Core.Path.{_≡_, ap, sym, _∙_, subst}
 use mathlib.Core.Bool.{true}
 use mathlib.Core.List.{List, _∷_, _++_}
 use Prim.Native.Nat.{ℕ, _+_, _-_, _≤_, _<_}
@@ -10,17 +10,17 @@ use Rattle.sets.proofs.Walk.{next-is}
 use Rattle.lines.specs.Numeral.{numeral}
 use Rattle.lines.specs.Form.{names}
 use Rattle.lines.proofs.NameSets.{names-here}
-use Rattle.writer.proofs.Buffers.{Run, start, then, ends}
+use Rattle.writer.specs.Buffer.{Put}
+use Rattle.writer.proofs.Buffers.{put-none, then}
 use Rattle.writer.proofs.Lengths.{names-next, names-less}
 use Rattle.writer.proofs.put_names.Statement.{statement}
 use Rattle.writer.proofs.put_names.Tie as tie
 
 -- the names of the members below `name` stand
 record Names (out₀ : List ℕ) (at set : ℕ) (out : List ℕ) (to name : ℕ) : Type 0 where
-  run : Run out₀ at out to (names name set)
+  stands : Put out₀ out at to (names name set)
   most : name ≤ 64
   here : name < 64 → member set name ≡ true
-  same : length out ≡ length out₀
 
 abbrev Inv-loop : tie.InvT-loop
 Inv-loop out₀ at set to₀ name₀ out to name = Names out₀ at set out to name
@@ -28,11 +28,11 @@ Inv-loop out₀ at set to₀ name₀ out to name = Names out₀ at set out to na
 abbrev μ-loop : tie.MeasureT-loop
 μ-loop out₀ at set to₀ name₀ out to name = 64 - name
 
--- a run up to a goes on to the next member from a on
-steps : {o : List ℕ} {at set : ℕ} {out : List ℕ} {to : ℕ} (a r : ℕ) → a ≤ 64 → r ≡ next set a → Run o at out to (names a set) → length out ≡ length o → Names o at set out to r
-steps {o} {at} {set} {out} {to} a r h e run same =
+-- the names below a go on to the next member from a on
+steps : {o : List ℕ} {at set : ℕ} {out : List ℕ} {to : ℕ} (a r : ℕ) → a ≤ 64 → r ≡ next set a → Put o out at to (names a set) → Names o at set out to r
+steps {o} {at} {set} {out} {to} a r h e p =
     let n = next-is set a h in
-    subst (Names o at set out to) (sym e) (record { run = subst (Run o at out to) (sym (names-next set a h)) run; most = n .high; here = n .here; same = same })
+    subst (Names o at set out to) (sym e) (record { stands = subst (Put o out at to) (sym (names-next set a h)) p; most = n .high; here = n .here })
 
 -- the names up to and with a member
 with-name : (set name : ℕ) → member set name ≡ true → names (name + 1) set ≡ names name set ++ (32 ∷ numeral name)
@@ -49,7 +49,7 @@ put-name-requires c κs =
     let a = c .before .before .before .before .before .args in
     let o = c .before .before .loop in
     let h = c .before .loop-test .taken in
-    (h, omega (arith, o .inv .run .place, o .inv .same, room (a .set) (o .name) h (o .inv .here h), c .before .before .before .before .before .pre))
+    (h, omega (arith, o .inv .stands .next, o .inv .stands .same, room (a .set) (o .name) h (o .inv .here h), c .before .before .before .before .before .pre))
 
 loop-again : tie.Need-loop-again Inv-loop μ-loop
 loop-again c =
@@ -58,14 +58,13 @@ loop-again c =
     let h = c .before .before .before .before .before .loop-test .taken in
     let p = c .before .before .before .put-name .ensures in
     steps (o .name + 1) (c .next-from2 .result) (omega arith) (c .next-from2 .ensures)
-    (subst (Run (a .out .now) (a .at) _ _) (sym (with-name (a .set) (o .name) (o .inv .here h))) (then (o .inv .run) p))
-    (p .same ∙ o .inv .same)
+    (subst (Put (a .out .now) _ (a .at) _) (sym (with-name (a .set) (o .name) (o .inv .here h))) (then (o .inv .stands) p))
 
 loop-holds : tie.Need-loop-holds Inv-loop μ-loop
 unfolding names
 loop-holds c =
     let a = c .before .before .args in
-    steps 0 (c .next-from .result) (omega arith) (c .next-from .ensures) (start (a .out .now) (a .at)) refl
+    steps 0 (c .next-from .result) (omega arith) (c .next-from .ensures) (put-none (a .out .now) (a .at))
 
 loop-less : tie.Need-loop-less Inv-loop μ-loop
 loop-less c =
@@ -86,9 +85,9 @@ put-names-spec =
     (λ c κs. tt)
     loop-less
     loop-again
-    (λ c. c .before .loop .inv .same)
+    (λ c. c .before .loop .inv .stands .same)
     (λ c.
     let a = c .before .before .before .before .args in
     let o = c .before .loop in
     let e : o .name ≡ 64 = omega (arith, o .inv .most) in
-    ends (o .inv .run) (ap (λ (k : ℕ). names k (a .set)) e)))
+    subst (Put (a .out .now) _ (a .at) _) (ap (λ (k : ℕ). names k (a .set)) e) (o .inv .stands)))

@@ -11,7 +11,7 @@ use Rattle.lines.specs.Form.{inRange}
 use Rattle.lines.specs.declared.Record.{Record}
 use Rattle.writer.specs.declared.Writing.the-variants.{Length, Refusal}
 use Rattle.writer.specs.declared.Size.{Size}
-use Rattle.writer.specs.Buffer.{Put, Sized}
+use Rattle.writer.specs.Buffer.{over, Put, Sized}
 use Rattle.writer.specs.Writing.{line, question, writing, written}
 use Rattle.writer.proofs.Buffers.{over-front}
 use Rattle.writer.proofs.write_line.Statement.{statement}
@@ -30,13 +30,14 @@ module _ (r : Record) (z : Size) (d : List ℕ) (p : Sized r z) where
       let f : leb (length (line r)) (length d) ≡ false = lt-leb (length (line r)) (length d) (omega (arith, p .len)) in
       (rw (e, f), rw (e, f))
 
-  wrote : {out : List ℕ} {to : ℕ} → z .ok ≡ true → z .len ≤ length d → Put d out 0 to (line r) → (Length (z .len) ≡ writing r d) × (out ≡ written r d)
+  wrote : {out : List ℕ} {at : ℕ} → z .ok ≡ true → z .len ≤ length d → Put d out at (z .len) (line r) → (Length (z .len) ≡ writing r d) × (out ≡ written r d)
   unfolding writing written question
-  wrote h l q =
+  wrote {out} {at} h l q =
       let e : inRange r ≡ true = sym (p .ok) ∙ h in
       let b : length (line r) ≤ length d = omega (arith, p .len) in
       let f : leb (length (line r)) (length d) ≡ true = le-leb (length (line r)) (length d) b in
-      (rw (e, f) (ap Length (p .len)), rw (e, f) (q .here ∙ over-front d (line r) b))
+      let front : at ≡ 0 = omega (arith, p .len, q .next) in
+      (rw (e, f) (ap Length (p .len)), rw (e, f) (q .here ∙ ap (λ (k : ℕ). over d k (line r)) front ∙ over-front d (line r) b))
 
 pub write-line-spec : {M : Type 1} → statement M
 write-line-spec =
