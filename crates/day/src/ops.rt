@@ -13,7 +13,7 @@ ghost use Rattle.day.specs.Calls.{first-no, questions, result, call};
 ghost use Rattle.day.specs.Calls.Call.{open-plan, add-campaign, start-day, ask-tally, close-day};
 ghost use Rattle.day.specs.Inner.{audited, plan-questions, Joinable};
 
-fn filling(phase: Phase) -> bool
+pub fn filling(phase: Phase) -> bool
     ensures { λ r. ⌜ r ≡ is-filling phase ⌝ }
 {
     match phase {
@@ -23,7 +23,7 @@ fn filling(phase: Phase) -> bool
     }
 }
 
-fn closed(phase: Phase) -> bool
+pub fn closed(phase: Phase) -> bool
     ensures { λ r. ⌜ r ≡ is-closed phase ⌝ }
 {
     match phase {

@@ -16,7 +16,8 @@ use Rattle.day.specs.declared.Answer.{Answer}
 use Rattle.day.specs.declared.Answer.the-variants.{Refused}
 use Rattle.day.specs.declared.Day.{Day}
 use Rattle.day.specs.declared.Outcome.{Outcome}
-use Rattle.day.specs.Calls.{told, offers, player, refused, call}
+use Rattle.day.specs.Day.{is-filling, is-running, is-closed}
+use Rattle.day.specs.Calls.{Call, first-no, told, offers, player, refused, call}
 use Rattle.day.specs.Calls.Call.{open-plan, add-campaign, start-day, show-view, ask-tally, close-day}
 use Rattle.day.specs.Inner.{state-of, counts, Shows}
 use Rattle.day.specs.Sound.{sound}
@@ -29,25 +30,32 @@ use Rattle.desk.specs.declared.stretch.Sight.{Sight}
 use Rattle.desk.specs.Desk.{Request, request-of, obeyed, outcome, spoken, is-closing, sayable, next}
 use Rattle.desk.specs.Desk.Request.{makes, fails}
 use Rattle.desk.specs.Session.{Session, Stands}
-use Rattle.desk.specs.Stretch.{stops, step-of, stepped, Obeys, Looks}
+use Rattle.desk.specs.Stretch.{stops, unless, step-of, stepped, Obeys, Looks}
 use Rattle.desk.proofs.Ends.{uncut, answered-line}
 use Rattle.desk.proofs.Ranges.{said-range, next-sound}
 use Rattle.desk.proofs.Serving.{served-other}
 use Rattle.desk.proofs.Turns.{turned-stands}
 
--- a step that is no stop does what its line asks for
-step-obeys : (s : Day) (q : Request) → stops (step-of q) ≡ false → stepped s (step-of q) ≡ obeyed s q
-step-obeys s (makes (open-plan pl)) h = absurd (never true h refl)
-step-obeys s (makes (add-campaign t)) h = absurd (never true h refl)
-step-obeys s (makes start-day) h = absurd (never true h refl)
-step-obeys s (makes (show-view w)) h = refl
-step-obeys s (makes (ask-tally i)) h = absurd (never true h refl)
-step-obeys s (makes close-day) h = absurd (never true h refl)
-step-obeys s (fails q) h = refl
+-- a call that is refused for the phase
+module _ (s : Day) (e : sound s ≡ true) where
+  phase-refused : (c : Call) (b : Bool) (q : ℕ) → stops (unless b q) ≡ false → (b ≡ false → refused s q ≡ call s c) → stepped s (unless b q) ≡ call s c
+  phase-refused c true q h k = absurd (never true h refl)
+  phase-refused c false q h k = k refl
 
-pub step-outcome : (s : Day) (l : List ℕ) (q : Step) → stops q ≡ false → q ≡ step-of (request-of (reading l)) → stepped s q ≡ outcome s l
-unfolding outcome
-step-outcome s l q h e = ap (stepped s) e ∙ step-obeys s (request-of (reading l)) (sym (ap stops e) ∙ h)
+  -- a step that is no stop does what its line asks for
+  step-obeys : (q : Request) → stops (step-of (s .phase) q) ≡ false → stepped s (step-of (s .phase) q) ≡ obeyed s q
+  unfolding call first-no
+  step-obeys (makes (open-plan pl)) h = phase-refused (open-plan pl) (is-closed (s .phase)) 2 h (λ k. rw (e, k))
+  step-obeys (makes (add-campaign t)) h = phase-refused (add-campaign t) (is-filling (s .phase)) 6 h (λ k. rw (e, k))
+  step-obeys (makes start-day) h = phase-refused start-day (is-filling (s .phase)) 6 h (λ k. rw (e, k))
+  step-obeys (makes (show-view w)) h = refl
+  step-obeys (makes (ask-tally i)) h = absurd (never true h refl)
+  step-obeys (makes close-day) h = phase-refused close-day (is-running (s .phase)) 11 h (λ k. rw (e, k))
+  step-obeys (fails q) h = refl
+
+  pub step-outcome : (l : List ℕ) (q : Step) → stops q ≡ false → q ≡ step-of (s .phase) (request-of (reading l)) → stepped s q ≡ outcome s l
+  unfolding outcome
+  step-outcome l q h k = ap (stepped s) k ∙ step-obeys (request-of (reading l)) (sym (ap stops k) ∙ h)
 
 -- and closes no day
 told-open : (x : ℕ → ℕ) (ch : Choice) → is-closing (told x ch) ≡ false
@@ -88,7 +96,7 @@ pub record Going (l : List ℕ) (t₀ : Cursor) (e₀ : List ℕ) (t : Cursor) (
   pub inside : t .from ≤ length l
   pub fits : t .at ≤ length e
   pub same : length e ≡ length e₀
-  pub looks : Looks l (t .from) (length e - t .at) v
+  pub looks : Looks (t .day .phase) l (t .from) (length e - t .at) v
 
 module _ (l : List ℕ) (t₀ : Cursor) (e₀ : List ℕ) (t : Cursor) (e : List ℕ) (v : Sight) (w : Going l t₀ e₀ t e v) (go : stops (v .step) ≡ false)
     (r : Answer) (a b c n : List ℕ) (o : Obeys (stepped (t .day) (v .step)) (t .day) r a b c n) where
@@ -99,7 +107,7 @@ module _ (l : List ℕ) (t₀ : Cursor) (e₀ : List ℕ) (t : Cursor) (e : List
   line = take (v .end - t .from) (drop (t .from) l)
 
   outcome-is : record { day = after; answer = r } ≡ outcome (t .day) line
-  outcome-is = o .outcome-is ∙ step-outcome (t .day) line (v .step) go (w .looks .steps go)
+  outcome-is = o .outcome-is ∙ step-outcome (t .day) (w .sure) line (v .step) go (w .looks .steps go)
 
   open-answer : is-closing r ≡ false
   open-answer = ap (λ (x : Outcome). is-closing (x .answer)) (o .outcome-is) ∙ step-open (t .day) (v .step)
@@ -127,7 +135,7 @@ module _ (l : List ℕ) (t₀ : Cursor) (e₀ : List ℕ) (t : Cursor) (e : List
         subst (λ (y : Day). Stands x l d true (record { day = y; kept = 0; from = v .end + 1; at = to }) h f) (sym day-is)
         (turned-stands x l d true t (record { day = after; kept = 0; from = v .end + 1; at = to }) h h e f st (omega (arith, answer-room, st .put .same)) (st .wide) (turned .0))
 
-    pub going-next : (u : Sight) → Looks l (v .end + 1) (length f - to) u → Going l t₀ e₀ onward f u
+    pub going-next : (u : Sight) → Looks (t .day .phase) l (v .end + 1) (length f - to) u → Going l t₀ e₀ onward f u
     unfolding next
     going-next u y = record {
       stands = λ x d h s. next-stands x d h (w .stands x d h s);

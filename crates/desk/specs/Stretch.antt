@@ -5,12 +5,14 @@ use mathlib.Core.List.{List}
 use Prim.Native.Nat.{ℕ, _+_, _-_, _≤_, _<_}
 use lib.ListN.{length, take, drop}
 use Rattle.lines.specs.Reading.{reading}
+use Rattle.campaigns.specs.declared.Phase.{Phase}
 use Rattle.campaigns.specs.Inner.{Entries}
 use Rattle.day.specs.declared.Answer.{Answer}
 use Rattle.day.specs.declared.Day.{Day}
 use Rattle.day.specs.declared.Outcome.{Outcome}
 use Rattle.day.specs.Calls.{call, refused}
 use Rattle.day.specs.Calls.Call.{open-plan, add-campaign, start-day, show-view, ask-tally, close-day}
+use Rattle.day.specs.Day.{is-filling, is-running, is-closed}
 use Rattle.day.specs.Inner.{state-of, counts}
 use Rattle.desk.specs.declared.stretch.Step.{Step}
 use Rattle.desk.specs.declared.stretch.Step.the-variants.{Stop, Show, Refuse}
@@ -24,15 +26,20 @@ stops Stop = true
 stops (Show x) = false
 stops (Refuse q) = false
 
--- what a stretch does with a request: a view and a refusal are its own
-abbrev pub step-of : Request → Step
-step-of (makes (open-plan pl)) = Stop
-step-of (makes (add-campaign t)) = Stop
-step-of (makes start-day) = Stop
-step-of (makes (show-view w)) = Show (w .set)
-step-of (makes (ask-tally i)) = Stop
-step-of (makes close-day) = Stop
-step-of (fails q) = Refuse q
+-- a question about the phase: a call that passes it is more than a stretch does
+abbrev pub unless : Bool → ℕ → Step
+unless true q = Stop
+unless false q = Refuse q
+
+-- what a stretch does with a request, in a sound state of phase p: a view and a refusal are its own
+abbrev pub step-of : Phase → Request → Step
+step-of p (makes (open-plan pl)) = unless (is-closed p) 2
+step-of p (makes (add-campaign t)) = unless (is-filling p) 6
+step-of p (makes start-day) = unless (is-filling p) 6
+step-of p (makes (show-view w)) = Show (w .set)
+step-of p (makes (ask-tally i)) = Stop
+step-of p (makes close-day) = unless (is-running p) 11
+step-of p (fails q) = Refuse q
 
 -- what a step makes of a state
 abbrev pub stepped : Day → Step → Outcome
@@ -47,9 +54,9 @@ pub record Obeys (o : Outcome) (s : Day) (r : Answer) (l t g m : List ℕ) : Typ
   pub room : s .accepted < 18_446_744_073_709_551_616 → s .accepted + counts r < 18_446_744_073_709_551_616
 
 -- a step of the line at a place of l: there is room for its answer, its byte 10 is at the end, and the step is its own
-pub record Looks (l : List ℕ) (from room : ℕ) (r : Sight) : Type 0 where
+pub record Looks (p : Phase) (l : List ℕ) (from room : ℕ) (r : Sight) : Type 0 where
   pub end-is : r .end ≡ from + upto (drop from l)
   pub end-most : r .end ≤ length l
   pub roomy : stops (r .step) ≡ false → 16384 ≤ room
   pub ends : stops (r .step) ≡ false → r .end ≡ length l → ⊥
-  pub steps : stops (r .step) ≡ false → r .step ≡ step-of (request-of (reading (take (r .end - from) (drop from l))))
+  pub steps : stops (r .step) ≡ false → r .step ≡ step-of p (request-of (reading (take (r .end - from) (drop from l))))

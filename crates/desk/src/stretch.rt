@@ -1,5 +1,5 @@
-// A stretch of lines that change no more than the day's counts: views, and lines that are refused as they are read. The
-// counts change where they stand, so that the state is moved once for the stretch and not for every line.
+// A stretch of lines that change no more than the day's counts: views, lines that are refused as they are read, and calls
+// that are refused for the phase. The counts change where they stand, so that the state is moved once for the stretch and not for every line.
 use crate::ROOM;
 use crate::feed::Cursor;
 use crate::feed::line_end;
@@ -10,7 +10,10 @@ use campaigns::View;
 use campaigns::weights::weights;
 use day::Answer;
 use day::Day;
+use day::ops::closed;
+use day::ops::filling;
 use day::view::counts;
+use day::view::running;
 use day::view::show_sound;
 use lines::Reading;
 use lines::Record;
@@ -25,7 +28,7 @@ ghost use Rattle.day.specs.Sound.{sound};
 ghost use Rattle.lines.specs.Reading.{reading};
 ghost use Rattle.desk.specs.Desk.{request, request-of};
 ghost use Rattle.desk.specs.Session.{Session, Stands};
-ghost use Rattle.desk.specs.Stretch.{stops, step-of, stepped, Obeys, Looks};
+ghost use Rattle.desk.specs.Stretch.{stops, unless, step-of, stepped, Obeys, Looks};
 
 // What a line asks for: more than a stretch does, a view, or a refusal.
 pub enum Step {
@@ -51,18 +54,29 @@ fn stops(sight: Sight) -> bool
     }
 }
 
-fn step_of(input: Record) -> Step
-    ensures { λ r. ⌜ r ≡ step-of (request input) ⌝ }
+// What is refused for the phase alone, or else a stop.
+fn unless(asked: bool, question: u64) -> Step
+    ensures { λ r. ⌜ r ≡ unless asked question ⌝ }
+{
+    if asked {
+        return Step::Stop;
+    }
+    Step::Refuse(question)
+}
+
+// The step of a record, in a sound state of the phase.
+fn step_of(phase: Phase, input: Record) -> Step
+    ensures { λ r. ⌜ r ≡ step-of phase (request input) ⌝ }
 {
     match input {
-        Record::Plan { depth: _, width: _ } => Step::Stop,
+        Record::Plan { depth: _, width: _ } => unless(closed(phase), 2),
         Record::Campaign {
             price: _,
             budget: _,
-        } => Step::Stop,
-        Record::Start => Step::Stop,
+        } => unless(filling(phase), 6),
+        Record::Start => unless(filling(phase), 6),
         Record::View(set) => Step::Show(set),
-        Record::Close => Step::Stop,
+        Record::Close => unless(running(phase), 11),
         Record::Done => Step::Refuse(17),
         Record::Play {
             campaign: _,
@@ -85,19 +99,19 @@ fn step_of(input: Record) -> Step
     }
 }
 
-fn read_step(line: &[u8]) -> Step
-    ensures { λ r. ⌜ r ≡ step-of (request-of (reading (now (line .entry)))) ⌝ }
+fn read_step(phase: Phase, line: &[u8]) -> Step
+    ensures { λ r. ⌜ r ≡ step-of phase (request-of (reading (now (line .entry)))) ⌝ }
 {
     match lines::read_line(line) {
-        Reading::Got(input) => step_of(input),
+        Reading::Got(input) => step_of(phase, input),
         Reading::Refusal(question) => Step::Refuse(question),
     }
 }
 
 // The line at the place from, where it ends in the input and there is room for the longest answer; else a stop.
-fn look(input: &[u8], from: usize, room: usize) -> Sight
+fn look(phase: Phase, input: &[u8], from: usize, room: usize) -> Sight
     requires { ⌜ from ≤ length (now input) ⌝ }
-    ensures { λ r. ⌜ Looks (now (input .entry)) from room r ⌝ }
+    ensures { λ r. ⌜ Looks phase (now (input .entry)) from room r ⌝ }
 {
     let end = line_end(input, from);
     if (room < ROOM) | (end == input.len()) {
@@ -107,7 +121,7 @@ fn look(input: &[u8], from: usize, room: usize) -> Sight
         };
     }
     Sight {
-        step: read_step(&input[from..end]),
+        step: read_step(phase, &input[from..end]),
         end: end,
     }
 }
@@ -155,7 +169,7 @@ fn obey_in_place<'a>(
 
 // Line after line, from a first one that is no stop.
 fn run_stretch(t: Cursor, first: Sight, input: &[u8], out: &mut [u8]) -> Cursor
-    requires { ⌜ (t .kept ≡ 0) × (sound (t .day) ≡ true) × (t .from ≤ length (now input)) × (t .at ≤ length (now out)) × Looks (now input) (t .from) (length (now out) - t .at) first ⌝ }
+    requires { ⌜ (t .kept ≡ 0) × (sound (t .day) ≡ true) × (t .from ≤ length (now input)) × (t .at ≤ length (now out)) × Looks (t .day .phase) (now input) (t .from) (length (now out) - t .at) first ⌝ }
     ensures { λ r. ⌜ ((x : Session) (d h : List ℕ) → Stands x (now (input .entry)) d true t h (now (out .entry)) → Stands x (now (input .entry)) d true r h (now (out .exit))) × (t .from ≤ r .from) ⌝ }
 {
     let day = t.day;
@@ -192,7 +206,7 @@ fn run_stretch(t: Cursor, first: Sight, input: &[u8], out: &mut [u8]) -> Cursor
         accepted = accepted + counts(answer);
         at = say(answer, out, at);
         from = next.end + 1;
-        next = look(input, from, out.len() - at);
+        next = look(phase, input, from, out.len() - at);
     }
     Cursor {
         day: Day {
@@ -222,7 +236,9 @@ pub fn pass(t: Cursor, checked: bool, input: &[u8], out: &mut [u8]) -> Cursor
     if !checked | (t.kept != 0) {
         return t;
     }
-    let first = look(input, t.from, out.len() - t.at);
+    let day = t.day;
+    let phase = day.phase;
+    let first = look(phase, input, t.from, out.len() - t.at);
     if stops(first) {
         return t;
     }

@@ -28,11 +28,11 @@ enum-known-question c = search needs
 
 -- src/stretch.rt:87:1
 returns : tie.Need-returns
-returns c = c .step-of .ensures ∙ ap (λ (r : Reading). step-of (request-of r)) (sym (c .before .before .input .given .1) ∙ c .before .before .before .before .read-line .ensures)
+returns c = c .step-of .ensures ∙ ap (λ (r : Reading). step-of (c .before .before .before .before .before .before .args .phase) (request-of r)) (sym (c .before .before .input .given .1) ∙ c .before .before .before .before .read-line .ensures)
 
 -- src/stretch.rt:87:1
 returns-2 : tie.Need-returns-2
-returns-2 c = ap (λ (r : Reading). step-of (request-of r)) (sym (c .before .question .given .1) ∙ c .before .before .before .read-line .ensures)
+returns-2 c = ap (λ (r : Reading). step-of (c .before .before .before .before .before .args .phase) (request-of r)) (sym (c .before .question .given .1) ∙ c .before .before .before .read-line .ensures)
 
 pub read-step-spec : {M : Type 1} → statement M
 read-step-spec =
