@@ -16,9 +16,9 @@ use Rattle.campaigns.specs.declared.View.{View}
 use Rattle.campaigns.specs.declared.pass.Leader.{Leader}
 use Rattle.campaigns.specs.Choice.{Role, role-of}
 use Rattle.campaigns.specs.Choice.Role.{absent, spent, chosen, passed}
-use Rattle.campaigns.specs.Campaign.{can-pay, aged, after}
+use Rattle.campaigns.specs.Campaign.{can-pay, aged, after, campaign-at}
 use Rattle.campaigns.specs.View.{names}
-use Rattle.campaigns.specs.Inner.{campaign-at, remade, Remade}
+use Rattle.campaigns.specs.Inner.{remade, Remade}
 
 -- a view leaves price and budget
 pub after-price : (k : ℕ) (r : Role) (c : Campaign) → after k r c .price ≡ c .price

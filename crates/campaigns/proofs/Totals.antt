@@ -2,24 +2,22 @@
 use mathlib.Core.Path.{_≡_, refl, ap, sym, _∙_}
 use mathlib.Core.Bool.{Bool, true, false, cond, _&&_}
 use mathlib.Core.List.{List}
-use Prim.Native.Nat.{ℕ, _-_, _*_, _≤_, _<_}
+use Prim.Native.Nat.{ℕ, _*_, _≤_, _<_}
 use native.Mathlib.Nat.{le-trans, mul-le-mul, mul-le-mul-right}
 use native.Mathlib.Omega.{arith}
-use lib.Dec.{leb, ltb, eqb}
-use lib.ListN.{getD}
+use lib.Dec.{leb, ltb}
 use borrow.Author.Tests.{leb-true, ltb-true, le-ltb}
 use Rattle.finite.specs.Finite.{sum, every}
 use Rattle.finite.proofs.Tests.{both-left, both-right, same-test, every-at, every-of, every-eq}
 use Rattle.finite.proofs.Sums.{sum-most}
-use Rattle.powers.specs.Power.{weight}
 use Rattle.campaigns.specs.declared.Campaign.{Campaign}
 use Rattle.campaigns.specs.declared.Phase.{Phase}
 use Rattle.campaigns.specs.declared.Phase.the-variants.{Filling, Running, Closed}
 use Rattle.campaigns.specs.declared.Plan.{Plan}
 use Rattle.campaigns.specs.declared.sums.Spent.{Spent}
 use Rattle.campaigns.specs.declared.sums.Sums.{Sums}
-use Rattle.campaigns.specs.Campaign.{whole, spending, price-fits, budget-fits, sound-plan, priced, counted, uncounted, untouched, sound-campaign}
-use Rattle.campaigns.specs.Inner.{campaign-at, waiting, sums-of, priced-columns, ordered-columns, untouched-columns, no-counts-in, spent-of, spendings, no-spending, waited-of}
+use Rattle.campaigns.specs.Campaign.{whole, spending, price-fits, budget-fits, sound-plan, priced, counted, uncounted, untouched, sound-campaign, campaign-at}
+use Rattle.campaigns.specs.Inner.{waiting, sums-of, priced-columns, ordered-columns, untouched-columns, no-counts-in, spent-of, spendings, no-spending, waited-of}
 use Rattle.campaigns.proofs.Laws.{plays-within, price-least, weight-top}
 
 -- the tests that a sound campaign passes

@@ -11,8 +11,8 @@ use lib.ListN.{getD}
 use borrow.Author.Tests.{eqb-true, eq-eqb, lt-ltb, le-ltb}
 use Rattle.finite.specs.Finite.{every}
 use Rattle.finite.proofs.Tests.{same-test, both-left, both-right, both-join, every-suc, every-of, every-eq, every-both}
-use Rattle.campaigns.specs.Campaign.{uncounted, empty}
-use Rattle.campaigns.specs.Inner.{campaign-at, no-terms-from, no-counts-in, empty-from}
+use Rattle.campaigns.specs.Campaign.{uncounted, empty, campaign-at}
+use Rattle.campaigns.specs.Inner.{no-terms-from, no-counts-in, empty-from}
 
 pub or-zero : (a b : ℕ) → eqb (bitOr a b) 0 ≡ (eqb a 0 && eqb b 0)
 or-zero a b =

@@ -1,7 +1,9 @@
 -- One campaign: its whole plays, score and claim, what a view does to it, and what soundness asks of it. Depth is k, width d.
 use mathlib.Core.Bool.{Bool, true, false, _&&_}
+use mathlib.Core.List.{List}
 use Prim.Native.Nat.{ℕ, _+_, _-_, _*_, _/_, _^_}
 use lib.Dec.{leb, ltb, eqb}
+use lib.ListN.{getD}
 use Rattle.powers.specs.Power.{weight, share}
 use Rattle.campaigns.specs.declared.Campaign.{Campaign}
 use Rattle.campaigns.specs.declared.Phase.{Phase}
@@ -32,19 +34,19 @@ unfoldable pub claim : (k d : ℕ) → Campaign → ℕ
 claim k d c = c .price * (c .turns * share k d + weight k d (c .age) - weight k d 0)
 
 -- the campaign with other counts, named once more (rule 4)
-abbrev pub renamed : Campaign → (plays turns age : ℕ) → Campaign
-renamed c p t a = record { price = c .price; budget = c .budget; plays = p; turns = t; age = a; named = c .named + 1 }
+abbrev pub named-again : Campaign → (plays turns age : ℕ) → Campaign
+named-again c p t a = record { price = c .price; budget = c .budget; plays = p; turns = t; age = a; named = c .named + 1 }
 
 -- rule 3: one of age more; if that makes k, one turn more and age 0
 abbrev pub aged : Bool → Campaign → Campaign
-aged true c = renamed c (c .plays) (c .turns + 1) 0
-aged false c = renamed c (c .plays) (c .turns) (c .age + 1)
+aged true c = named-again c (c .plays) (c .turns + 1) 0
+aged false c = named-again c (c .plays) (c .turns) (c .age + 1)
 
 -- what a view does to a campaign in each role; rule 2 is the player's
 abbrev pub after : (k : ℕ) → Role → Campaign → Campaign
 after k absent c = c
-after k spent c = renamed c (c .plays) (c .turns) (c .age)
-after k chosen c = renamed c (c .plays + 1) (c .turns + 1) 0
+after k spent c = named-again c (c .plays) (c .turns) (c .age)
+after k chosen c = named-again c (c .plays + 1) (c .turns + 1) 0
 after k passed c = aged (eqb (c .age + 1) k) c
 
 -- a campaign as it is added: zero counts
@@ -94,3 +96,7 @@ untouched (Closed t) c = true
 
 unfoldable pub sound-campaign : Phase → Plan → (accepted : ℕ) → Campaign → Bool
 sound-campaign p pl n c = priced c && counted pl n c && untouched p c
+
+-- the state holds campaigns in six parallel arrays; campaign i of them
+abbrev pub campaign-at : (prices budgets plays turns ages named : List ℕ) → ℕ → Campaign
+campaign-at p b l t a m i = record { price = getD p i 0; budget = getD b i 0; plays = getD l i 0; turns = getD t i 0; age = getD a i 0; named = getD m i 0 }

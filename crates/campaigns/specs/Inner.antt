@@ -1,4 +1,4 @@
--- Names for the contracts of the inner functions: how six arrays hold the campaigns, and what a pass over them finds.
+-- Names for the contracts of the inner functions: what a pass over the arrays finds.
 use mathlib.Core.Path.{_≡_}
 use mathlib.Core.Bool.{Bool, true, false, cond, not, _&&_, _||_}
 use mathlib.Core.List.{List}
@@ -19,10 +19,6 @@ use Rattle.campaigns.specs.Choice.{Choice, role-of}
 use Rattle.campaigns.specs.Choice.Choice.{nobody, plays}
 use Rattle.campaigns.specs.Campaign.{can-pay, score, spending, after, price-fits, budget-fits, sound-plan, priced, empty, sound-campaign}
 use Rattle.campaigns.specs.View.{names, offer, figure, chosen-of}
-
--- campaign i of six arrays
-abbrev pub campaign-at : (prices budgets plays turns ages named : List ℕ) → ℕ → Campaign
-campaign-at p b l t a m i = record { price = getD p i 0; budget = getD b i 0; plays = getD l i 0; turns = getD t i 0; age = getD a i 0; named = getD m i 0 }
 
 -- the numbers of a campaign are no wider than the arrays
 pub record Narrow (c : Campaign) : Type 0 where

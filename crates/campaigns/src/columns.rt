@@ -1,9 +1,10 @@
 // Soundness of the campaigns by columns: each test runs over whole arrays in their own widths and without a branch, so that
-// several entries are tested at once.
+// several entries are tested at once. The callers have tested that n is at most 64.
 use crate::Phase;
 ghost use mathlib.Core.Path.{_≡_};
 ghost use Prim.Native.Nat.{_≤_};
-ghost use Rattle.campaigns.specs.Inner.{campaign-at, priced-columns, ordered-columns, untouched-columns, no-terms-from, no-counts-in, empty-from};
+ghost use Rattle.campaigns.specs.Campaign.{campaign-at};
+ghost use Rattle.campaigns.specs.Inner.{priced-columns, ordered-columns, untouched-columns, no-terms-from, no-counts-in, empty-from};
 
 // The limits of questions 8 and 9 in the widths of the arrays.
 const MAX_PRICE: u32 = 1_000_000;

@@ -7,8 +7,8 @@ use crate::weights::weigh;
 ghost use mathlib.Core.Path.{_≡_};
 ghost use mathlib.Core.Bool.{true};
 ghost use Prim.Native.Nat.{_≤_};
-ghost use Rattle.campaigns.specs.Campaign.{priced};
-ghost use Rattle.campaigns.specs.Inner.{campaign-at, Narrow, Weights, challenged, leader-of, Entries, Ready, Remade};
+ghost use Rattle.campaigns.specs.Campaign.{priced, campaign-at};
+ghost use Rattle.campaigns.specs.Inner.{Narrow, Weights, challenged, leader-of, Entries, Ready, Remade};
 
 // The campaign that leads a choice, what it would pay, and its score. A score of 0 can lead, so that nobody is told
 // apart by a mark.
@@ -42,8 +42,8 @@ fn challenge(leader: Leader, at: u64, c: Campaign, plan: Plan, weights: &[u64; 3
     leader
 }
 
-// The choice of a view: a walk over the named campaigns. The caller has found the state sound and every name in the plan.
-pub fn choose<'a>(
+// The choice of a view: a walk over the named campaigns.
+fn choose<'a>(
     view: View,
     plan: Plan,
     weights: &'a [u64; 33],
@@ -75,9 +75,8 @@ pub fn choose<'a>(
     leader
 }
 
-// What the view does to the campaigns that it names, where they stand. The caller has found the state sound, every name in
-// the plan, and the leader.
-pub fn mark<'a>(
+// What the view does to the campaigns that it names, where they stand.
+fn mark<'a>(
     view: View,
     plan: Plan,
     leader: Leader,
@@ -105,4 +104,47 @@ pub fn mark<'a>(
         named[at] = v.named as u16;
         i = sets::next_from(set, i + 1);
     }
+}
+
+// The choice, and then the marks. The caller has found the state sound and every name in the plan.
+pub fn play<'a>(
+    view: View,
+    plan: Plan,
+    weights: &'a [u64; 33],
+    prices: &'a [u32; 64],
+    budgets: &'a [u32; 64],
+    plays: &'a mut [u16; 64],
+    turns: &'a mut [u16; 64],
+    ages: &'a mut [u16; 64],
+    named: &'a mut [u16; 64],
+) -> Leader
+    requires { ⌜ Weights plan (now weights) ⌝ }
+    requires { ⌜ Entries (now plays) (now turns) (now ages) (now named) ⌝ }
+    requires { ⌜ Ready plan view (campaign-at (now prices) (now budgets) (now plays) (now turns) (now ages) (now named)) ⌝ }
+    ensures { λ r. ⌜ r ≡ leader-of plan view (campaign-at (now (prices .entry)) (now (budgets .entry)) (now (plays .entry)) (now (turns .entry)) (now (ages .entry)) (now (named .entry))) 64 ⌝ }
+    ensures { λ r. ⌜ Remade (plan .depth) view r (campaign-at (now (prices .entry)) (now (budgets .entry)) (now (plays .entry)) (now (turns .entry)) (now (ages .entry)) (now (named .entry))) (now (plays .exit)) (now (turns .exit)) (now (ages .exit)) (now (named .exit)) ⌝ }
+{
+    let leader = choose(
+        view,
+        plan,
+        weights,
+        prices,
+        budgets,
+        plays,
+        turns,
+        ages,
+        named,
+    );
+    mark(
+        view,
+        plan,
+        leader,
+        prices,
+        budgets,
+        plays,
+        turns,
+        ages,
+        named,
+    );
+    leader
 }

@@ -3,8 +3,8 @@ use crate::Campaign;
 use crate::Terms;
 ghost use mathlib.Core.Path.{_≡_};
 ghost use mathlib.Core.Bool.{true};
-ghost use Prim.Native.Nat.{_+_, _*_, _<_, _≤_};
-ghost use Rattle.campaigns.specs.Campaign.{can-pay, renamed, after, price-fits, budget-fits};
+ghost use Prim.Native.Nat.{_+_, _*_, _≤_};
+ghost use Rattle.campaigns.specs.Campaign.{can-pay, named-again, after, price-fits, budget-fits};
 ghost use Rattle.campaigns.specs.Choice.{role-of};
 ghost use Rattle.campaigns.specs.Inner.{Narrow};
 
@@ -38,9 +38,9 @@ impl Campaign {
     }
 
     // The campaign with other counts, named once more.
-    fn renamed(self, plays: u64, turns: u64, age: u64) -> Campaign
+    fn named_again(self, plays: u64, turns: u64, age: u64) -> Campaign
         requires { ⌜ Narrow self ⌝ }
-        ensures { λ r. ⌜ r ≡ renamed self plays turns age ⌝ }
+        ensures { λ r. ⌜ r ≡ named-again self plays turns age ⌝ }
     {
         Campaign {
             price: self.price,
@@ -59,14 +59,14 @@ impl Campaign {
         ensures { λ r. ⌜ r ≡ after depth (role-of true (can-pay self) plays) self ⌝ }
     {
         if !self.can_pay() {
-            return self.renamed(self.plays, self.turns, self.age);
+            return self.named_again(self.plays, self.turns, self.age);
         }
         if plays {
-            return self.renamed(self.plays + 1, self.turns + 1, 0);
+            return self.named_again(self.plays + 1, self.turns + 1, 0);
         }
         if self.age + 1 == depth {
-            return self.renamed(self.plays, self.turns + 1, 0);
+            return self.named_again(self.plays, self.turns + 1, 0);
         }
-        self.renamed(self.plays, self.turns, self.age + 1)
+        self.named_again(self.plays, self.turns, self.age + 1)
     }
 }

@@ -9,7 +9,8 @@ use crate::entry::wide32;
 use crate::weights::weigh;
 ghost use mathlib.Core.Path.{_≡_};
 ghost use Prim.Native.Nat.{_≤_};
-ghost use Rattle.campaigns.specs.Inner.{campaign-at, Weights, spent-of, waited-of, Modest, no-sums, summed};
+ghost use Rattle.campaigns.specs.Campaign.{campaign-at};
+ghost use Rattle.campaigns.specs.Inner.{Weights, spent-of, waited-of, Modest, no-sums, summed};
 
 // What a pass over the campaigns finds: whether each is sound and, if so, the sums that soundness compares.
 pub struct Sums {

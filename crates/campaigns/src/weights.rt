@@ -47,7 +47,7 @@ pub fn weights(plan: Plan) -> [u64; 33]
     list
 }
 
-// W(age).
+// W(age). The callers hold the plan's weights and a campaign that is not past the depth.
 pub fn weigh(age: u64, plan: Plan, weights: &[u64; 33]) -> u64
     requires { ⌜ Weights plan (now weights) ⌝ }
     requires { ⌜ age ≤ plan .depth ⌝ }

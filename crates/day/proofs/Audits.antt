@@ -1,5 +1,5 @@
 -- The audit: soundness by its tests in the order of the code, and the total claim as two sums.
-use mathlib.Core.Path.{_≡_, refl, ap, sym, _∙_}
+use mathlib.Core.Path.{_≡_, refl, ap, _∙_}
 use mathlib.Core.Bool.{Bool, true, false, cond, _&&_, and-assoc, and-true}
 use Prim.Native.Nat.{ℕ, _+_, _-_, _*_, _/_, _^_, _≤_, _<_}
 use native.Mathlib.Nat.{le-trans, le-div-iff-mul-le, div-lt-iff-lt-mul, pow-lt-pow-left}
@@ -22,7 +22,7 @@ use Rattle.campaigns.proofs.Totals.{Held, campaign-held, turned-most, waited-mo
 use Rattle.day.specs.declared.Day.{Day}
 use Rattle.day.specs.Day.{campaign, full, taken, claimed, budgeted}
 use Rattle.day.specs.Sound.{sound, phase-holds}
-use Rattle.day.specs.Inner.{not-sound, audited, Bounded, claim-sum, settled}
+use Rattle.day.specs.Inner.{limits, not-sound, audited, Bounded, claim-sum, settled}
 
 -- questions 3 to 5, the last by the greatest exponent that fits
 pub plan-tells : (pl : Plan) (r : ℕ) → (pl .width ≤ 16 → Deepest (pl .width) r) → (depth-fits pl && width-fits pl && leb (pl .depth) r) ≡ sound-plan pl
@@ -66,7 +66,7 @@ regroup : (a b c x y e f g : Bool) → (a && (b && (c && ((x && y) && (e && (f &
 regroup a b c x y e f g = simp (and-assoc, and-true)
 
 abbrev pub plan-part : Day → Bool
-plan-part s = sound-plan (s .plan) && leb (s .count) 64 && leb (s .accepted) 4_096
+plan-part s = limits (s .plan) (s .count) (s .accepted)
 
 abbrev pub campaign-part : Day → Bool
 campaign-part s =
@@ -85,7 +85,7 @@ sound-parts s h =
     (leb (budgeted s) 2_000_000_000) (phase-holds (s .phase) (s .accepted) (taken s)) (claim-part s))
 
 -- a part that fails
-first-part : (s : Day) → plan-part s ≡ false → sound s ≡ false
+pub first-part : (s : Day) → plan-part s ≡ false → sound s ≡ false
 unfolding sound
 first-part s e = go (sound-plan (s .plan)) (leb (s .count) 64) (leb (s .accepted) 4_096) _ e
   where

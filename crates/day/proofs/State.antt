@@ -47,10 +47,6 @@ sound-facts s e =
       covered = leb-true (claimed s) (full (s .plan) (taken s)) (p .1 .1 .1 .1 .1 .1 .0);
     }
 
-pub plan-unsound : (s : Day) → sound-plan (s .plan) ≡ false → sound s ≡ false
-unfolding sound
-plan-unsound s e = rw e
-
 -- an entry below the last is a sound campaign, one past it is all zero
 pub sound-at : (s : Day) → Sound s → (i : ℕ) → i < s .count → sound-campaign (s .phase) (s .plan) (s .accepted) (campaign s i) ≡ true
 sound-at s h i l = sym (ap (λ (b : Bool). cond b (sound-campaign (s .phase) (s .plan) (s .accepted) (campaign s i)) (empty (campaign s i))) (lt-ltb i (s .count) l)) ∙ every-at 64 (sound-entry s) (h .entries) i (omega (arith, h .few))

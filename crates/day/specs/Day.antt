@@ -8,8 +8,7 @@ use Rattle.campaigns.specs.declared.Phase.{Phase}
 use Rattle.campaigns.specs.declared.Phase.the-variants.{Filling, Running, Closed}
 use Rattle.campaigns.specs.declared.Plan.{Plan}
 use Rattle.campaigns.specs.declared.Terms.{Terms}
-use Rattle.campaigns.specs.Campaign.{fresh}
-use Rattle.campaigns.specs.Inner.{campaign-at}
+use Rattle.campaigns.specs.Campaign.{fresh, campaign-at}
 use Rattle.campaigns.specs.View.{takings, claims}
 
 -- campaign i of the record

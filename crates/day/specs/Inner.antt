@@ -1,5 +1,5 @@
 -- Names for the contracts of the inner functions of the operations.
-use mathlib.Core.Bool.{true, false, cond, _&&_}
+use mathlib.Core.Bool.{Bool, true, false, cond, _&&_}
 use mathlib.Core.List.{List, [], _∷_}
 use mathlib.Core.Path.{_≡_}
 use Prim.Native.Nat.{ℕ, _+_, _*_, _≤_, _<_}
@@ -12,7 +12,7 @@ use Rattle.campaigns.specs.declared.Terms.{Terms}
 use Rattle.campaigns.specs.declared.View.{View}
 use Rattle.campaigns.specs.declared.pass.Leader.{Leader}
 use Rattle.campaigns.specs.declared.sums.Sums.{Sums}
-use Rattle.campaigns.specs.Campaign.{depth-fits, width-fits, power-fits}
+use Rattle.campaigns.specs.Campaign.{depth-fits, width-fits, power-fits, sound-plan}
 use Rattle.day.specs.declared.Answer.{Answer}
 use Rattle.day.specs.declared.Answer.the-variants.{Refused, Done, Played, Nobody, Tallied, Closing}
 use Rattle.day.specs.declared.Day.{Day}
@@ -25,6 +25,10 @@ use Rattle.day.specs.Calls.Call.{show-view}
 -- a state by its parts
 abbrev pub state-of : Phase → Plan → (count accepted : ℕ) → (prices budgets plays turns ages named : List ℕ) → Day
 state-of p pl n a x b l t g m = record { phase = p; plan = pl; count = n; accepted = a; prices = x; budgets = b; plays = l; turns = t; ages = g; named = m }
+
+-- the first tests of soundness: the plan's, and the limits of campaigns and views
+abbrev pub limits : Plan → (count accepted : ℕ) → Bool
+limits pl n a = sound-plan pl && leb n 64 && leb a 4_096
 
 -- an audit that fails, and that of a state
 abbrev pub not-sound : Audit

@@ -7,10 +7,11 @@ use campaigns::sums::Sums;
 use campaigns::sums::sum_all;
 use campaigns::weights::weigh;
 ghost use mathlib.Core.Path.{_≡_};
-ghost use Rattle.campaigns.specs.Campaign.{depth-fits, width-fits, sound-plan};
+ghost use Prim.Native.Nat.{_≤_};
+ghost use Rattle.campaigns.specs.Campaign.{depth-fits, width-fits};
 ghost use Rattle.campaigns.specs.Inner.{Weights};
 ghost use Rattle.day.specs.Sound.{phase-holds};
-ghost use Rattle.day.specs.Inner.{state-of, not-sound, Bounded, settled, audited};
+ghost use Rattle.day.specs.Inner.{state-of, limits, not-sound, Bounded, settled, audited};
 
 // Whether the state is sound and, if so, the sum of its budgets, its takings, total claim and full.
 pub struct Audit {
@@ -47,11 +48,15 @@ pub fn width_fits(plan: Plan) -> bool
     (1 <= plan.width) & (plan.width <= Day::MAX_WIDTH)
 }
 
-// Questions 3 to 5.
-pub fn plan_fits(plan: Plan) -> bool
-    ensures { λ r. ⌜ r ≡ sound-plan plan ⌝ }
+// Questions 3 to 5 of a state's plan, and the limits of its campaigns and its views.
+pub fn limits_hold(plan: Plan, count: u64, accepted: u64) -> bool
+    ensures { λ r. ⌜ r ≡ limits plan count accepted ⌝ }
 {
-    depth_fits(plan) & width_fits(plan) & (plan.depth <= powers::deepest(plan.width))
+    depth_fits(plan)
+        & width_fits(plan)
+        & (plan.depth <= powers::deepest(plan.width))
+        & (count <= Day::MAX_CAMPAIGNS)
+        & (accepted <= Day::MAX_VIEWS)
 }
 
 // In Filling no view is accepted; a Closed phase holds the takings.
@@ -91,7 +96,7 @@ fn settle(sums: Sums, plan: Plan, weights: &[u64; 33]) -> Audit
     }
 }
 
-// The audit of a state whose plan fits, handed in by its parts so that no array is copied. The callers have its weights.
+// The audit of a state within its limits, handed in by its parts so that no array is copied. The callers have its weights.
 pub fn examine<'a>(
     phase: Phase,
     plan: Plan,
@@ -105,12 +110,9 @@ pub fn examine<'a>(
     ages: &'a [u16; 64],
     named: &'a [u16; 64],
 ) -> Audit
-    requires { ⌜ Weights plan (now weights) ⌝ }
+    requires { ⌜ Weights plan (now weights) × (count ≤ 64) × (accepted ≤ 4096) ⌝ }
     ensures { λ r. ⌜ r ≡ audited (state-of phase plan count accepted (now (prices .entry)) (now (budgets .entry)) (now (plays .entry)) (now (turns .entry)) (now (ages .entry)) (now (named .entry))) ⌝ }
 {
-    if !((count <= Day::MAX_CAMPAIGNS) & (accepted <= Day::MAX_VIEWS)) {
-        return Audit::unsound();
-    }
     let n = count as usize;
     let sums = sum_all(
         n,

@@ -55,7 +55,7 @@ impl Day {
     {
         let phase = self.phase;
         let plan = self.plan;
-        if !crate::audit::plan_fits(plan) {
+        if !crate::audit::limits_hold(plan, self.count, self.accepted) {
             return Audit::unsound();
         }
         let weights = campaigns::weights::weights(plan);

@@ -3,16 +3,16 @@ use crate::Answer;
 use crate::Day;
 use crate::Outcome;
 use crate::audit::examine;
-use crate::audit::plan_fits;
+use crate::audit::limits_hold;
 use campaigns::Phase;
 use campaigns::Plan;
 use campaigns::View;
 use campaigns::pass::Leader;
-use campaigns::pass::choose;
-use campaigns::pass::mark;
+use campaigns::pass::play;
 use campaigns::weights::weights;
 ghost use mathlib.Core.Path.{_≡_};
 ghost use mathlib.Core.Bool.{true};
+ghost use Prim.Native.Nat.{_≤_};
 ghost use Rattle.campaigns.specs.Inner.{Weights, Entries};
 ghost use Rattle.day.specs.Day.{is-running};
 ghost use Rattle.day.specs.Sound.{sound};
@@ -90,7 +90,8 @@ pub fn counts(answer: Answer) -> u64
     }
 }
 
-// The view of a sound state, whose counts are changed where they stand. `show` calls it.
+// The view of a sound state, whose counts are changed where they stand: `show` has tested the state, and the desk keeps
+// the one that it tested.
 pub fn show_sound<'a>(
     phase: Phase,
     plan: Plan,
@@ -114,21 +115,10 @@ pub fn show_sound<'a>(
     if question != 0 {
         return Answer::Refused(question);
     }
-    let leader = choose(
+    let leader = play(
         view,
         plan,
         weights,
-        prices,
-        budgets,
-        plays,
-        turns,
-        ages,
-        named,
-    );
-    mark(
-        view,
-        plan,
-        leader,
         prices,
         budgets,
         plays,
@@ -154,7 +144,7 @@ fn is_sound<'a>(
     ages: &'a [u16; 64],
     named: &'a [u16; 64],
 ) -> bool
-    requires { ⌜ Weights plan (now weights) ⌝ }
+    requires { ⌜ Weights plan (now weights) × (count ≤ 64) × (accepted ≤ 4096) ⌝ }
     requires { ⌜ (checked ≡ true → sound (state-of phase plan count accepted (now prices) (now budgets) (now plays) (now turns) (now ages) (now named)) ≡ true) ⌝ }
     ensures { λ r. ⌜ r ≡ sound (state-of phase plan count accepted (now (prices .entry)) (now (budgets .entry)) (now (plays .entry)) (now (turns .entry)) (now (ages .entry)) (now (named .entry))) ⌝ }
 {
@@ -198,7 +188,7 @@ pub fn show<'a>(
     requires { ⌜ (checked ≡ true → sound (state-of phase plan count accepted (now prices) (now budgets) (now plays) (now turns) (now ages) (now named)) ≡ true) ⌝ }
     ensures { λ r. ⌜ Shows (state-of phase plan count accepted (now (prices .entry)) (now (budgets .entry)) (now (plays .entry)) (now (turns .entry)) (now (ages .entry)) (now (named .entry))) view r (now (plays .exit)) (now (turns .exit)) (now (ages .exit)) (now (named .exit)) ⌝ }
 {
-    if !plan_fits(plan) {
+    if !limits_hold(plan, count, accepted) {
         return Answer::Refused(1);
     }
     let weights = weights(plan);

@@ -1,20 +1,20 @@
 -- What a desk holds after a run over a block, and at the end of input.
 use mathlib.Core.Path.{_≡_, refl, sym, ap, _∙_, subst}
-use mathlib.Core.Bool.{Bool, true, false, cond}
+use mathlib.Core.Bool.{Bool, true, false}
 use mathlib.Core.List.{List, [], _∷_, _++_}
-use Prim.Native.Nat.{ℕ, min, _+_, _≤_, _<_}
+use Prim.Native.Nat.{ℕ, min, _≤_, _<_}
 use native.Mathlib.Omega.{arith}
 use lib.Dec.{leb}
 use lib.ListN.{length, take, drop, length-take}
 use lib.Seq.{take-all}
 use borrow.Author.Tests.{le-leb, lt-leb, leb-true, leb-false}
-use Rattle.writer.specs.Buffer.{over, Put}
+use Rattle.writer.specs.Buffer.{Put}
 use Rattle.writer.proofs.Buffers.{over-front}
 use Rattle.desk.specs.declared.line.Served.{Served}
 use Rattle.desk.specs.declared.feed.Cursor.{Cursor}
 use Rattle.desk.specs.declared.feed.Desk.{Desk}
 use Rattle.desk.specs.Desk.{reply, next, Serves}
-use Rattle.desk.specs.Session.{Session, ended, fed, ended-if, finished, taking, taken-of, session, session-of, Holds, Feeds, Finishes, Runs}
+use Rattle.desk.specs.Session.{Session, ended, ended-if, finished, session, session-of, Holds, Feeds, Finishes, Runs}
 
 -- no more than 201 bytes are held
 pub take-least : (h : List ℕ) (k : ℕ) → length h ≡ 201 → take (min k 201) h ≡ take k h

@@ -1,13 +1,12 @@
 -- A line served: its answer's first line and, on closing, the tallies behind it.
-use mathlib.Core.Path.{_≡_, refl, sym, ap, _∙_, subst}
-use mathlib.Core.Bool.{Bool, true, false, cond}
-use mathlib.Core.List.{List, [], _++_, append-nil}
+use mathlib.Core.Path.{_≡_, sym, ap, _∙_, subst}
+use mathlib.Core.Bool.{true, false}
+use mathlib.Core.List.{List, _++_, append-nil}
 use Prim.Native.Nat.{ℕ, _+_, _≤_}
 use native.Mathlib.Omega.{arith}
 use Rattle.writer.specs.Buffer.{Put}
 use Rattle.day.specs.declared.Day.{Day}
 use Rattle.day.specs.declared.Outcome.{Outcome}
-use Rattle.desk.specs.declared.line.Served.{Served}
 use Rattle.desk.specs.Desk.{outcome, tallies, spoken, is-closing, sayable, told, reply, next, Serves}
 use Rattle.desk.proofs.Over.{put-then}
 use Rattle.desk.proofs.Ranges.{said-range, closing-few}

@@ -1,5 +1,5 @@
 -- Laws of feeding bytes: in pieces, up to the end of a line, and as far as there is room.
-use mathlib.Core.Path.{_≡_, refl, sym, ap, _∙_, subst}
+use mathlib.Core.Path.{_≡_, refl, sym, ap, _∙_}
 use mathlib.Core.Bool.{Bool, true, false, cond}
 use mathlib.Core.List.{List, [], _∷_, _++_, append-assoc, append-nil}
 use Prim.Native.Nat.{ℕ, zero, suc, _+_, _≤_, _<_}
@@ -11,7 +11,7 @@ use lib.Seq.{take-all, take-length, take-suc, take-suc-set, take-append-add, len
 use borrow.Author.Tests.{le-leb, lt-leb, lt-ltb, leb-true, leb-false, ltb-true, ltb-false, eqb-true, ne-eqb}
 use Rattle.lines.specs.declared.Reading.{Reading}
 use Rattle.lines.specs.declared.Reading.the-variants.{Refusal}
-use Rattle.lines.specs.Reading.{reading, firstOf, forms}
+use Rattle.lines.specs.Reading.{reading}
 use Rattle.day.specs.declared.Day.{Day}
 use Rattle.desk.specs.Desk.{request-of, obeyed, outcome, told, reply, next}
 use Rattle.desk.specs.Session.{Session, longer, ended, after-byte, fed, taking, upto, line-of}

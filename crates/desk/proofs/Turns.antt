@@ -1,7 +1,7 @@
 -- A turn keeps the session standing, and where no turn is left it has taken what there is room for.
 use mathlib.Core.Path.{_≡_, refl, sym, ap, _∙_, subst}
 use mathlib.Core.Bool.{Bool, true, false}
-use mathlib.Core.List.{List, [], _∷_, _++_}
+use mathlib.Core.List.{List, [], _++_}
 use Prim.Native.Nat.{ℕ, suc, _+_, _≤_, _<_}
 use native.Mathlib.Omega.{arith}
 use lib.Dec.{ltb}
@@ -13,7 +13,7 @@ use Rattle.day.specs.declared.Day.{Day}
 use Rattle.day.specs.Sound.{sound}
 use Rattle.desk.specs.declared.feed.Cursor.{Cursor}
 use Rattle.desk.specs.Desk.{reply, next}
-use Rattle.desk.specs.Session.{Session, longer, ended, fed, taking, taken-of, session, line-of, upto, Line, Rest, Turned, Stands, Runs}
+use Rattle.desk.specs.Session.{Session, longer, ended, fed, taking, session, line-of, upto, Line, Rest, Turned, Stands, Runs}
 use Rattle.desk.proofs.Over.{put-then, put-none}
 use Rattle.desk.proofs.Ranges.{next-sound}
 use Rattle.desk.proofs.Sessions.{fed-append, upto-le, line-fed, rest-fed, taking-nil, taking-stop, taking-line, taking-rest}

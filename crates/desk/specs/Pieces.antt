@@ -2,7 +2,7 @@
 use mathlib.Core.Path.{_≡_}
 use mathlib.Core.List.{List, [], _∷_, _++_}
 use Prim.Native.Nat.{ℕ}
-use lib.ListN.{length, take}
+use lib.ListN.{length}
 use Rattle.day.specs.declared.Day.{Day}
 use Rattle.desk.specs.Desk.{reply, next}
 use Rattle.desk.specs.Session.{Session, fed, upto}

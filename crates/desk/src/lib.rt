@@ -1,8 +1,8 @@
 // One input line answered: the state and the line go in, the state and the answer's bytes come out.
 pub mod feed;
-pub mod line;
-pub mod say;
-pub mod stretch;
+mod line;
+mod say;
+mod stretch;
 
 use day::Day;
 ghost use mathlib.Core.Path.{_≡_};

@@ -15,6 +15,7 @@ use Rattle.day.specs.declared.Day.{Day}
 use Rattle.day.specs.Day.{campaign}
 use Rattle.day.specs.Calls.{player}
 use Rattle.laws.specs.Choice.{Right}
+use Rattle.laws.specs.Demands.{Plays-right}
 
 -- a law on both sides of m and at m
 by-order : (P : ℕ → Type 0) (m i : ℕ) → (i < m → P i) → P m → (m < i → P i) → P i
@@ -124,7 +125,7 @@ choice-eq n a b f g h q = choice-only n b g (choice n a f) (go (choice n a f) (c
     }
 
 -- who plays a view: of the named campaigns that can pay the one with the greatest score, the lowest such
-pub player-right : (s : Day) (w : View) → Right (s .count) (able (s .plan) w (campaign s)) (λ i. figure (s .plan) w i (campaign s i)) (player s w)
+pub player-right : (s : Day) (w : View) → Plays-right s w
 player-right s w = choice-right (s .count) (able (s .plan) w (campaign s)) (λ i. figure (s .plan) w i (campaign s i))
 
 pub player-only : (s : Day) (w : View) (ch : Choice) → Right (s .count) (able (s .plan) w (campaign s)) (λ i. figure (s .plan) w i (campaign s i)) ch → ch ≡ player s w

@@ -8,3 +8,4 @@ pub mod SoundCampaign
 pub mod Sound
 pub mod Refusals
 pub mod Cases
+pub mod Demands

@@ -1,3 +1,4 @@
 pub mod Choice
 pub mod Transcript
 pub mod Cases
+pub mod Demands

@@ -14,7 +14,7 @@ use Rattle.powers.proofs.Weight.{weight-top}
 use Rattle.campaigns.specs.declared.Campaign.{Campaign}
 use Rattle.campaigns.specs.Choice.{Choice, is, role-of}
 use Rattle.campaigns.specs.Choice.Choice.{nobody, plays}
-use Rattle.campaigns.specs.Campaign.{whole, can-pay, renamed, after, aged}
+use Rattle.campaigns.specs.Campaign.{whole, can-pay, named-again, after, aged}
 use Rattle.paper.specs.Fraction.{Fraction, integer, _⊗_, lesser, _≈_}
 use Rattle.paper.specs.Algorithm4.{Instance, Neighbors, Variables, C, part, feasible, feasible-neighbor, grown, line-3, line-5, line-6, line-9, lines-9-to-11}
 use Rattle.paper.proofs.Choices.{Fits}
@@ -71,7 +71,7 @@ marked-by I j i c p z x y one e a = record {
 }
 
 -- other counts, the same turns
-recounted : (I : Instance) (j i : ℕ) (c : Campaign) (p q a : ℕ) (z : Fraction) (x : ℕ → ℕ) → Accounts I j i c p z x → Accounts I j i (renamed c q (c .turns) a) p z x
+recounted : (I : Instance) (j i : ℕ) (c : Campaign) (p q a : ℕ) (z : Fraction) (x : ℕ → ℕ) → Accounts I j i c p z x → Accounts I j i (named-again c q (c .turns) a) p z x
 unfolding whole
 recounted I j i c p q a z x h = record { bid = h .bid; copies = h .copies; finished = h .finished; matched = h .matched; later = h .later }
 
@@ -100,7 +100,7 @@ module _ (I : Instance) (deep : 0 < I .k) (wide : 1 < I .d) (i : ℕ) (bid-posit
 
   -- and close one that is finished
   done : (j : ℕ) (N : Neighbors) (v : Variables) (c : Campaign) (p : ℕ) → Accounts I j i c p (v .z i) (v .x i) → N i ≡ true
-      → 0 < v .zᶜ i .denominator → v .zᶜ i .numerator * I .B i ≡ I .b i * v .zᶜ i .denominator → Follows I j (lines-9-to-11 I N v) i (renamed c p (c .turns + 1) 0)
+      → 0 < v .zᶜ i .denominator → v .zᶜ i .numerator * I .B i ≡ I .b i * v .zᶜ i .denominator → Follows I j (lines-9-to-11 I N v) i (named-again c p (c .turns + 1) 0)
   unfolding whole
   done j N v c p a named positive cross =
       let e : line-9 I N v i ≡ true = rw (named, eq-eqb (v .zᶜ i .numerator * I .B i) (I .b i * v .zᶜ i .denominator) cross) in
@@ -137,7 +137,7 @@ module _ (I : Instance) (deep : 0 < I .k) (wide : 1 < I .d) (i : ℕ) (bid-posit
       where
         go : (t u : Bool) → (t && u) ≡ false → Follows I (suc j) (lines-9-to-11 I N v) i (after (I .k) (role-of t u false) c)
         go false u q = kept (suc j) N v c untouched (f .young) (f .current)
-        go true false q = kept (suc j) N v (renamed c (c .plays) (c .turns) (c .age)) (recounted I (suc j) i c (c .plays) (c .plays) (c .age) (v .z i) (v .x i) untouched) (f .young) (f .current)
+        go true false q = kept (suc j) N v (named-again c (c .plays) (c .turns) (c .age)) (recounted I (suc j) i c (c .plays) (c .plays) (c .age) (v .z i) (v .x i) untouched) (f .young) (f .current)
         go true true q = absurd (never true q refl)
 
     -- i is matched
@@ -179,7 +179,7 @@ module _ (I : Instance) (deep : 0 < I .k) (wide : 1 < I .d) (i : ℕ) (bid-posit
           let young : c .age + 1 < I .k = omega (arith, f .young, eqb-false (c .age + 1) (I .k) e) in
           let low : up .numerator * I .B i < I .b i * up .denominator = below-part I i deep wide bid-positive budget-positive up (weight (I .k) (I .d) (c .age + 1)) up-value (weight-below I deep wide (c .age + 1) young) in
           let r : line-3 I j N (plays m) v .zᶜ i ≡ up = q ∙ ap (λ t. cond t up (part I i)) (lt-ltb (up .numerator * I .B i) (I .b i * up .denominator) low) in
-          kept (suc j) N (line-3 I j N (plays m) v) (renamed c (c .plays) (c .turns) (c .age + 1)) (recounted I (suc j) i c (c .plays) (c .plays) (c .age + 1) (v .z i) (line-5 j m v .x i) row)
+          kept (suc j) N (line-3 I j N (plays m) v) (named-again c (c .plays) (c .turns) (c .age + 1)) (recounted I (suc j) i c (c .plays) (c .plays) (c .age + 1) (v .z i) (line-5 j m v .x i) row)
           young (rw r up-value)
 
       after-other : Follows I (suc j) (lines-9-to-11 I N (line-3 I j N (plays m) v)) i (after (I .k) (role-of (N i) (can-pay c) (eqb i m)) c)
@@ -189,7 +189,7 @@ module _ (I : Instance) (deep : 0 < I .k) (wide : 1 < I .d) (i : ℕ) (bid-posit
               → Follows I (suc j) (lines-9-to-11 I N (line-3 I j N (plays m) v)) i (after (I .k) (role-of t u false) c)
           go false e u q = kept (suc j) N (line-3 I j N (plays m) v) c row (f .young) (rw q (f .current))
           go true e false q =
-              kept (suc j) N (line-3 I j N (plays m) v) (renamed c (c .plays) (c .turns) (c .age)) (recounted I (suc j) i c (c .plays) (c .plays) (c .age) (v .z i) (line-5 j m v .x i) row)
+              kept (suc j) N (line-3 I j N (plays m) v) (named-again c (c .plays) (c .turns) (c .age)) (recounted I (suc j) i c (c .plays) (c .plays) (c .age) (v .z i) (line-5 j m v .x i) row)
               (f .young) (rw q (f .current))
           go true e true q = after-passed (eqb (c .age + 1) (I .k)) refl e q
 

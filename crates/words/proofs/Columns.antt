@@ -6,7 +6,7 @@ use Prim.Native.Nat.{ℕ, _+_, _≤_, _<_}
 use native.Mathlib.Omega.{arith}
 use native.Mathlib.Numerals.{add-one}
 use lib.Dec.{ltb}
-use lib.ListN.{length, getD, set, take, drop, length-append, length-drop}
+use lib.ListN.{length, getD, set, take, drop, length-append}
 use lib.Seq.{paste, paste-suc, take-suc, take-suc-set, take-at, drop-at, drop-drop, take-all, drop-length}
 use borrow.Author.Tests.{ltb-true, le-ltb}
 use Rattle.finite.proofs.Tests.{both-left, both-right, every-at, every-not}

@@ -1,6 +1,6 @@
 use Rattle.campaigns.proofs.Leads.{leader-gap, leader-next}
-use Rattle.campaigns.specs.Inner.{campaign-at, challenged, leader-of}
-use Rattle.campaigns.specs.Campaign.{priced}
+use Rattle.campaigns.specs.Inner.{challenged, leader-of}
+use Rattle.campaigns.specs.Campaign.{priced, campaign-at}
 use Rattle.campaigns.specs.Choice.{best, choice}
 use Rattle.campaigns.specs.declared.pass.Leader.{Leader}
 use Rattle.campaigns.specs.declared.Campaign.{Campaign}

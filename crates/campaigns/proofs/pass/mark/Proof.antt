@@ -1,18 +1,17 @@
 use Rattle.campaigns.proofs.Marks.{Counts, after-grown, cut, cut-here, gap-counts, step-counts, end-counts}
 use Rattle.campaigns.proofs.Laws.{price-least}
-use Rattle.campaigns.specs.Inner.{campaign-at, remade}
-use Rattle.campaigns.specs.Campaign.{can-pay, after}
+use Rattle.campaigns.specs.Inner.{remade}
+use Rattle.campaigns.specs.Campaign.{can-pay, after, campaign-at}
 use Rattle.campaigns.specs.Choice.{role-of}
 use Rattle.campaigns.specs.declared.Campaign.{Campaign}
 use Rattle.sets.proofs.Walk.{next-at}
 use Rattle.sets.specs.Set.{member}
 use lib.Dec.{eqb}
-use lib.ListN.{length}
 use borrow.Author.Tests.{le-ltb}
 use borrow.Author.Needs.{needs}
 use native.Mathlib.Omega.{arith}
 use Prim.Native.Nat.{ℕ, _+_, _-_, _≤_, _<_}
-use mathlib.Core.Bool.{Bool, true, cond, _&&_}
+use mathlib.Core.Bool.{Bool, true, _&&_}
 use mathlib.Core.Path.{_≡_, ap, sym, subst, _∙_}
 use Rattle.campaigns.proofs.pass.mark.Statement.{statement}
 use Rattle.campaigns.proofs.pass.mark.Tie as tie

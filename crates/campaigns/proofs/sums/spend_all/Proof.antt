@@ -2,15 +2,14 @@ use Rattle.finite.proofs.Tests.{every-next, every-not, both-join}
 use Rattle.finite.proofs.Sums.{sum-next}
 use borrow.Author.Tests.{le-leb, lt-leb}
 use native.Mathlib.Nat.{mul-le-mul}
-use Rattle.campaigns.specs.Inner.{spent-of, spendings}
+use Rattle.campaigns.specs.Inner.{spent-of}
 use Rattle.finite.specs.Finite.{sum, every}
 use lib.ListN.{getD}
 use lib.Dec.{leb}
 use native.Mathlib.Omega.{arith}
-use native.Mathlib.Numerals.{add-one}
-use Prim.Native.Nat.{ℕ, _+_, _-_, _*_, _≤_}
-use mathlib.Core.Bool.{true, and-assoc}
-use mathlib.Core.Path.{_≡_, refl, ap, ap₂, _∙_}
+use Prim.Native.Nat.{ℕ, _-_, _*_, _≤_}
+use mathlib.Core.Bool.{true}
+use mathlib.Core.Path.{_≡_, refl, ap₂, _∙_}
 use borrow.Author.Needs.{needs}
 use Rattle.campaigns.proofs.sums.spend_all.Statement.{statement}
 use Rattle.campaigns.proofs.sums.spend_all.Tie as tie

@@ -1,7 +1,7 @@
 use Rattle.campaigns.proofs.Laws.{plan-sized}
-use Rattle.campaigns.proofs.Totals.{Held, campaign-held, columns, columns-sound, joined, sums-join}
-use Rattle.campaigns.specs.Inner.{campaign-at, summed, sums-of}
-use Rattle.campaigns.specs.Campaign.{sound-campaign}
+use Rattle.campaigns.proofs.Totals.{Held, campaign-held, columns, columns-sound, sums-join}
+use Rattle.campaigns.specs.Inner.{summed}
+use Rattle.campaigns.specs.Campaign.{sound-campaign, campaign-at}
 use Rattle.campaigns.specs.declared.Campaign.{Campaign}
 use Rattle.campaigns.specs.declared.sums.Spent.{Spent}
 use Rattle.campaigns.specs.declared.sums.Sums.{Sums}
@@ -11,7 +11,7 @@ use borrow.Author.Tests.{not-true, not-false}
 use native.Mathlib.Omega.{arith}
 use Prim.Native.Nat.{ℕ, _<_}
 use mathlib.Core.Bool.{Bool, true, _&&_}
-use mathlib.Core.Path.{_≡_, ap, ap₂, sym, _∙_}
+use mathlib.Core.Path.{_≡_, ap₂, sym, _∙_}
 use borrow.Author.Needs.{needs}
 use Rattle.campaigns.proofs.sums.sum_all.Statement.{statement}
 use Rattle.campaigns.proofs.sums.sum_all.Tie as tie

@@ -6,8 +6,7 @@ use Rattle.campaigns.specs.Inner.{waited-of}
 use Rattle.finite.specs.Finite.{sum}
 use lib.ListN.{getD}
 use native.Mathlib.Omega.{arith}
-use native.Mathlib.Numerals.{add-one}
-use Prim.Native.Nat.{ℕ, _+_, _-_, _*_, _≤_}
+use Prim.Native.Nat.{ℕ, _-_, _*_, _≤_}
 use Rattle.powers.specs.Power.{weight}
 use mathlib.Core.Path.{_≡_, refl, ap, ap₂, _∙_}
 use borrow.Author.Needs.{needs}

@@ -7,7 +7,6 @@ use lib.ListN.{getD, set, length, length-set}
 use lib.Seq.{getD-set-same, getD-set-other}
 use Prim.Native.Nat.{ℕ, _+_, _-_, _*_, _^_, _≤_, _<_}
 use mathlib.Core.Path.{_≡_, refl, ap, sym, subst, _∙_}
-use borrow.Author.Needs.{needs}
 use Rattle.campaigns.proofs.weights.falling.Statement.{statement}
 use Rattle.campaigns.proofs.weights.falling.Tie as tie
 use Rattle.campaigns.proofs.weights.falling.Reads as reads

@@ -9,7 +9,6 @@ use Prim.Native.Nat.{ℕ, _+_, _-_, _*_, _^_, _≤_, _<_}
 use native.Mathlib.Numerals.{add-one}
 use native.Mathlib.Nat.{pow-zero, pow-suc, pow-le-pow-right, le-trans, mul-comm, mul-le-mul}
 use mathlib.Core.Path.{_≡_, ap, ap₂, sym, _∙_}
-use borrow.Author.Needs.{needs}
 use Rattle.campaigns.proofs.weights.raise.Statement.{statement}
 use Rattle.campaigns.proofs.weights.raise.Tie as tie
 use Rattle.campaigns.proofs.weights.raise.Reads as reads

@@ -1,9 +1,8 @@
-use Rattle.day.specs.Inner.{state-of}
 use lib.ListN.{length}
-use Prim.Native.Nat.{ℕ, _+_, _<_}
+use Prim.Native.Nat.{_<_}
 use Rattle.day.proofs.Shown.{shows-call, shows-room}
 use native.Mathlib.Omega.{arith}
-use mathlib.Core.Path.{_≡_, ap, sym, _∙_}
+use mathlib.Core.Path.{_≡_}
 use borrow.Author.Needs.{needs}
 use Rattle.day.proofs.Day.view_checked.Statement.{statement}
 use Rattle.day.proofs.Day.view_checked.Tie as tie

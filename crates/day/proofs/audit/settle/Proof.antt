@@ -1,6 +1,5 @@
 use Rattle.day.proofs.Audits.{high-is, share-is, low-below, over, under, settled-not, settled-is}
 use Rattle.day.specs.declared.audit.Audit.{Audit}
-use Rattle.campaigns.proofs.Laws.{plan-sized}
 use Rattle.powers.specs.Power.{share}
 use native.Mathlib.Omega.{arith}
 use native.Mathlib.Nat.{mul-le-mul}

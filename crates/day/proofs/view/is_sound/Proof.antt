@@ -8,15 +8,15 @@ use Rattle.day.proofs.view.is_sound.Reads as reads
 use Rattle.day.proofs.view.is_sound.Lts as lts
 use Rattle.day.proofs.audit.examine.Reads as examine-reads
 
--- src/view.rt:162:9
+-- src/view.rt:151:9
 returns : tie.Need-returns
 returns c = sym (c .before .pre .1 (c .if1 .taken))
 
--- src/view.rt:164:9
+-- src/view.rt:153:9
 examine-requires : tie.Need-examine-requires
 examine-requires c κs = search needs
 
--- src/view.rt:143:1
+-- src/view.rt:132:1
 returns-2 : tie.Need-returns-2
 returns-2 c = let s = c .before .before in audit-sound (state-of (s .args .phase) (s .args .plan) (s .args .count) (s .args .accepted) (s .args .prices .now) (s .args .budgets .now) (s .args .plays .now) (s .args .turns .now) (s .args .ages .now) (s .args .named .now)) (c .examine .result) (c .examine .ensures)
 

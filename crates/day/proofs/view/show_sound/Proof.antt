@@ -13,8 +13,7 @@ use Rattle.day.proofs.view.show_sound.Statement.{statement}
 use Rattle.day.proofs.view.show_sound.Tie as tie
 use Rattle.day.proofs.view.show_sound.Reads as reads
 use Rattle.day.proofs.view.show_sound.Lts as lts
-use Rattle.campaigns.proofs.pass.choose.Reads as choose-reads
-use Rattle.campaigns.proofs.pass.mark.Reads as mark-reads
+use Rattle.campaigns.proofs.pass.play.Reads as play-reads
 use Rattle.day.proofs.view.told.Reads as told-reads
 use Rattle.day.proofs.view.view_question.Reads as view-question-reads
 
@@ -40,22 +39,17 @@ returns : tie.Need-returns
 returns c = refused-shows (state (c .before .before)) (c .before .before .args .view) (c .before .view-question .result) (refused-is (state (c .before .before)) (show-view (c .before .before .args .view)) (c .before .view-question .result) (asked (c .before)) (c .if1 .taken))
 
 -- src/view.rt:117:9
-choose-requires : tie.Need-choose-requires
-choose-requires c κs = (c .before .before .before .before .before .before .pre .0, ready (c .before .before .before .before))
+play-requires : tie.Need-play-requires
+play-requires c κs = (c .before .before .before .before .before .before .pre .0, (c .before .before .before .before .before .before .pre .1 .0, ready (c .before .before .before .before)))
 
 -- src/view.rt:128:5
-mark-requires : tie.Need-mark-requires
-mark-requires c κs = (c .before .before .before .before .before .before .before .before .before .before .before .pre .1 .0, ready (c .before .before .before .before .before .before .before .before .before))
-
--- src/view.rt:139:5
 told-requires : tie.Need-told-requires
 told-requires c κs = search needs
 
 -- src/view.rt:94:1
 returns-2 : tie.Need-returns-2
-returns-2 c = let s = c .before .before .before .before .before .before .before .before .before .before .before .before .before in accepted-shows (state s) (s .args .view) (c .before .before .before .before .before .before .choose .result) (yes (c .before .before .before .before .before .before .before .before .before .before .before)) (c .before .before .before .before .before .before .choose .ensures) _ _ _ _ (c .told .result) (c .before .mark .ensures) (c .told .ensures)
+returns-2 c = let s = c .before .before .before .before .before .before .before .before in accepted-shows (state s) (s .args .view) (c .before .play .result) (yes (c .before .before .before .before .before .before)) (c .before .play .ensures .0) _ _ _ _ (c .told .result) (c .before .play .ensures .1) (c .told .ensures)
 
 pub show-sound-spec : {M : Type 1} → statement M
 show-sound-spec =
-    tie.close
-    (tie.spec view-question-requires returns choose-requires mark-requires told-requires returns-2)
+    tie.close (tie.spec view-question-requires returns play-requires told-requires returns-2)

@@ -1,4 +1,3 @@
-use borrow.Author.Needs.{needs}
 use Rattle.day.proofs.view.told.Statement.{statement}
 use Rattle.day.proofs.view.told.Tie as tie
 use Rattle.day.proofs.view.told.Reads as reads

@@ -1,9 +1,8 @@
-use mathlib.Core.Path.{_≡_, refl, ap, sym, _∙_}
-use mathlib.Core.List.{List, [], _++_, append-nil}
-use Prim.Native.Nat.{ℕ, _+_, _-_, _≤_}
+use mathlib.Core.Path.{_≡_, sym, _∙_}
+use mathlib.Core.List.{_++_, append-nil}
+use Prim.Native.Nat.{_+_, _-_, _≤_}
 use native.Mathlib.Omega.{arith}
-use lib.ListN.{length, take, getD, set, length-set}
-use Rattle.desk.specs.Session.{line-of}
+use lib.ListN.{length, take, getD, length-set}
 use Rattle.desk.proofs.Sessions.{keep-more, keep-all}
 use Rattle.desk.proofs.feed.keep.Statement.{statement}
 use Rattle.desk.proofs.feed.keep.Tie as tie

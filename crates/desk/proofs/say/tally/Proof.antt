@@ -1,5 +1,4 @@
 use mathlib.Core.Path.{ap}
-use native.Mathlib.Omega.{arith}
 use borrow.Author.Needs.{needs}
 use Rattle.campaigns.specs.declared.Campaign.{Campaign}
 use Rattle.lines.specs.declared.Record.the-variants.{Tally}

@@ -58,10 +58,10 @@ same-length c = search needs
 -- src/stretch.rt:217:1
 returns-3 : tie.Need-returns-3
 returns-3 c = (
-      λ x d h k. subst (λ (b : Bool). Stands x (c .before .before .before .before .before .before .before .before .before .before .before .before .before .args .input .now) d b (c .before .before .run-stretch .result) h (c .before .before .run-stretch .last .1 .1 .1 .0)) (sym (sure (c .before .before .before .before .before .before .before .before .before)))
-          (c .before .before .run-stretch .ensures .0 x d h (subst (λ (b : Bool). Stands x (c .before .before .before .before .before .before .before .before .before .before .before .before .before .args .input .now) d b (c .before .before .before .before .before .before .before .before .before .before .before .before .before .args .t) h (c .before .before .before .before .before .before .before .before .before .before .before .before .before .args .out .now)) (sure (c .before .before .before .before .before .before .before .before .before)) k)),
-      c .before .before .run-stretch .ensures .1,
-    )
+  λ x d h k. subst (λ (b : Bool). Stands x (c .before .before .before .before .before .before .before .before .before .before .before .before .before .args .input .now) d b (c .before .before .run-stretch .result) h (c .before .before .run-stretch .last .1 .1 .1 .0)) (sym (sure (c .before .before .before .before .before .before .before .before .before)))
+      (c .before .before .run-stretch .ensures .0 x d h (subst (λ (b : Bool). Stands x (c .before .before .before .before .before .before .before .before .before .before .before .before .before .args .input .now) d b (c .before .before .before .before .before .before .before .before .before .before .before .before .before .args .t) h (c .before .before .before .before .before .before .before .before .before .before .before .before .before .args .out .now)) (sure (c .before .before .before .before .before .before .before .before .before)) k)),
+  c .before .before .run-stretch .ensures .1,
+)
 
 pub pass-spec : {M : Type 1} → statement M
 pass-spec =

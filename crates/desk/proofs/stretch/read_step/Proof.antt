@@ -1,7 +1,7 @@
 use Rattle.desk.specs.Stretch.{step-of}
 use Rattle.desk.specs.Desk.{request-of}
 use Rattle.lines.specs.declared.Reading.{Reading}
-use mathlib.Core.Path.{_≡_, sym, ap, _∙_}
+use mathlib.Core.Path.{sym, ap, _∙_}
 use borrow.Author.Needs.{needs}
 use Rattle.desk.proofs.stretch.read_step.Statement.{statement}
 use Rattle.desk.proofs.stretch.read_step.Tie as tie

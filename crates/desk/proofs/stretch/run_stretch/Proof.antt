@@ -1,7 +1,7 @@
 use Rattle.desk.specs.Desk.{sayable}
 use Rattle.desk.proofs.Stretches.{Going, answer-ranged, answer-room, end-inside, going-next}
 use Rattle.desk.specs.Stretch.{stops}
-use Rattle.desk.specs.Session.{Session, Stands}
+use Rattle.desk.specs.Session.{Stands}
 use Rattle.desk.specs.declared.feed.Cursor.{Cursor}
 use Rattle.day.specs.declared.Day.{Day}
 use Rattle.day.specs.Inner.{state-of}

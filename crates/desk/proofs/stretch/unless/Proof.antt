@@ -1,4 +1,3 @@
-use borrow.Author.Needs.{needs}
 use Rattle.desk.proofs.stretch.unless.Statement.{statement}
 use Rattle.desk.proofs.stretch.unless.Tie as tie
 use Rattle.desk.proofs.stretch.unless.Reads as reads
