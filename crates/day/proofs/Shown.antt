@@ -73,6 +73,11 @@ named-ready s w h e = record {
   plays-few = λ i l m. let k = held-at s h i (named-below (s .count) (w .set) i e l m) in omega (arith, k .plays-turns, k .turns-named, k .named-accepted, h .views);
 }
 
+-- an accepted view counts
+told-counts : (x : ℕ → ℕ) (ch : Choice) → counts (told x ch) ≡ 1
+told-counts x nobody = refl
+told-counts x (plays m) = refl
+
 -- an accepted view, from what the choice and the marks gave
 module _ (s : Day) (w : View) (l : Leader) (y : Yes (questions s (show-view w))) (q : l ≡ leader-of (s .plan) w (campaign s) 64) where
   leads : l ≡ leading s w (player s w)
@@ -87,8 +92,10 @@ module _ (s : Day) (w : View) (l : Leader) (y : Yes (questions s (show-view w)))
   pub accepted-shows : (a b c d : List ℕ) (r : Answer) → Remade (s .plan .depth) w l (campaign s) a b c d → r ≡ answer-of l → Shows s w r a b c d
   accepted-shows a b c d r m e =
       let k : result s (show-view w) ≡ call s (show-view w) = sym (call-yes s (show-view w) y) in
+      let answer = e ∙ ap answer-of leads ∙ answered s w (player s w) ∙ ap (λ (o : Outcome). o .answer) k in
       record {
-        answer-is = e ∙ ap answer-of leads ∙ answered s w (player s w) ∙ ap (λ (o : Outcome). o .answer) k;
+        answer-is = answer;
+        accepted-is = ap (λ (x : Answer). s .accepted + counts x) (e ∙ ap answer-of leads ∙ answered s w (player s w)) ∙ ap (λ (n : ℕ). s .accepted + n) (told-counts (offers s w) (player s w)) ∙ ap (λ (o : Outcome). o .day .accepted) k;
         plays-are = column (λ c. c .plays) a (m .plays-are) ∙ ap (λ (o : Outcome). o .day .plays) k;
         turns-are = column (λ c. c .turns) b (m .turns-are) ∙ ap (λ (o : Outcome). o .day .turns) k;
         ages-are = column (λ c. c .age) c (m .ages-are) ∙ ap (λ (o : Outcome). o .day .ages) k;
@@ -99,6 +106,7 @@ module _ (s : Day) (w : View) (l : Leader) (y : Yes (questions s (show-view w)))
 pub refused-shows : (s : Day) (w : View) (n : ℕ) → refused s n ≡ call s (show-view w) → Shows s w (Refused n) (s .plays) (s .turns) (s .ages) (s .named)
 refused-shows s w n k = record {
   answer-is = ap (λ (o : Outcome). o .answer) k;
+  accepted-is = (let z : s .accepted + 0 ≡ s .accepted = omega arith in z) ∙ ap (λ (o : Outcome). o .day .accepted) k;
   plays-are = ap (λ (o : Outcome). o .day .plays) k;
   turns-are = ap (λ (o : Outcome). o .day .turns) k;
   ages-are = ap (λ (o : Outcome). o .day .ages) k;
@@ -114,10 +122,6 @@ record Leaves (s : Day) (o : Outcome) : Type 0 where
   room : s .accepted < 18_446_744_073_709_551_616 → s .accepted + counts (o .answer) < 18_446_744_073_709_551_616
   same-prices : o .day .prices ≡ s .prices
   same-budgets : o .day .budgets ≡ s .budgets
-
-told-counts : (x : ℕ → ℕ) (ch : Choice) → counts (told x ch) ≡ 1
-told-counts x nobody = refl
-told-counts x (plays m) = refl
 
 leaves : (s : Day) (w : View) → length (s .prices) ≡ 64 → length (s .budgets) ≡ 64 → Leaves s (call s (show-view w))
 leaves s w p b =

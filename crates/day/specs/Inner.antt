@@ -77,9 +77,10 @@ counts Nobody = 1
 counts (Tallied p t a n) = 1
 counts (Closing t c f) = 1
 
--- the answer to a view and the counts after it are those of the call
+-- the answer to a view, the accepted views and the counts after it are those of the call
 pub record Shows (s : Day) (w : View) (r : Answer) (l t g m : List ℕ) : Type 0 where
   pub answer-is : r ≡ call s (show-view w) .answer
+  pub accepted-is : s .accepted + counts r ≡ call s (show-view w) .day .accepted
   pub plays-are : l ≡ call s (show-view w) .day .plays
   pub turns-are : t ≡ call s (show-view w) .day .turns
   pub ages-are : g ≡ call s (show-view w) .day .ages

@@ -167,8 +167,8 @@ fn is_sound<'a>(
     audit.sound
 }
 
-// A view of the state that is handed in by its parts: its counts are changed where they stand, and one view more is
-// accepted unless the answer is a refusal. The caller may know the state to be sound, as every state is that the
+// A view of the state that is handed in by its parts: its counts are changed where they stand, and the caller adds
+// `counts(answer)` to the accepted views. The caller may know the state to be sound, as every state is that the
 // operations hand back from a sound one; else `checked` is false.
 pub fn show<'a>(
     checked: bool,

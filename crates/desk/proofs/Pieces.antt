@@ -1,5 +1,5 @@
 -- Feeding an input in any pieces gives the answers to its lines, and the same state.
-use mathlib.Core.Path.{_≡_, refl, sym, ap, _∙_}
+use mathlib.Core.Path.{_≡_, refl, sym, ap, ap₂, _∙_}
 use mathlib.Core.Bool.{Bool, true, false}
 use mathlib.Core.List.{List, [], _∷_, _++_, append-assoc, append-nil}
 use Prim.Native.Nat.{ℕ, suc}
@@ -9,8 +9,8 @@ use lib.ListN.{take}
 use borrow.Author.Tests.{eqb-true}
 use Rattle.day.specs.declared.Day.{Day}
 use Rattle.desk.specs.Desk.{reply, next}
-use Rattle.desk.specs.Session.{Session, longer, ended, after-byte, fed, upto}
-use Rattle.desk.specs.Pieces.{joined, Plain, All-plain, after-lines, replies, Split, silent, said-in, after-pieces, concat}
+use Rattle.desk.specs.Session.{Session, longer, ended, after-byte, fed, finished, session, upto}
+use Rattle.desk.specs.Pieces.{joined, Plain, All-plain, after-lines, replies, Split, silent, said-in, after-pieces, concat, last-reply, Any-pieces}
 use Rattle.desk.proofs.Sessions.{cut-reply, cut-next, fed-append, rest-fed, byte-plain, byte-end}
 
 abbrev with-said : Session → List ℕ → Session
@@ -81,6 +81,20 @@ fed-lines s p (l ∷ ls) rest a e =
     ∙ ap (λ (y : Session). fed y (joined ls rest)) (line-said s p l (a .0))
     ∙ fed-lines (next s l) (p ++ reply s l) ls rest (a .1) e
     ∙ ap (λ (w : List ℕ). record { day = after-lines (next s l) ls; held = take 201 rest; said = w }) (append-assoc p (reply s l) (replies (next s l) ls))
+
+-- the end of input
+last-said : (s : Day) (rest : List ℕ) → finished (record { day = s; held = take 201 rest; said = [] }) .said ≡ last-reply s rest
+unfolding finished
+last-said s [] = refl
+last-said s (b ∷ l) = cut-reply s (b ∷ l)
+
+pub any-pieces : Any-pieces
+any-pieces s ps ls rest a e w =
+    let x : Session = session s [] 0 in
+    let f : fed x (concat ps) ≡ record { day = after-lines s ls; held = take 201 rest; said = replies s ls } = ap (fed x) w ∙ fed-lines s [] ls rest a e in
+    ap₂ _++_
+    (said-pieces x ps ∙ ap (λ (y : Session). y .said) f)
+    (ap (λ (y : Session). finished y .said) (after-whole x ps ∙ ap silent f) ∙ last-said (after-lines s ls) rest)
 
 -- and every input is lines and a rest
 plain-cons : (b : ℕ) (l : List ℕ) → eqb b 10 ≡ false → Plain l → Plain (b ∷ l)

@@ -5,7 +5,7 @@ use Prim.Native.Nat.{ℕ}
 use lib.ListN.{length}
 use Rattle.day.specs.declared.Day.{Day}
 use Rattle.desk.specs.Desk.{reply, next}
-use Rattle.desk.specs.Session.{Session, fed, upto}
+use Rattle.desk.specs.Session.{Session, fed, finished, session, upto}
 
 -- the input that has these lines, each ended by byte 10, and a rest
 unfoldable pub joined : List (List ℕ) → List ℕ → List ℕ
@@ -53,3 +53,14 @@ after-pieces x (p ∷ ps) = after-pieces (fed (silent x) p) ps
 unfoldable pub concat : List (List ℕ) → List ℕ
 concat [] = []
 concat (p ∷ ps) = p ++ concat ps
+
+-- the answer to what is left at the end of input: a line without byte 10 counts if it has bytes
+abbrev pub last-reply : Day → List ℕ → List ℕ
+last-reply s [] = []
+last-reply s (b ∷ l) = reply s (b ∷ l)
+
+-- an input fed in any pieces, and then its end, gives the answers to its lines and to the rest, and no others
+abbrev pub Any-pieces : Type 0
+Any-pieces =
+    (s : Day) (pieces lines : List (List ℕ)) (rest : List ℕ) → All-plain lines → Plain rest → concat pieces ≡ joined lines rest
+    → said-in (session s [] 0) pieces ++ finished (after-pieces (session s [] 0) pieces) .said ≡ replies s lines ++ last-reply (after-lines s lines) rest

@@ -6,7 +6,9 @@ use Prim.Native.Nat.{ℕ, suc, _+_, _≤_, _<_}
 use lib.Dec.{leb, eqb}
 use lib.ListN.{length, take, drop}
 use Rattle.writer.specs.Buffer.{Put}
+use Rattle.finite.specs.Finite.{table}
 use Rattle.day.specs.declared.Day.{Day}
+use Rattle.day.specs.Day.{blank}
 use Rattle.day.specs.Sound.{sound}
 use Rattle.desk.specs.declared.feed.Desk.{Desk}
 use Rattle.desk.specs.declared.feed.Fed.{Fed}
@@ -51,6 +53,10 @@ taking n x (b ∷ l) = cond (leb (length (x .said) + 16384) n) (suc (taking n (a
 -- the session that a desk begins with
 abbrev pub session : Day → (bytes : List ℕ) → (kept : ℕ) → Session
 session s l n = record { day = s; held = take n l; said = [] }
+
+-- the desk that a program begins with: the blank state, and a line buffer of 201 zero bytes
+abbrev pub new-desk : Desk
+new-desk = record { day = blank; held = table 201 (λ i. 0); kept = 0 }
 
 abbrev pub session-of : Desk → Session
 session-of k = session (k .day) (k .held) (k .kept)

@@ -1,16 +1,15 @@
 // A block of input split at byte 10, and each line answered as it ends.
 use crate::ROOM;
 use crate::line::Served;
+use crate::line::line_end;
 use day::Day;
 ghost use mathlib.Core.Path.{_≡_};
 ghost use mathlib.Core.Bool.{true};
-ghost use mathlib.Core.List.{[]};
 ghost use Prim.Native.Nat.{min, _+_, _≤_};
 ghost use lib.ListN.{length, take, drop};
-ghost use Rattle.day.specs.Day.{blank};
 ghost use Rattle.day.specs.Sound.{sound};
 ghost use Rattle.desk.specs.Desk.{Serves};
-ghost use Rattle.desk.specs.Session.{session, session-of, line-of, upto, Turned, Runs, Feeds, Finishes};
+ghost use Rattle.desk.specs.Session.{new-desk, session, line-of, upto, Turned, Runs, Feeds, Finishes};
 
 // The state, and the first bytes of a line that has not ended: kept of them, 201 at most.
 pub struct Desk {
@@ -32,21 +31,6 @@ pub struct Cursor {
     pub kept: usize,
     pub from: usize,
     pub at: usize,
-}
-
-// The place of the first byte 10 of s from the place at on, or the end of s.
-pub fn line_end(s: &[u8], at: usize) -> usize
-    requires { ⌜ at ≤ length (now s) ⌝ }
-    ensures { λ r. ⌜ (r ≡ at + upto (drop at (now (s .entry)))) × (r ≤ length (now (s .entry))) ⌝ }
-{
-    let mut i = at;
-    while i < s.len() {
-        if s[i] == b'\n' {
-            return i;
-        }
-        i += 1;
-    }
-    i
 }
 
 // The bytes of s behind those that are kept, up to 201 in all.
@@ -172,7 +156,7 @@ fn serve_held(day: Day, held: &[u8], kept: usize, out: &mut [u8]) -> Served
 impl Desk {
     // The blank state, and nothing held.
     pub fn new() -> Self
-        ensures { λ r. ⌜ session-of r ≡ session blank [] 0 ⌝ }
+        ensures { λ r. ⌜ r ≡ new-desk ⌝ }
     {
         let day = Day::blank();
         Desk {

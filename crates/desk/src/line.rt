@@ -10,10 +10,11 @@ use lines::Record;
 ghost use mathlib.Core.Path.{_≡_};
 ghost use mathlib.Core.Bool.{true};
 ghost use Prim.Native.Nat.{_+_, _≤_};
-ghost use lib.ListN.{length};
+ghost use lib.ListN.{length, drop};
 ghost use Rattle.day.specs.Calls.{refused};
 ghost use Rattle.day.specs.Sound.{sound};
 ghost use Rattle.desk.specs.Desk.{request, obeyed, outcome, Serves};
+ghost use Rattle.desk.specs.Session.{upto};
 
 // The state after a line, and the place behind its answer.
 pub struct Served {
@@ -88,4 +89,19 @@ pub fn serve(day: Day, checked: bool, line: &[u8], out: &mut [u8], at: usize) ->
         return Served { day: next, at: end };
     }
     Served { day: next, at: to }
+}
+
+// The place of the first byte 10 of s from the place at on, or the end of s. The callers keep at inside s.
+pub fn line_end(s: &[u8], at: usize) -> usize
+    requires { ⌜ at ≤ length (now s) ⌝ }
+    ensures { λ r. ⌜ (r ≡ at + upto (drop at (now (s .entry)))) × (r ≤ length (now (s .entry))) ⌝ }
+{
+    let mut i = at;
+    while i < s.len() {
+        if s[i] == b'\n' {
+            return i;
+        }
+        i += 1;
+    }
+    i
 }

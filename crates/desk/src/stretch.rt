@@ -2,7 +2,7 @@
 // that are refused for the phase. The counts change where they stand, so that the state is moved once for the stretch and not for every line.
 use crate::ROOM;
 use crate::feed::Cursor;
-use crate::feed::line_end;
+use crate::line::line_end;
 use crate::say::say;
 use campaigns::Phase;
 use campaigns::Plan;

@@ -10,7 +10,7 @@ use Rattle.desk.proofs.stretch.look.Statement.{statement}
 use Rattle.desk.proofs.stretch.look.Tie as tie
 use Rattle.desk.proofs.stretch.look.Reads as reads
 use Rattle.desk.proofs.stretch.look.Lts as lts
-use Rattle.desk.proofs.feed.line_end.Reads as line-end-reads
+use Rattle.desk.proofs.line.line_end.Reads as line-end-reads
 use Rattle.desk.proofs.stretch.read_step.Reads as read-step-reads
 
 -- the test that went by

@@ -1,10 +1,13 @@
 use mathlib.Core.Path.{ap}
-use mathlib.Core.List.{[]}
 use borrow.Author.Needs.{needs}
+use Rattle.finite.specs.Finite.{table}
 use Rattle.day.specs.declared.Day.{Day}
-use Rattle.desk.specs.Session.{session}
 use Rattle.desk.proofs.feed.Desk.new.Statement.{statement}
 use Rattle.desk.proofs.feed.Desk.new.Tie as tie
 
+returns : tie.Need-returns
+unfolding table
+returns c = ap (λ (s : Day). record { day = s; held = table 201 (λ i. 0); kept = 0 }) (c .blank .ensures)
+
 pub new-spec : {M : Type 1} → statement M
-new-spec = tie.close (tie.spec (λ c κs. search needs) (λ c. ap (λ (s : Day). session s [] 0) (c .blank .ensures)))
+new-spec = tie.close (tie.spec (λ c κs. search needs) returns)

@@ -7,8 +7,8 @@ use Prim.Native.Nat.{ℕ}
 use lib.ListN.{length, drop}
 use Rattle.desk.specs.Session.{upto}
 use Rattle.desk.proofs.Sessions.{upto-past, upto-here, upto-none}
-use Rattle.desk.proofs.feed.line_end.Statement.{statement}
-use Rattle.desk.proofs.feed.line_end.Tie as tie
+use Rattle.desk.proofs.line.line_end.Statement.{statement}
+use Rattle.desk.proofs.line.line_end.Tie as tie
 
 abbrev Inv-loop : tie.InvT-loop
 Inv-loop s at i₀ i = (at + upto (drop at s) ≡ i + upto (drop i s)) × (i ≤ length s)
