@@ -3,3 +3,4 @@ pub mod Reach
 pub mod Allotment
 pub mod Floor
 pub mod Tight
+pub mod Short

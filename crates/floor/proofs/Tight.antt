@@ -21,7 +21,7 @@ use Rattle.laws.specs.Transcript.{transcript}
 use Rattle.floor.specs.History.{History, continued, history}
 use Rattle.floor.specs.History.Starts.{from-blank}
 use Rattle.floor.specs.Allotment.{times, view-at, takings-of}
-use Rattle.floor.specs.Floor.{price-of, whole-of, falls-short}
+use Rattle.floor.specs.Floor.{price-of, whole-of, falls-short, Allotted}
 use Rattle.floor.specs.Tight.{Met, Exact, exact-days, calls-of, Tight}
 
 -- the tests that a computed day passes
@@ -35,22 +35,27 @@ either : (a b : Bool) → (a || b) ≡ true → (a ≡ true) ⊎ (b ≡ true)
 either true b e = inl refl
 either false b e = inr e
 
+-- an allotment, by two tests
+pub allotted-of : (h : History) (to : ℕ → ℕ) → every (length (h .views)) (λ j. eqb (to j) 64 || names (view-at (h .views) j) (to j)) ≡ true
+    → every (length (h .terms)) (λ i. leb (times (length (h .views)) to i) (whole-of h i)) ≡ true → Allotted h to
+allotted-of h to g b = record {
+  given = λ j l. given j (either (eqb (to j) 64) (names (view-at (h .views) j) (to j)) (every-at (length (h .views)) (λ j. eqb (to j) 64 || names (view-at (h .views) j) (to j)) g j l));
+  bought = λ i l. leb-true (times (length (h .views)) to i) (whole-of h i) (every-at (length (h .terms)) (λ i. leb (times (length (h .views)) to i) (whole-of h i)) b i l);
+}
+  where
+    given : (j : ℕ) → (eqb (to j) 64 ≡ true) ⊎ (names (view-at (h .views) j) (to j) ≡ true) → (to j ≡ 64) ⊎ (names (view-at (h .views) j) (to j) ≡ true)
+    given j (inl a) = inl (eqb-true (to j) 64 a)
+    given j (inr b) = inr b
+
 met-of : (h : History) (to : ℕ → ℕ) → all (met-tests h to) ≡ true → Met h to
 met-of h to e =
     let p = all-parts (met-tests h to) e in
     record {
       none-short = λ i l. not-true (falls-short h i) (every-at (length (h .terms)) (λ i. not (falls-short h i)) (p .0) i l);
       paying = ltb-true 0 (h .paid) (p .1 .0);
-      allotted = record {
-        given = λ j l. given j (either (eqb (to j) 64) (names (view-at (h .views) j) (to j)) (every-at (length (h .views)) (λ j. eqb (to j) 64 || names (view-at (h .views) j) (to j)) (p .1 .1 .0) j l));
-        bought = λ i l. leb-true (times (length (h .views)) to i) (whole-of h i) (every-at (length (h .terms)) (λ i. leb (times (length (h .views)) to i) (whole-of h i)) (p .1 .1 .1 .0) i l);
-      };
+      allotted = allotted-of h to (p .1 .1 .0) (p .1 .1 .1 .0);
       equal = eqb-true _ _ (p .1 .1 .1 .1 .0);
     }
-  where
-    given : (j : ℕ) → (eqb (to j) 64 ≡ true) ⊎ (names (view-at (h .views) j) (to j) ≡ true) → (to j ≡ 64) ⊎ (names (view-at (h .views) j) (to j) ≡ true)
-    given j (inl a) = inl (eqb-true (to j) 64 a)
-    given j (inr b) = inr b
 
 -- the day of a row, read off the row
 day-of : Exact → History

@@ -3,3 +3,4 @@ pub mod Allotment
 pub mod Floor
 pub mod Due
 pub mod Tight
+pub mod Short

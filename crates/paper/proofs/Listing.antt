@@ -24,9 +24,9 @@ use Rattle.floor.specs.History.{continued, history}
 use Rattle.floor.specs.History.Starts.{from-blank}
 use Rattle.paper.specs.Fraction.{integer, equal}
 use Rattle.paper.specs.Algorithm4.{Instance, C, feasible, line-2, line-4, lines-3-to-11, algorithm-4, matches-from, matches}
-use Rattle.paper.specs.Standing.{instance, slots}
+use Rattle.paper.specs.Standing.{spendable, instance, slots}
 use Rattle.paper.specs.Days.{replies-from, replies, Day-alike}
-use Rattle.paper.proofs.Budgets.{budget-buys}
+use Rattle.paper.proofs.Budgets.{budget-buys, spendable-buys}
 use Rattle.paper.proofs.Days.{days-as-algorithm-4}
 
 abbrev plan : Plan
@@ -67,3 +67,25 @@ listing-width = refl
 
 pub listing-alike : Day-alike (λ t. t .budget) (history (transcript blank calls)) (replies (transcript blank calls)) (final blank calls)
 listing-alike = days-as-algorithm-4 (λ t. t .budget) budget-buys blank calls (from-blank calls) (rw listing-width (omega arith))
+
+-- The same with 3 and 2 cents left over, which no play can spend: budgets 13 and 8.
+abbrev cents : List Terms
+cents = record { price = 5; budget = 13 } ∷ record { price = 3; budget = 8 } ∷ []
+
+pub cents-matches : matches (instance spendable plan 2 (λ i. getD cents i no-terms)) (slots views) ≡ plays 0 ∷ plays 1 ∷ plays 0 ∷ nobody ∷ plays 1 ∷ []
+unfolding matches-from lines-3-to-11 line-4 feasible C best member sum
+cents-matches = refl
+
+abbrev cents-calls : List Call
+cents-calls = open-plan plan ∷ map add-campaign cents ++ start-day ∷ map show-view views ++ close-day ∷ []
+
+pub cents-replies : replies (transcript blank cents-calls) ≡ Played 0 5 ∷ Played 1 3 ∷ Played 0 5 ∷ Nobody ∷ Played 1 3 ∷ []
+unfolding replies-from transcript call first-no sound sound-plan sound-campaign priced counted uncounted empty taken claimed budgeted blank width-holds size within choice best whole claim weight share member sum count every table
+cents-replies = refl
+
+pub cents-width : history (transcript blank cents-calls) .plan ≡ plan
+unfolding continued transcript call first-no sound sound-plan sound-campaign priced counted uncounted empty taken claimed budgeted blank width-holds size within choice best whole claim weight share member sum count every table
+cents-width = refl
+
+pub cents-alike : Day-alike spendable (history (transcript blank cents-calls)) (replies (transcript blank cents-calls)) (final blank cents-calls)
+cents-alike = days-as-algorithm-4 spendable spendable-buys blank cents-calls (from-blank cents-calls) (rw cents-width (omega arith))

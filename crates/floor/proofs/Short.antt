@@ -1,0 +1,53 @@
+-- The proviso of demand 3 is needed, by computation.
+use mathlib.Core.Path.{_≡_, refl, subst⁻¹}
+use mathlib.Core.Bool.{true, false}
+use mathlib.Core.List.{List, [], _∷_}
+use Prim.Native.Nat.{ℕ, _*_, _≤_}
+use native.Mathlib.Omega.{arith}
+use lib.Dec.{leb}
+use borrow.Author.Tests.{leb-true}
+use Rattle.finite.specs.Finite.{sum, count, every, table, total}
+use Rattle.sets.specs.Set.{member, size, within}
+use Rattle.powers.specs.Power.{weight, share}
+use Rattle.campaigns.specs.Choice.{best, choice}
+use Rattle.campaigns.specs.Campaign.{whole, claim, sound-plan, priced, counted, uncounted, empty, sound-campaign}
+use Rattle.day.specs.Day.{blank, taken, claimed, budgeted}
+use Rattle.day.specs.Sound.{sound}
+use Rattle.day.specs.Calls.{first-no, width-holds, call}
+use Rattle.laws.specs.Transcript.{transcript}
+use Rattle.floor.specs.History.{History, continued, history}
+use Rattle.floor.specs.History.Starts.{from-blank}
+use Rattle.floor.specs.Allotment.{takings-of}
+use Rattle.floor.specs.Floor.{price-of, unstruck, falls-short, Allotted, Covered}
+use Rattle.floor.specs.Short.{short-calls, short-day, short-to, Proviso-needed}
+use Rattle.floor.proofs.Tight.{allotted-of}
+
+-- the day, read off its calls
+day : History
+day = record { plan = record { depth = 2; width = 2 }; terms = record { price = 2; budget = 3 } ∷ record { price = 2; budget = 3 } ∷ []; views = record { set = 3 } ∷ record { set = 1 } ∷ []; paid = 2 }
+
+day-is : short-day ≡ day
+unfolding day transcript continued call first-no sound blank sum count every table total within size member width-holds weight share whole claim taken claimed budgeted sound-plan priced counted uncounted empty sound-campaign best choice
+day-is = refl
+
+record Computed (h : History) : Type 0 where
+  allotted : Allotted h short-to
+  enough : falls-short h 0 ≡ false
+  short : falls-short h 1 ≡ true
+  not-covered : Covered h (takings-of (price-of h) (h .views) short-to) → ⊥
+  covered : Covered h (takings-of (unstruck h) (h .views) short-to)
+
+computed : Computed day
+unfolding day sum count every total member share whole
+computed = record {
+  allotted = allotted-of day short-to refl refl;
+  enough = refl;
+  short = refl;
+  not-covered = λ (h : 12 ≤ 8). omega arith;
+  covered = leb-true 6 8 refl;
+}
+
+pub proviso-needed : Proviso-needed
+proviso-needed =
+    let c = subst⁻¹ Computed day-is computed in
+    record { starts = from-blank short-calls; allotted = c .allotted; enough = c .enough; short = c .short; not-covered = c .not-covered; covered = c .covered }
