@@ -19,7 +19,8 @@ pub struct Leader {
     pub score: u64,
 }
 
-// The leader after campaign `at` was tried: only a greater score displaces it.
+// The leader after campaign `at` was tried: only a greater score displaces it. `choose` reads the campaign out of a sound
+// state.
 fn challenge(leader: Leader, at: u64, c: Campaign, plan: Plan, weights: &[u64; 33]) -> Leader
     requires { ⌜ Weights plan (now weights) ⌝ }
     requires { ⌜ Narrow c ⌝ }
@@ -42,7 +43,7 @@ fn challenge(leader: Leader, at: u64, c: Campaign, plan: Plan, weights: &[u64; 3
     leader
 }
 
-// The choice of a view: a walk over the named campaigns.
+// The choice of a view: a walk over the named campaigns. `play` is handed what it asks.
 fn choose<'a>(
     view: View,
     plan: Plan,
@@ -75,7 +76,7 @@ fn choose<'a>(
     leader
 }
 
-// What the view does to the campaigns that it names, where they stand.
+// What the view does to the campaigns that it names, where they stand. `play` is handed what it asks.
 fn mark<'a>(
     view: View,
     plan: Plan,

@@ -84,7 +84,7 @@ fn spend_all<'a>(
     }
 }
 
-// The sum of price × (W(age) − W(0)).
+// The sum of price × (W(age) − W(0)), of campaigns that `sum_all` has found sound.
 fn wait_all<'a>(
     n: usize,
     plan: Plan,

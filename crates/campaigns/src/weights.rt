@@ -7,7 +7,7 @@ ghost use Rattle.powers.specs.Power.{weight};
 ghost use Rattle.campaigns.specs.Campaign.{sound-plan};
 ghost use Rattle.campaigns.specs.Inner.{Falling, Weights};
 
-// (d − 1)^(k − a) at each age a.
+// (d − 1)^(k − a) at each age a, for `weights`.
 fn falling(plan: Plan) -> [u64; 33]
     requires { ⌜ sound-plan plan ≡ true ⌝ }
     ensures { λ r. ⌜ Falling plan r ⌝ }
@@ -23,7 +23,7 @@ fn falling(plan: Plan) -> [u64; 33]
     list
 }
 
-// Each entry times d^a.
+// Each entry times d^a, for `weights`.
 fn raise(plan: Plan, list: &mut [u64; 33])
     requires { ⌜ Falling plan (now list) ⌝ }
     ensures { λ _. ⌜ Weights plan (now (list .exit)) ⌝ }

@@ -71,7 +71,7 @@ fn phase_holds(phase: Phase, accepted: u64, takings: u64) -> bool
 }
 
 // The last question of soundness: the total claim, turned × (d^k − (d−1)^k) + waited, is at most full. The product is
-// formed only once it is known to be at most full.
+// formed only once it is known to be at most full. `examine` has the bounds of the sums from its tests.
 fn settle(sums: Sums, plan: Plan, weights: &[u64; 33]) -> Audit
     requires { ⌜ Weights plan (now weights) ⌝ }
     requires { ⌜ Bounded sums ⌝ }

@@ -129,7 +129,7 @@ pub fn show_sound<'a>(
     told(leader)
 }
 
-// Question 1, unless the state is known to be sound.
+// Question 1, unless the state is known to be sound, of which `show` was told. It has tested the limits.
 fn is_sound<'a>(
     checked: bool,
     phase: Phase,
@@ -225,7 +225,8 @@ pub fn show<'a>(
 }
 
 impl Day {
-    // The view of a state that may be known to be sound: question 1 need not be asked again.
+    // The view of a state that may be known to be sound: question 1 need not be asked again. The desk has audited the
+    // state, and `view` passes false.
     pub fn view_checked(mut self, checked: bool, view: View) -> Outcome
         requires { ⌜ (checked ≡ true → sound self ≡ true) ⌝ }
         ensures { λ r. ⌜ r ≡ call self (show-view view) ⌝ }

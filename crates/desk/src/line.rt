@@ -63,7 +63,7 @@ fn obey(day: Day, checked: bool, input: Record) -> Outcome
     }
 }
 
-// The state and the answer after a line.
+// The state and the answer after a line. Who passes `checked` has audited the state (`feed`), and so below.
 fn respond(day: Day, checked: bool, line: &[u8]) -> Outcome
     requires { ⌜ (checked ≡ true → sound day ≡ true) ⌝ }
     ensures { λ r. ⌜ r ≡ outcome day (now (line .entry)) ⌝ }
@@ -74,7 +74,7 @@ fn respond(day: Day, checked: bool, line: &[u8]) -> Outcome
     }
 }
 
-// The line answered at the place at of out.
+// The line answered at the place at of out, where the callers have seen the room.
 pub fn serve(day: Day, checked: bool, line: &[u8], out: &mut [u8], at: usize) -> Served
     requires { ⌜ (checked ≡ true → sound day ≡ true) ⌝ }
     requires { ⌜ at + 16384 ≤ length (now out) ⌝ }

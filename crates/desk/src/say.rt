@@ -12,7 +12,7 @@ ghost use Rattle.writer.specs.Writing.{line};
 ghost use Rattle.writer.specs.Buffer.{Put};
 ghost use Rattle.desk.specs.Desk.{tally, tallies, spoken, is-closing, sayable};
 
-// The record's line at the place at.
+// The record's line at the place at. The callers know its numbers to be in range, and the room.
 fn send(entry: Record, out: &mut [u8], at: usize) -> usize
     requires { ⌜ (inRange entry ≡ true) × (at + 201 ≤ length (now out)) ⌝ }
     ensures { λ r. ⌜ Put (now (out .entry)) (now (out .exit)) at r (line entry) ⌝ }
@@ -23,7 +23,7 @@ fn send(entry: Record, out: &mut [u8], at: usize) -> usize
     }
 }
 
-// The answer's first line.
+// The answer's first line: `serve` and a stretch have the room, and an answer of the day has its ranges.
 pub fn say(answer: Answer, out: &mut [u8], at: usize) -> usize
     requires { ⌜ (sayable answer ≡ true) × (at + 201 ≤ length (now out)) ⌝ }
     ensures { λ r. ⌜ Put (now (out .entry)) (now (out .exit)) at r (spoken answer) × (r ≤ at + 201) ⌝ }
@@ -103,7 +103,7 @@ fn tally(day: Day, campaign: u64) -> Record
     }
 }
 
-// The tallies, in number order.
+// The tallies, in number order. A day that closes has at most 64 campaigns.
 pub fn send_tallies(day: Day, out: &mut [u8], at: usize) -> usize
     requires { ⌜ (day .count ≤ 64) × (at + 12864 ≤ length (now out)) ⌝ }
     ensures { λ r. ⌜ Put (now (out .entry)) (now (out .exit)) at r (tallies day (day .count)) × (r ≤ at + 12864) ⌝ }

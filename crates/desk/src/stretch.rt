@@ -126,7 +126,7 @@ fn look(phase: Phase, input: &[u8], from: usize, room: usize) -> Sight
     }
 }
 
-// One step of a sound state. The counts change where they stand.
+// One step of a sound state, which the loop below keeps. The counts change where they stand; a stop never comes here.
 fn obey_in_place<'a>(
     step: Step,
     phase: Phase,
@@ -167,7 +167,7 @@ fn obey_in_place<'a>(
     }
 }
 
-// Line after line, from a first one that is no stop.
+// Line after line, from a first one that `pass` has looked at, in a state that it knows to be sound.
 fn run_stretch(t: Cursor, first: Sight, input: &[u8], out: &mut [u8]) -> Cursor
     requires { ⌜ (t .kept ≡ 0) × (sound (t .day) ≡ true) × (t .from ≤ length (now input)) × (t .at ≤ length (now out)) × Looks (t .day .phase) (now input) (t .from) (length (now out) - t .at) first ⌝ }
     ensures { λ r. ⌜ ((x : Session) (d h : List ℕ) → Stands x (now (input .entry)) d true t h (now (out .entry)) → Stands x (now (input .entry)) d true r h (now (out .exit))) × (t .from ≤ r .from) ⌝ }

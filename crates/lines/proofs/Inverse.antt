@@ -13,7 +13,7 @@ use Rattle.lines.specs.declared.Reading.{Reading}
 use Rattle.lines.specs.declared.Reading.the-variants.{Got, Refusal}
 use Rattle.lines.specs.Form.{text, inRange}
 use Rattle.lines.specs.Reading.{forms, firstOf, reading}
-use Rattle.lines.specs.OneText.{number, Is, Says, One-text}
+use Rattle.lines.specs.OneText.{number, values, Is, Says, One-text}
 use Rattle.lines.specs.OneText.Says.{a-text, too-long, no-text}
 use Rattle.lines.proofs.Choice.{text-most, held-is, held-text, held-number}
 
@@ -69,4 +69,4 @@ says l = go (reading l) refl
     go (Refusal n) e = by n (refused l n e)
 
 pub one-text : One-text
-one-text = record { most = text-most; reads = text-reads; is-read = read-text; text-once = text-once; record-once = record-once; says = says }
+one-text = record { most = text-most; reads = text-reads; values-read = λ r h. ap values (text-reads r h); is-read = read-text; text-once = text-once; record-once = record-once; says = says }

@@ -33,6 +33,7 @@ pub data Says (l : List ℕ) : ℕ → Type 0 where
 pub record One-text : Type 0 where
   pub most : (r : Record) → length (text r) ≤ 200
   pub reads : (r : Record) → inRange r ≡ true → reading (text r) ≡ Got r
+  pub values-read : (r : Record) → inRange r ≡ true → values (reading (text r)) ≡ numbers r
   pub is-read : (l : List ℕ) (r : Record) → reading l ≡ Got r → Is l r
   pub text-once : (r s : Record) → inRange r ≡ true → inRange s ≡ true → text r ≡ text s → r ≡ s
   pub record-once : (l m : List ℕ) (r : Record) → reading l ≡ Got r → reading m ≡ Got r → l ≡ m

@@ -22,7 +22,7 @@ grid = table 16 (λ i. row-of (i + 1))
 unfoldable pub listed : ℕ → ℕ → ℕ
 listed width exponent = cond (leb 1 width && leb width 16 && leb exponent 32) (entry width exponent) 0
 
--- r is the greatest exponent up to 32 whose power is at most 4,294,967,296
+-- an exponent up to 32 is at most r exactly if its power is at most 4,294,967,296
 abbrev pub Deepest : (width r : ℕ) → Type 0
 Deepest w r = (k : ℕ) → k ≤ 32 → leb k r ≡ leb (w ^ k) 4_294_967_296
 

@@ -1,5 +1,6 @@
 -- What writing a record answers, and what it leaves in the lent buffer.
 use Prim.Native.Nat.{ℕ}
+use mathlib.Core.Path.{_≡_}
 use mathlib.Core.Bool.{cond}
 use mathlib.Core.List.{List, [], _∷_, _++_}
 use lib.Dec.{leb, eqb}
@@ -33,3 +34,8 @@ number (Refusal q) = q
 abbrev pub values : Writing → List ℕ
 values (Length n) = n ∷ []
 values (Refusal q) = q ∷ []
+
+-- what they say of writing r into d
+pub record Tells (r : Record) (d : List ℕ) : Type 0 where
+  pub number-is : number (writing r d) ≡ question r d
+  pub values-are : values (writing r d) ≡ cond (eqb (question r d) 0) (length (line r) ∷ []) (question r d ∷ [])
