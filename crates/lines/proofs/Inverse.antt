@@ -1,7 +1,7 @@
 -- Reading is the inverse of `text`.
 use mathlib.Core.Path.{_≡_, refl, sym, ap, _∙_, subst}
 use mathlib.Core.Bool.{Bool, true, false, cond}
-use mathlib.Core.List.{List}
+use mathlib.Core.List.{List, [], _∷_}
 use mathlib.Core.Logic.{_⊎_, inl, inr}
 use Prim.Native.Nat.{ℕ, _≤_, _<_}
 use native.Mathlib.Omega.{arith}
@@ -13,7 +13,7 @@ use Rattle.lines.specs.declared.Reading.{Reading}
 use Rattle.lines.specs.declared.Reading.the-variants.{Got, Refusal}
 use Rattle.lines.specs.Form.{text, inRange}
 use Rattle.lines.specs.Reading.{forms, firstOf, reading}
-use Rattle.lines.specs.OneText.{number, Is, Says, One-text}
+use Rattle.lines.specs.OneText.{number, values, Is, Says, One-text}
 use Rattle.lines.specs.OneText.Says.{a-text, too-long, no-text}
 use Rattle.lines.proofs.Choice.{text-most, held-is, held-text, held-number}
 
@@ -57,14 +57,14 @@ refused l n e = go (ltb 200 (length l)) refl e
             let z : Refusal n ≡ Got r = sym q ∙ ap (firstOf forms) (p .1) ∙ held-text r (p .0) in
             let y : _≡_ {A = ℕ} 0 1 = cc in omega arith
 
-says : (l : List ℕ) → Says l (number (reading l))
+says : (l : List ℕ) → Says l (number (reading l)) (values (reading l))
 says l = go (reading l) refl
   where
-    by : (n : ℕ) → ((n ≡ 16) × (200 < length l)) ⊎ ((n ≡ 17) × (length l ≤ 200) × ((r : Record) → Is l r → ⊥)) → Says l n
-    by n (inl p) = subst (Says l) (sym (p .0)) (too-long (p .1))
-    by n (inr p) = subst (Says l) (sym (p .0)) (no-text (p .1) (p .2))
+    by : (n : ℕ) → ((n ≡ 16) × (200 < length l)) ⊎ ((n ≡ 17) × (length l ≤ 200) × ((r : Record) → Is l r → ⊥)) → Says l n (n ∷ [])
+    by n (inl p) = subst (λ (x : ℕ). Says l x (x ∷ [])) (sym (p .0)) (too-long (p .1))
+    by n (inr p) = subst (λ (x : ℕ). Says l x (x ∷ [])) (sym (p .0)) (no-text (p .1) (p .2))
 
-    go : (a : Reading) → reading l ≡ a → Says l (number a)
+    go : (a : Reading) → reading l ≡ a → Says l (number a) (values a)
     go (Got r) e = a-text r (read-text l r e)
     go (Refusal n) e = by n (refused l n e)
 
