@@ -70,4 +70,22 @@ cases =
     answered (
     plan 1 2 gives Done ∷ campaign-of 2 2 gives Done ∷ campaign-of 1 1 gives Done ∷ start-day gives Done ∷
     view 3 gives Played 0 2 ∷ ask-tally 1 gives Tallied 0 1 0 1 ∷ []) ∷
+    -- Further limits and orders of questions, which the cases above do not reach.
+    -- the blank state: Closed, without campaigns
+    answered (
+    campaign-of 1 1 gives Refused 6 ∷ start-day gives Refused 6 ∷ view 0 gives Refused 11 ∷ close-day gives Refused 11 ∷ ask-tally 0 gives Refused 15 ∷
+    plan 1 0 gives Refused 4 ∷ plan 1 17 gives Refused 4 ∷ plan 32 16 gives Refused 5 ∷ plan 33 17 gives Refused 3 ∷ plan 32 1 gives Done ∷ plan 0 0 gives Refused 2 ∷ []) ∷
+    -- a price of 1,000,000 is taken and one more gives 8; a budget of 2,000,000,000 is taken and one more gives 9
+    answered (
+    plan 1 16 gives Done ∷ campaign-of 1_000_001 1_000_001 gives Refused 8 ∷ campaign-of 1 2_000_000_001 gives Refused 9 ∷ campaign-of 1_000_000 2_000_000_000 gives Done ∷
+    campaign-of 2 1 gives Refused 9 ∷ campaign-of 1 1 gives Refused 10 ∷ view 1 gives Refused 11 ∷ start-day gives Done ∷ start-day gives Refused 6 ∷ []) ∷
+    -- cents left over stay unspent; spent, the campaign is named on and ages no more
+    answered (
+    plan 2 2 gives Done ∷ campaign-of 5 9 gives Done ∷ start-day gives Done ∷ view 1 gives Played 0 5 ∷ view 1 gives Nobody ∷ ask-tally 0 gives Tallied 1 1 0 2 ∷
+    close-day gives Closing 5 15 20 ∷ close-day gives Refused 11 ∷ []) ∷
+    -- a view of none gives 14, of three where the width is 2 gives 14, and 13 is asked before; at its end a turn counts in that same view
+    answered (
+    plan 2 2 gives Done ∷ campaign-of 3 9 gives Done ∷ campaign-of 2 2 gives Done ∷ campaign-of 1 1 gives Done ∷ start-day gives Done ∷
+    view 0 gives Refused 14 ∷ view 7 gives Refused 14 ∷ view 15 gives Refused 13 ∷ ask-tally 3 gives Refused 15 ∷
+    view 5 gives Played 0 3 ∷ ask-tally 2 gives Tallied 0 0 1 1 ∷ view 5 gives Played 0 3 ∷ ask-tally 2 gives Tallied 0 1 0 2 ∷ []) ∷
     []

@@ -1,7 +1,7 @@
 -- Reading is the inverse of `text`.
 use mathlib.Core.Path.{_≡_, refl, sym, ap, _∙_, subst}
 use mathlib.Core.Bool.{Bool, true, false, cond}
-use mathlib.Core.List.{List}
+use mathlib.Core.List.{List, [], _∷_}
 use mathlib.Core.Logic.{_⊎_, inl, inr}
 use Prim.Native.Nat.{ℕ, _≤_, _<_}
 use native.Mathlib.Omega.{arith}
@@ -57,16 +57,16 @@ refused l n e = go (ltb 200 (length l)) refl e
             let z : Refusal n ≡ Got r = sym q ∙ ap (firstOf forms) (p .1) ∙ held-text r (p .0) in
             let y : _≡_ {A = ℕ} 0 1 = cc in omega arith
 
-says : (l : List ℕ) → Says l (number (reading l))
+says : (l : List ℕ) → Says l (number (reading l)) (values (reading l))
 says l = go (reading l) refl
   where
-    by : (n : ℕ) → ((n ≡ 16) × (200 < length l)) ⊎ ((n ≡ 17) × (length l ≤ 200) × ((r : Record) → Is l r → ⊥)) → Says l n
-    by n (inl p) = subst (Says l) (sym (p .0)) (too-long (p .1))
-    by n (inr p) = subst (Says l) (sym (p .0)) (no-text (p .1) (p .2))
+    by : (n : ℕ) → ((n ≡ 16) × (200 < length l)) ⊎ ((n ≡ 17) × (length l ≤ 200) × ((r : Record) → Is l r → ⊥)) → Says l n (n ∷ [])
+    by n (inl p) = subst (λ (x : ℕ). Says l x (x ∷ [])) (sym (p .0)) (too-long (p .1))
+    by n (inr p) = subst (λ (x : ℕ). Says l x (x ∷ [])) (sym (p .0)) (no-text (p .1) (p .2))
 
-    go : (a : Reading) → reading l ≡ a → Says l (number a)
+    go : (a : Reading) → reading l ≡ a → Says l (number a) (values a)
     go (Got r) e = a-text r (read-text l r e)
     go (Refusal n) e = by n (refused l n e)
 
 pub one-text : One-text
-one-text = record { most = text-most; reads = text-reads; values-read = λ r h. ap values (text-reads r h); is-read = read-text; text-once = text-once; record-once = record-once; says = says }
+one-text = record { most = text-most; reads = text-reads; is-read = read-text; text-once = text-once; record-once = record-once; says = says }

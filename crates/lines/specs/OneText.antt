@@ -24,17 +24,16 @@ values (Refusal q) = q ∷ []
 abbrev pub Is : List ℕ → Record → Type 0
 Is l r = (inRange r ≡ true) × (l ≡ text r)
 
--- what the number of its reading says of a line
-pub data Says (l : List ℕ) : ℕ → Type 0 where
-  a-text : (r : Record) → Is l r → Says l 0
-  too-long : 200 < length l → Says l 16
-  no-text : length l ≤ 200 → ((r : Record) → Is l r → ⊥) → Says l 17
+-- what the number and the values of its reading say of a line
+pub data Says (l : List ℕ) : ℕ → List ℕ → Type 0 where
+  a-text : (r : Record) → Is l r → Says l 0 (numbers r)
+  too-long : 200 < length l → Says l 16 (16 ∷ [])
+  no-text : length l ≤ 200 → ((r : Record) → Is l r → ⊥) → Says l 17 (17 ∷ [])
 
 pub record One-text : Type 0 where
   pub most : (r : Record) → length (text r) ≤ 200
   pub reads : (r : Record) → inRange r ≡ true → reading (text r) ≡ Got r
-  pub values-read : (r : Record) → inRange r ≡ true → values (reading (text r)) ≡ numbers r
   pub is-read : (l : List ℕ) (r : Record) → reading l ≡ Got r → Is l r
   pub text-once : (r s : Record) → inRange r ≡ true → inRange s ≡ true → text r ≡ text s → r ≡ s
   pub record-once : (l m : List ℕ) (r : Record) → reading l ≡ Got r → reading m ≡ Got r → l ≡ m
-  pub says : (l : List ℕ) → Says l (number (reading l))
+  pub says : (l : List ℕ) → Says l (number (reading l)) (values (reading l))
