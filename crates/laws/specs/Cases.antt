@@ -88,4 +88,6 @@ cases =
     plan 2 2 gives Done ∷ campaign-of 3 9 gives Done ∷ campaign-of 2 2 gives Done ∷ campaign-of 1 1 gives Done ∷ start-day gives Done ∷
     view 0 gives Refused 14 ∷ view 7 gives Refused 14 ∷ view 15 gives Refused 13 ∷ ask-tally 3 gives Refused 15 ∷
     view 5 gives Played 0 3 ∷ ask-tally 2 gives Tallied 0 0 1 1 ∷ view 5 gives Played 0 3 ∷ ask-tally 2 gives Tallied 0 1 0 2 ∷ []) ∷
+    -- a day may start with no campaigns
+    answered (plan 2 2 gives Done ∷ start-day gives Done ∷ view 0 gives Refused 14 ∷ view 1 gives Refused 13 ∷ close-day gives Closing 0 0 0 ∷ []) ∷
     []
