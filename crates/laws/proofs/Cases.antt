@@ -13,4 +13,4 @@ use Rattle.laws.specs.Cases.{All-hold, cases}
 
 pub cases-hold : All-hold cases
 unfolding transcript final call first-no sound blank sum count every table within size member width-holds weight share whole claim taken claimed budgeted sound-plan priced counted uncounted empty sound-campaign best choice
-cases-hold = (refl, (refl, (refl, (refl, (refl, (refl, (refl, (refl, (refl, (refl, (refl, (refl, (refl, (refl, (refl, tt)))))))))))))))
+cases-hold = (refl, (refl, (refl, (refl, (refl, (refl, (refl, (refl, (refl, (refl, (refl, (refl, (refl, (refl, (refl, (refl, (refl, (refl, tt))))))))))))))))))

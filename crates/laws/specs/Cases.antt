@@ -1,13 +1,17 @@
--- Document 01's listing and its cases by the limits, as one table. Each case begins with the blank state.
+-- Document 01's listing, its cases by the limits and further ones, as one table.
 use mathlib.Core.Path.{_≡_}
+use mathlib.Core.Bool.{cond}
 use mathlib.Core.List.{List, [], _∷_, map}
 use Prim.Native.Nat.{ℕ}
+use lib.Dec.{ltb}
 use Rattle.finite.specs.Finite.{table}
-use Rattle.campaigns.specs.Campaign.{score}
+use Rattle.campaigns.specs.declared.Phase.{Phase}
+use Rattle.campaigns.specs.declared.Phase.the-variants.{Filling, Running}
+use Rattle.campaigns.specs.Campaign.{score, fresh}
 use Rattle.day.specs.declared.Answer.{Answer}
 use Rattle.day.specs.declared.Answer.the-variants.{Refused, Done, Played, Nobody, Tallied, Closing}
 use Rattle.day.specs.declared.Day.{Day}
-use Rattle.day.specs.Day.{campaign, blank}
+use Rattle.day.specs.Day.{campaign, holding, no-terms, blank}
 use Rattle.day.specs.Calls.{Call}
 use Rattle.day.specs.Calls.Call.{open-plan, add-campaign, start-day, show-view, ask-tally, close-day}
 use Rattle.laws.specs.Transcript.{Exchange, transcript, final}
@@ -27,16 +31,22 @@ abbrev pub view : (set : ℕ) → Call
 view v = show-view (record { set = v })
 
 pub data Case : Type 0 where
-  -- calls with the answers that they get
+  -- calls with the answers that they get from the blank state, and from a state
   answered : List Exchange → Case
-  -- calls, and the scores of the campaigns after them
+  resumed : Day → List Exchange → Case
+  -- calls from the blank state, and the scores of the campaigns after them
   scored : List Call → List ℕ → Case
 
 abbrev pub scores : Day → List ℕ
 scores s = table (s .count) (λ i. score (s .plan .depth) (s .plan .width) (campaign s i))
 
+-- a state of depth 1 and width 1 with n campaigns of price 1 and one play, which nothing named
+abbrev pub state : Phase → (count accepted : ℕ) → Day
+state p n a = holding p (record { depth = 1; width = 1 }) n a (λ i. fresh (cond (ltb i n) (record { price = 1; budget = 1 }) no-terms))
+
 abbrev pub Holds : Case → Type 0
 Holds (answered xs) = transcript blank (map (λ x. x .made) xs) ≡ xs
+Holds (resumed s xs) = transcript s (map (λ x. x .made) xs) ≡ xs
 Holds (scored cs ns) = scores (final blank cs) ≡ ns
 
 abbrev pub All-hold : List Case → Type 0
@@ -90,4 +100,10 @@ cases =
     view 5 gives Played 0 3 ∷ ask-tally 2 gives Tallied 0 0 1 1 ∷ view 5 gives Played 0 3 ∷ ask-tally 2 gives Tallied 0 1 0 2 ∷ []) ∷
     -- a day may start with no campaigns
     answered (plan 2 2 gives Done ∷ start-day gives Done ∷ view 0 gives Refused 14 ∷ view 1 gives Refused 13 ∷ close-day gives Closing 0 0 0 ∷ []) ∷
+    -- a campaign is the 64th, and another gives 7
+    resumed (state Filling 63 0) (campaign-of 1 1 gives Done ∷ campaign-of 1 1 gives Refused 7 ∷ []) ∷
+    -- a view is the 4,096th, and another gives 12; it is asked before 13
+    resumed (state Running 1 4_095) (view 2 gives Refused 13 ∷ view 1 gives Played 0 1 ∷ view 2 gives Refused 12 ∷ view 1 gives Refused 12 ∷ []) ∷
+    -- no call of a state with more: 1
+    resumed (state Running 1 4_097) (view 1 gives Refused 1 ∷ close-day gives Refused 1 ∷ ask-tally 0 gives Refused 1 ∷ []) ∷
     []
