@@ -11,7 +11,7 @@ const MAX_PRICE: u32 = 1_000_000;
 
 const MAX_BUDGET: u32 = 2_000_000_000;
 
-// They hold of the first n campaigns.
+// They hold of the first n campaigns, of which `sum_all` was told that there are at most 64.
 pub fn priced_all<'a>(n: usize, prices: &'a [u32; 64], budgets: &'a [u32; 64]) -> bool
     requires { ⌜ n ≤ 64 ⌝ }
     ensures { λ r. ⌜ r ≡ priced-columns n (now (prices .entry)) (now (budgets .entry)) ⌝ }
@@ -29,7 +29,7 @@ pub fn priced_all<'a>(n: usize, prices: &'a [u32; 64], budgets: &'a [u32; 64]) -
     fit
 }
 
-// age < depth and plays ≤ turns ≤ named ≤ accepted views, for the first n campaigns.
+// age < depth and plays ≤ turns ≤ named ≤ accepted views, for the first n campaigns, at most 64 by `sum_all`.
 pub fn ordered_all<'a>(
     n: usize,
     depth: u16,
@@ -84,7 +84,7 @@ fn no_counts_in<'a>(
     any == 0
 }
 
-// In Filling the counts of the first n campaigns are zero.
+// In Filling the counts of the first n campaigns, at most 64 by `sum_all`, are zero.
 pub fn untouched_all<'a>(
     phase: Phase,
     n: usize,
@@ -103,7 +103,7 @@ pub fn untouched_all<'a>(
     }
 }
 
-// The entries from n on are all zero.
+// The entries from n on, which `day::audit::examine` keeps to at most 64, are all zero.
 pub fn empty_from<'a>(
     n: usize,
     prices: &'a [u32; 64],

@@ -107,7 +107,7 @@ fn mark<'a>(
     }
 }
 
-// The choice, and then the marks. The caller has found the state sound and every name in the plan.
+// The choice, and then the marks. `day::view::show_sound` has found the state sound and every name in the plan.
 pub fn play<'a>(
     view: View,
     plan: Plan,

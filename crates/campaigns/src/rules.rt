@@ -28,7 +28,8 @@ impl Terms {
 }
 
 impl Campaign {
-    // plays < whole plays is price × (plays + 1) ≤ budget. The callers know the campaign to be priced.
+    // plays < whole plays is price × (plays + 1) ≤ budget. `challenge` and `viewed` know
+    // the campaign to be priced.
     pub fn can_pay(self) -> bool
         requires { ⌜ Narrow self ⌝ }
         requires { ⌜ 1 ≤ self .price ⌝ }
@@ -52,7 +53,7 @@ impl Campaign {
         }
     }
 
-    // What a view that names the campaign makes of it. The caller knows it to be priced.
+    // What a view that names the campaign makes of it. `mark` knows it to be priced.
     pub fn viewed(self, depth: u64, plays: bool) -> Campaign
         requires { ⌜ Narrow self ⌝ }
         requires { ⌜ 1 ≤ self .price ⌝ }

@@ -106,7 +106,7 @@ fn wait_all<'a>(
     sum
 }
 
-// The sums over the first n campaigns. The caller has tested the plan and taken its weights.
+// The sums over the first n campaigns. `day::audit::examine` is called within the limits, with the plan's weights.
 pub fn sum_all<'a>(
     n: usize,
     phase: Phase,

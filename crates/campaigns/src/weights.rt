@@ -37,7 +37,7 @@ fn raise(plan: Plan, list: &mut [u64; 33])
     }
 }
 
-// The callers have tested the plan.
+// `Day::audit` and `day::view::show` have tested the plan, and the desk's stretch has a sound state.
 pub fn weights(plan: Plan) -> [u64; 33]
     requires { ⌜ sound-plan plan ≡ true ⌝ }
     ensures { λ r. ⌜ Weights plan r ⌝ }
@@ -47,7 +47,8 @@ pub fn weights(plan: Plan) -> [u64; 33]
     list
 }
 
-// W(age). The callers hold the plan's weights and a campaign that is not past the depth.
+// W(age). `wait_all`, `challenge` and `day::audit::settle` hold the plan's weights and an age that is not
+// past the depth.
 pub fn weigh(age: u64, plan: Plan, weights: &[u64; 33]) -> u64
     requires { ⌜ Weights plan (now weights) ⌝ }
     requires { ⌜ age ≤ plan .depth ⌝ }

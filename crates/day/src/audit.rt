@@ -96,7 +96,8 @@ fn settle(sums: Sums, plan: Plan, weights: &[u64; 33]) -> Audit
     }
 }
 
-// The audit of a state within its limits, handed in by its parts so that no array is copied. The callers have its weights.
+// The audit of a state within its limits, handed in by its parts so that no array is copied. `Day::audit`
+// and `day::view::show` have tested the limits and taken the weights.
 pub fn examine<'a>(
     phase: Phase,
     plan: Plan,

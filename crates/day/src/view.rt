@@ -169,7 +169,8 @@ fn is_sound<'a>(
 
 // A view of the state that is handed in by its parts: its counts are changed where they stand, and the caller adds
 // `counts(answer)` to the accepted views. The caller may know the state to be sound, as every state is that the
-// operations hand back from a sound one; else `checked` is false.
+// operations hand back from a sound one; else `checked` is false. `view_checked` meets what it asks, whose arrays have
+// the lengths of their types.
 pub fn show<'a>(
     checked: bool,
     phase: Phase,

@@ -74,7 +74,7 @@ fn respond(day: Day, checked: bool, line: &[u8]) -> Outcome
     }
 }
 
-// The line answered at the place at of out, where the callers have seen the room.
+// The line answered at the place at of out, where `answer`, `feed` and `finish` have seen the room.
 pub fn serve(day: Day, checked: bool, line: &[u8], out: &mut [u8], at: usize) -> Served
     requires { ⌜ (checked ≡ true → sound day ≡ true) ⌝ }
     requires { ⌜ at + 16384 ≤ length (now out) ⌝ }
@@ -91,7 +91,8 @@ pub fn serve(day: Day, checked: bool, line: &[u8], out: &mut [u8], at: usize) ->
     Served { day: next, at: to }
 }
 
-// The place of the first byte 10 of s from the place at on, or the end of s. The callers keep at inside s.
+// The place of the first byte 10 of s from the place at on, or the end of s. `advance` and `look` keep at
+// inside s.
 pub fn line_end(s: &[u8], at: usize) -> usize
     requires { ⌜ at ≤ length (now s) ⌝ }
     ensures { λ r. ⌜ (r ≡ at + upto (drop at (now (s .entry)))) × (r ≤ length (now (s .entry))) ⌝ }

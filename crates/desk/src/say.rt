@@ -103,7 +103,7 @@ fn tally(day: Day, campaign: u64) -> Record
     }
 }
 
-// The tallies, in number order. A day that closes has at most 64 campaigns.
+// The tallies, in number order. `serve` has the room, and a day that closes has at most 64 campaigns.
 pub fn send_tallies(day: Day, out: &mut [u8], at: usize) -> usize
     requires { ⌜ (day .count ≤ 64) × (at + 12864 ≤ length (now out)) ⌝ }
     ensures { λ r. ⌜ Put (now (out .entry)) (now (out .exit)) at r (tallies day (day .count)) × (r ≤ at + 12864) ⌝ }

@@ -227,7 +227,8 @@ fn run_stretch(t: Cursor, first: Sight, input: &[u8], out: &mut [u8]) -> Cursor
     }
 }
 
-// The stretch that comes next, if one does, of a state that is known to be sound.
+// The stretch that comes next, if one does, of a state that is known to be sound. `run` meets what it asks by its
+// invariant.
 pub fn pass(t: Cursor, checked: bool, input: &[u8], out: &mut [u8]) -> Cursor
     requires { ⌜ (t .from ≤ length (now input)) × (t .at ≤ length (now out)) ⌝ }
     requires { ⌜ (checked ≡ true → sound (t .day) ≡ true) ⌝ }

@@ -31,7 +31,7 @@ fn below(s: &[u64], from: usize, to: usize, limit: u64) -> bool
     true
 }
 
-// The words are a state: its phase is known, and the columns fit the arrays.
+// The words are a state: its phase is known, and the columns fit the arrays. The harness has tested the length.
 pub fn fit(s: &[u64]) -> bool
     requires { ⌜ length (now s) ≡ 390 ⌝ }
     ensures { λ r. ⌜ r ≡ fit (now (s .entry)) ⌝ }
@@ -73,6 +73,7 @@ fn phase_of(tag: u64, takings: u64) -> Phase
     }
 }
 
+// The state of words that the harness has found to be one.
 pub fn read_day(s: &[u64]) -> Day
     requires { ⌜ length (now s) ≡ 390 ⌝ }
     requires { ⌜ fit (now s) ≡ true ⌝ }
@@ -222,6 +223,7 @@ fn write_day(day: Day, out: &mut [u64])
     put16(out, 326, named);
 }
 
+// The state handed back and its answer, into a buffer whose length the harness has tested.
 pub fn write_outcome(outcome: Outcome, out: &mut [u64])
     requires { ⌜ length (now out) ≡ 395 ⌝ }
     ensures { λ _. ⌜ now (out .exit) ≡ outcome-words outcome ⌝ }
