@@ -1,10 +1,7 @@
-// The campaigns of a plan: the rules for one campaign, and the passes over all of them. Campaigns stand in parallel
-// arrays of small integers, which the passes are lent.
-pub mod columns;
+// A plan, its phases and its campaigns: the rules for one campaign. Campaigns stand in parallel arrays of small integers,
+// which the passes over all of them are lent.
 pub mod entry;
-pub mod pass;
 pub mod rules;
-pub mod sums;
 pub mod weights;
 
 // What is handed to an opening.

@@ -1,12 +1,70 @@
-// The rules for one campaign, in whole numbers and without a division.
+// The limits of a plan and of terms, the phases, and the rules for one campaign, in whole numbers and without a division.
 use crate::Campaign;
+use crate::Phase;
+use crate::Plan;
 use crate::Terms;
 ghost use mathlib.Core.Path.{_≡_};
 ghost use mathlib.Core.Bool.{true};
 ghost use Prim.Native.Nat.{_+_, _*_, _≤_};
-ghost use Rattle.campaigns.specs.Campaign.{can-pay, named-again, after, price-fits, budget-fits};
+ghost use Rattle.campaigns.specs.Campaign.{can-pay, named-again, after, depth-fits, width-fits, price-fits, budget-fits};
+ghost use Rattle.campaigns.specs.Phase.{is-filling, is-running, is-closed};
 ghost use Rattle.campaigns.specs.Choice.{role-of};
 ghost use Rattle.campaigns.specs.Inner.{Narrow};
+
+impl Plan {
+    // The limits of questions 3, 4, 7 and 12.
+    pub const MAX_DEPTH: u64 = 32;
+
+    pub const MAX_WIDTH: u64 = 16;
+
+    pub const MAX_CAMPAIGNS: u64 = 64;
+
+    pub const MAX_VIEWS: u64 = 4_096;
+
+    pub fn depth_fits(self) -> bool
+        ensures { λ r. ⌜ r ≡ depth-fits self ⌝ }
+    {
+        (1 <= self.depth) & (self.depth <= Self::MAX_DEPTH)
+    }
+
+    pub fn width_fits(self) -> bool
+        ensures { λ r. ⌜ r ≡ width-fits self ⌝ }
+    {
+        (1 <= self.width) & (self.width <= Self::MAX_WIDTH)
+    }
+}
+
+impl Phase {
+    pub fn filling(self) -> bool
+        ensures { λ r. ⌜ r ≡ is-filling self ⌝ }
+    {
+        match self {
+            Phase::Filling => true,
+            Phase::Running => false,
+            Phase::Closed(_) => false,
+        }
+    }
+
+    pub fn running(self) -> bool
+        ensures { λ r. ⌜ r ≡ is-running self ⌝ }
+    {
+        match self {
+            Phase::Filling => false,
+            Phase::Running => true,
+            Phase::Closed(_) => false,
+        }
+    }
+
+    pub fn closed(self) -> bool
+        ensures { λ r. ⌜ r ≡ is-closed self ⌝ }
+    {
+        match self {
+            Phase::Filling => false,
+            Phase::Running => false,
+            Phase::Closed(_) => true,
+        }
+    }
+}
 
 impl Terms {
     // The limits of questions 8 and 9.
@@ -28,7 +86,7 @@ impl Terms {
 }
 
 impl Campaign {
-    // plays < whole plays is price × (plays + 1) ≤ budget. `challenge` and `viewed` know
+    // plays < whole plays is price × (plays + 1) ≤ budget. `views::challenge` and `viewed` know
     // the campaign to be priced.
     pub fn can_pay(self) -> bool
         requires { ⌜ Narrow self ⌝ }
@@ -53,7 +111,7 @@ impl Campaign {
         }
     }
 
-    // What a view that names the campaign makes of it. `mark` knows it to be priced.
+    // What a view that names the campaign makes of it. `views::mark` knows it to be priced.
     pub fn viewed(self, depth: u64, plays: bool) -> Campaign
         requires { ⌜ Narrow self ⌝ }
         requires { ⌜ 1 ≤ self .price ⌝ }

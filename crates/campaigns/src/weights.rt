@@ -47,7 +47,7 @@ pub fn weights(plan: Plan) -> [u64; 33]
     list
 }
 
-// W(age). `wait_all`, `challenge` and `day::audit::settle` hold the plan's weights and an age that is not
+// W(age). `audit::sums::wait_all`, `audit::settle` and `views::challenge` hold the plan's weights and an age that is not
 // past the depth.
 pub fn weigh(age: u64, plan: Plan, weights: &[u64; 33]) -> u64
     requires { ⌜ Weights plan (now weights) ⌝ }

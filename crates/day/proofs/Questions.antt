@@ -14,10 +14,11 @@ use Rattle.campaigns.specs.Campaign.{depth-fits, width-fits, power-fits}
 use Rattle.day.specs.declared.Answer.the-variants.{Refused}
 use Rattle.day.specs.declared.Day.{Day}
 use Rattle.day.specs.declared.Outcome.{Outcome}
-use Rattle.day.specs.declared.audit.Audit.{Audit}
+use Rattle.audit.specs.declared.Audit.{Audit}
 use Rattle.day.specs.Sound.{sound}
 use Rattle.day.specs.Calls.{Question, first-no, Call, questions, result, refused, answered, call}
-use Rattle.day.specs.Inner.{not-sound, figures, audited}
+use Rattle.audit.specs.Inner.{not-sound}
+use Rattle.day.specs.Inner.{figures, audited}
 use Rattle.day.specs.Calls.Call.{open-plan, add-campaign, start-day, show-view, ask-tally, close-day}
 
 -- every question is answered yes

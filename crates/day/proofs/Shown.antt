@@ -15,19 +15,20 @@ use Rattle.campaigns.specs.declared.Campaign.{Campaign}
 use Rattle.campaigns.specs.declared.Phase.{Phase}
 use Rattle.campaigns.specs.declared.Phase.the-variants.{Filling, Running, Closed}
 use Rattle.campaigns.specs.declared.View.{View}
-use Rattle.campaigns.specs.declared.pass.Leader.{Leader}
+use Rattle.views.specs.declared.Leader.{Leader}
 use Rattle.campaigns.specs.Choice.{Choice, is, Role, role-of}
 use Rattle.campaigns.specs.Choice.Choice.{nobody, plays}
 use Rattle.campaigns.specs.View.{names, pays, figure, becomes, role-in}
-use Rattle.campaigns.specs.Inner.{led, leader-of, Entries, Ready, remade, Remade}
+use Rattle.views.specs.Inner.{led, leader-of, Entries, Ready, remade, Remade}
 use Rattle.campaigns.proofs.Laws.{plan-sized}
-use Rattle.campaigns.proofs.Leads.{choice-within}
-use Rattle.campaigns.proofs.Marks.{after-price, after-budget}
+use Rattle.views.proofs.Leads.{choice-within}
+use Rattle.views.proofs.Marks.{after-price, after-budget}
 use Rattle.day.specs.declared.Answer.{Answer}
 use Rattle.day.specs.declared.Answer.the-variants.{Refused}
 use Rattle.day.specs.declared.Day.{Day}
 use Rattle.day.specs.declared.Outcome.{Outcome}
-use Rattle.day.specs.Day.{campaign, is-running}
+use Rattle.day.specs.Day.{campaign}
+use Rattle.campaigns.specs.Phase.{is-running}
 use Rattle.day.specs.Calls.{questions, player, offers, shown, told, result, refused, call}
 use Rattle.day.specs.Calls.Call.{show-view}
 use Rattle.day.specs.Inner.{state-of, answer-of, counts, Shows}

@@ -18,11 +18,14 @@ use Rattle.campaigns.specs.declared.Phase.the-variants.{Filling, Running, Close
 use Rattle.campaigns.specs.declared.Plan.{Plan}
 use Rattle.campaigns.specs.declared.Terms.{Terms}
 use Rattle.campaigns.specs.Campaign.{fresh, sound-plan, uncounted, empty, sound-campaign}
-use Rattle.campaigns.proofs.Totals.{Held, campaign-held}
+use Rattle.audit.proofs.Totals.{Held, campaign-held}
 use Rattle.day.specs.declared.Day.{Day}
 use Rattle.day.specs.Calls.{joined}
-use Rattle.day.specs.Day.{campaign, holding, full, taken, claimed, budgeted, is-filling}
-use Rattle.day.specs.Sound.{sound, sound-tests, sound-entry, phase-holds}
+use Rattle.day.specs.Day.{campaign, holding, taken, claimed, budgeted}
+use Rattle.campaigns.specs.View.{full}
+use Rattle.campaigns.specs.Phase.{is-filling}
+use Rattle.day.specs.Sound.{sound, sound-tests, sound-entry}
+use Rattle.campaigns.specs.Phase.{phase-holds}
 
 pub record Sound (s : Day) : Type 0 where
   pub plan-sound : sound-plan (s .plan) ≡ true

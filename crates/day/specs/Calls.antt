@@ -17,7 +17,9 @@ use Rattle.campaigns.specs.Choice.{Choice}
 use Rattle.campaigns.specs.Choice.Choice.{nobody, plays}
 use Rattle.campaigns.specs.Campaign.{fresh, depth-fits, width-fits, power-fits, price-fits, budget-fits}
 use Rattle.campaigns.specs.View.{offer, chosen-of, viewed}
-use Rattle.day.specs.Day.{campaign, holding, in-phase, planned, full, taken, claimed, budgeted, is-filling, is-running, is-closed}
+use Rattle.day.specs.Day.{campaign, holding, in-phase, planned, taken, claimed, budgeted}
+use Rattle.campaigns.specs.View.{full}
+use Rattle.campaigns.specs.Phase.{is-filling, is-running, is-closed}
 use Rattle.day.specs.Sound.{sound}
 
 -- the number of an answer: that of the question that failed, or 0 where the call is accepted

@@ -1,11 +1,10 @@
 -- The state: how its arrays hold the campaigns, and the states that the operations hand back. Only this file knows the layout.
-use mathlib.Core.Bool.{Bool, true, false}
-use Prim.Native.Nat.{ℕ, _*_, _^_}
+use Prim.Native.Nat.{ℕ}
 use Rattle.finite.specs.Finite.{sum, table}
 use Rattle.campaigns.specs.declared.Campaign.{Campaign}
 use Rattle.day.specs.declared.Day.{Day}
 use Rattle.campaigns.specs.declared.Phase.{Phase}
-use Rattle.campaigns.specs.declared.Phase.the-variants.{Filling, Running, Closed}
+use Rattle.campaigns.specs.declared.Phase.the-variants.{Closed}
 use Rattle.campaigns.specs.declared.Plan.{Plan}
 use Rattle.campaigns.specs.declared.Terms.{Terms}
 use Rattle.campaigns.specs.Campaign.{fresh, campaign-at}
@@ -60,10 +59,6 @@ blank-plan = record { depth = 1; width = 1 }
 unfoldable pub blank : Day
 blank = planned (Closed 0) blank-plan
 
--- d^k × an amount; full is d^k × takings
-abbrev pub full : Plan → ℕ → ℕ
-full pl t = pl .width ^ pl .depth * t
-
 unfoldable pub taken : Day → ℕ
 taken s = takings (s .plan) (s .count) (campaign s)
 
@@ -72,18 +67,3 @@ claimed s = claims (s .plan) (s .count) (campaign s)
 
 unfoldable pub budgeted : Day → ℕ
 budgeted s = sum (s .count) (λ i. campaign s i .budget)
-
-abbrev pub is-filling : Phase → Bool
-is-filling Filling = true
-is-filling Running = false
-is-filling (Closed t) = false
-
-abbrev pub is-running : Phase → Bool
-is-running Filling = false
-is-running Running = true
-is-running (Closed t) = false
-
-abbrev pub is-closed : Phase → Bool
-is-closed Filling = false
-is-closed Running = false
-is-closed (Closed t) = true

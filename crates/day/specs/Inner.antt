@@ -1,23 +1,24 @@
 -- Names for the contracts of the inner functions of the operations.
-use mathlib.Core.Bool.{Bool, true, false, cond, _&&_}
+use mathlib.Core.Bool.{true, cond, _&&_}
 use mathlib.Core.List.{List, [], _∷_}
 use mathlib.Core.Path.{_≡_}
-use Prim.Native.Nat.{ℕ, _+_, _*_, _≤_, _<_}
+use Prim.Native.Nat.{ℕ, _+_, _<_}
 use lib.Dec.{leb, ltb}
 use Rattle.sets.specs.Set.{size, within}
-use Rattle.powers.specs.Power.{share}
 use Rattle.campaigns.specs.declared.Phase.{Phase}
 use Rattle.campaigns.specs.declared.Plan.{Plan}
 use Rattle.campaigns.specs.declared.Terms.{Terms}
 use Rattle.campaigns.specs.declared.View.{View}
-use Rattle.campaigns.specs.declared.pass.Leader.{Leader}
-use Rattle.campaigns.specs.declared.sums.Sums.{Sums}
-use Rattle.campaigns.specs.Campaign.{depth-fits, width-fits, power-fits, sound-plan}
+use Rattle.views.specs.declared.Leader.{Leader}
+use Rattle.campaigns.specs.Campaign.{depth-fits, width-fits, power-fits}
 use Rattle.day.specs.declared.Answer.{Answer}
 use Rattle.day.specs.declared.Answer.the-variants.{Refused, Done, Played, Nobody, Tallied, Closing}
 use Rattle.day.specs.declared.Day.{Day}
-use Rattle.day.specs.declared.audit.Audit.{Audit}
-use Rattle.day.specs.Day.{full, taken, claimed, budgeted, is-filling, is-running}
+use Rattle.audit.specs.declared.Audit.{Audit}
+use Rattle.audit.specs.Inner.{not-sound}
+use Rattle.campaigns.specs.View.{full}
+use Rattle.day.specs.Day.{taken, claimed, budgeted}
+use Rattle.campaigns.specs.Phase.{is-filling, is-running}
 use Rattle.day.specs.Sound.{sound}
 use Rattle.day.specs.Calls.{Question, question, call}
 use Rattle.day.specs.Calls.Call.{show-view}
@@ -26,33 +27,12 @@ use Rattle.day.specs.Calls.Call.{show-view}
 abbrev pub state-of : Phase → Plan → (count accepted : ℕ) → (prices budgets plays turns ages named : List ℕ) → Day
 state-of p pl n a x b l t g m = record { phase = p; plan = pl; count = n; accepted = a; prices = x; budgets = b; plays = l; turns = t; ages = g; named = m }
 
--- the first tests of soundness: the plan's, and the limits of campaigns and views
-abbrev pub limits : Plan → (count accepted : ℕ) → Bool
-limits pl n a = sound-plan pl && leb n 64 && leb a 4_096
-
--- an audit that fails, and that of a state
-abbrev pub not-sound : Audit
-not-sound = record { sound = false; budgets = 0; takings = 0; claim = 0; full = 0 }
-
+-- the audit of a state
 abbrev pub figures : Day → Audit
 figures s = record { sound = true; budgets = budgeted s; takings = taken s; claim = claimed s; full = full (s .plan) (taken s) }
 
 unfoldable pub audited : Day → Audit
 audited s = cond (sound s) (figures s) not-sound
-
--- the bounds under which the figures fit
-pub record Bounded (s : Sums) : Type 0 where
-  pub takings-bound : s .takings ≤ 2_000_000_000
-  pub turned-bound : s .turned ≤ 262_144_000_000
-  pub waited-bound : s .waited ≤ 274_877_906_944_000_000
-
--- the total claim of the sums, against full
-abbrev pub claim-sum : Plan → Sums → ℕ
-claim-sum pl s = s .turned * share (pl .depth) (pl .width) + s .waited
-
-unfoldable pub settled : Plan → Sums → Audit
-settled pl s =
-    cond (leb (claim-sum pl s) (full pl (s .takings))) (record { sound = true; budgets = s .budgets; takings = s .takings; claim = claim-sum pl s; full = full pl (s .takings) }) not-sound
 
 -- questions 3 to 5 of an opening
 abbrev pub plan-questions : Plan → List Question

@@ -1,5 +1,4 @@
 // The day's record: its state and the six operations on it, each of which takes a state and hands back a state.
-pub mod audit;
 pub mod ops;
 pub mod view;
 
@@ -53,13 +52,13 @@ pub struct Outcome {
 
 impl Day {
     // The limits.
-    pub const MAX_CAMPAIGNS: u64 = 64;
+    pub const MAX_CAMPAIGNS: u64 = Plan::MAX_CAMPAIGNS;
 
-    pub const MAX_VIEWS: u64 = 4_096;
+    pub const MAX_VIEWS: u64 = Plan::MAX_VIEWS;
 
-    pub const MAX_DEPTH: u64 = 32;
+    pub const MAX_DEPTH: u64 = Plan::MAX_DEPTH;
 
-    pub const MAX_WIDTH: u64 = 16;
+    pub const MAX_WIDTH: u64 = Plan::MAX_WIDTH;
 
     pub const MAX_PRICE: u64 = Terms::MAX_PRICE;
 

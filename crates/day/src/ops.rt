@@ -2,45 +2,25 @@
 use crate::Answer;
 use crate::Day;
 use crate::Outcome;
-use crate::audit::Audit;
+use audit::Audit;
 use campaigns::Phase;
 use campaigns::Plan;
 use campaigns::Terms;
 ghost use mathlib.Core.Path.{_≡_};
 ghost use Prim.Native.Nat.{_+_};
-ghost use Rattle.day.specs.Day.{in-phase, is-filling, is-closed};
+ghost use Rattle.day.specs.Day.{in-phase};
 ghost use Rattle.day.specs.Calls.{first-no, questions, result, call};
 ghost use Rattle.day.specs.Calls.Call.{open-plan, add-campaign, start-day, ask-tally, close-day};
 ghost use Rattle.day.specs.Inner.{audited, plan-questions, Joinable};
-
-pub fn filling(phase: Phase) -> bool
-    ensures { λ r. ⌜ r ≡ is-filling phase ⌝ }
-{
-    match phase {
-        Phase::Filling => true,
-        Phase::Running => false,
-        Phase::Closed(_) => false,
-    }
-}
-
-pub fn closed(phase: Phase) -> bool
-    ensures { λ r. ⌜ r ≡ is-closed phase ⌝ }
-{
-    match phase {
-        Phase::Filling => false,
-        Phase::Running => false,
-        Phase::Closed(_) => true,
-    }
-}
 
 // The number of the first of questions 3 to 5 that a plan fails, or 0; the last is looked up in the table.
 fn plan_question(plan: Plan) -> u64
     ensures { λ r. ⌜ r ≡ first-no (plan-questions plan) ⌝ }
 {
-    if !crate::audit::depth_fits(plan) {
+    if !plan.depth_fits() {
         return 3;
     }
-    if !crate::audit::width_fits(plan) {
+    if !plan.width_fits() {
         return 4;
     }
     if powers::power(plan.width, plan.depth) == 0 {
@@ -55,11 +35,11 @@ impl Day {
     {
         let phase = self.phase;
         let plan = self.plan;
-        if !crate::audit::limits_hold(plan, self.count, self.accepted) {
+        if !audit::limits_hold(plan, self.count, self.accepted) {
             return Audit::unsound();
         }
         let weights = campaigns::weights::weights(plan);
-        crate::audit::examine(
+        audit::examine(
             phase,
             plan,
             self.count,
@@ -107,7 +87,7 @@ impl Day {
             return 1;
         }
         let phase = self.phase;
-        if !closed(phase) {
+        if !phase.closed() {
             return 2;
         }
         plan_question(plan)
@@ -135,7 +115,7 @@ impl Day {
             return 1;
         }
         let phase = self.phase;
-        if !filling(phase) {
+        if !phase.filling() {
             return 6;
         }
         if Day::MAX_CAMPAIGNS <= self.count {
@@ -187,7 +167,7 @@ impl Day {
             return self.refused(1);
         }
         let phase = self.phase;
-        if !filling(phase) {
+        if !phase.filling() {
             return self.refused(6);
         }
         let day = self.in_phase(Phase::Running);
@@ -236,7 +216,7 @@ impl Day {
             return self.refused(1);
         }
         let phase = self.phase;
-        if !crate::view::running(phase) {
+        if !phase.running() {
             return self.refused(11);
         }
         let day = self.in_phase(Phase::Closed(audit.takings));

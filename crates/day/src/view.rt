@@ -2,39 +2,29 @@
 use crate::Answer;
 use crate::Day;
 use crate::Outcome;
-use crate::audit::examine;
-use crate::audit::limits_hold;
+use audit::examine;
+use audit::limits_hold;
 use campaigns::Phase;
 use campaigns::Plan;
 use campaigns::View;
-use campaigns::pass::Leader;
-use campaigns::pass::play;
 use campaigns::weights::weights;
+use views::Leader;
+use views::play;
 ghost use mathlib.Core.Path.{_≡_};
 ghost use mathlib.Core.Bool.{true};
 ghost use Prim.Native.Nat.{_≤_};
-ghost use Rattle.campaigns.specs.Inner.{Weights, Entries};
-ghost use Rattle.day.specs.Day.{is-running};
+ghost use Rattle.campaigns.specs.Inner.{Weights};
+ghost use Rattle.views.specs.Inner.{Entries};
 ghost use Rattle.day.specs.Sound.{sound};
 ghost use Rattle.day.specs.Calls.{first-no, call};
 ghost use Rattle.day.specs.Calls.Call.{show-view};
 ghost use Rattle.day.specs.Inner.{state-of, view-questions, answer-of, counts, Shows};
 
-pub fn running(phase: Phase) -> bool
-    ensures { λ r. ⌜ r ≡ is-running phase ⌝ }
-{
-    match phase {
-        Phase::Filling => false,
-        Phase::Running => true,
-        Phase::Closed(_) => false,
-    }
-}
-
 // The number of the first of questions 11 to 14 that a view fails, or 0.
 fn view_question(phase: Phase, plan: Plan, count: u64, accepted: u64, view: View) -> u64
     ensures { λ r. ⌜ r ≡ first-no (view-questions phase plan count accepted view) ⌝ }
 {
-    if !running(phase) {
+    if !phase.running() {
         return 11;
     }
     if Day::MAX_VIEWS <= accepted {

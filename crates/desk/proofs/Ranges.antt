@@ -26,7 +26,8 @@ use Rattle.campaigns.specs.View.{able, figure}
 use Rattle.campaigns.proofs.Laws.{plan-sized, spending-within}
 use Rattle.day.specs.declared.Day.{Day}
 use Rattle.day.specs.declared.Outcome.{Outcome}
-use Rattle.day.specs.Day.{campaign, full, taken, claimed, budgeted}
+use Rattle.day.specs.Day.{campaign, taken, claimed, budgeted}
+use Rattle.campaigns.specs.View.{full}
 use Rattle.day.specs.Sound.{sound}
 use Rattle.day.specs.Calls.{Question, first-no, Call, questions, offers, player, told as told-of, result, answered, call}
 use Rattle.day.specs.Calls.Call.{open-plan, add-campaign, start-day, show-view, ask-tally, close-day}

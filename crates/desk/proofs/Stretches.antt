@@ -11,12 +11,12 @@ use Rattle.lines.specs.Reading.{reading}
 use Rattle.campaigns.specs.Choice.{Choice}
 use Rattle.campaigns.specs.Choice.Choice.{nobody, plays}
 use Rattle.campaigns.specs.declared.View.{View}
-use Rattle.campaigns.specs.Inner.{Entries}
+use Rattle.views.specs.Inner.{Entries}
 use Rattle.day.specs.declared.Answer.{Answer}
 use Rattle.day.specs.declared.Answer.the-variants.{Refused}
 use Rattle.day.specs.declared.Day.{Day}
 use Rattle.day.specs.declared.Outcome.{Outcome}
-use Rattle.day.specs.Day.{is-filling, is-running, is-closed}
+use Rattle.campaigns.specs.Phase.{is-filling, is-running, is-closed}
 use Rattle.day.specs.Calls.{Call, first-no, told, offers, player, refused, call}
 use Rattle.day.specs.Calls.Call.{open-plan, add-campaign, start-day, show-view, ask-tally, close-day}
 use Rattle.day.specs.Inner.{state-of, counts, Shows}

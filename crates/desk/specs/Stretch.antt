@@ -6,13 +6,13 @@ use Prim.Native.Nat.{ℕ, _+_, _-_, _≤_, _<_}
 use lib.ListN.{length, take, drop}
 use Rattle.lines.specs.Reading.{reading}
 use Rattle.campaigns.specs.declared.Phase.{Phase}
-use Rattle.campaigns.specs.Inner.{Entries}
+use Rattle.views.specs.Inner.{Entries}
 use Rattle.day.specs.declared.Answer.{Answer}
 use Rattle.day.specs.declared.Day.{Day}
 use Rattle.day.specs.declared.Outcome.{Outcome}
 use Rattle.day.specs.Calls.{call, refused}
 use Rattle.day.specs.Calls.Call.{open-plan, add-campaign, start-day, show-view, ask-tally, close-day}
-use Rattle.day.specs.Day.{is-filling, is-running, is-closed}
+use Rattle.campaigns.specs.Phase.{is-filling, is-running, is-closed}
 use Rattle.day.specs.Inner.{state-of, counts}
 use Rattle.desk.specs.declared.stretch.Step.{Step}
 use Rattle.desk.specs.declared.stretch.Step.the-variants.{Stop, Show, Refuse}

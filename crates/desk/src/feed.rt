@@ -9,7 +9,7 @@ ghost use Prim.Native.Nat.{min, _+_, _≤_};
 ghost use lib.ListN.{length, take, drop};
 ghost use Rattle.day.specs.Sound.{sound};
 ghost use Rattle.desk.specs.Desk.{Serves};
-ghost use Rattle.desk.specs.Session.{new-desk, session, line-of, upto, Turned, Runs, Feeds, Finishes};
+ghost use Rattle.desk.specs.Session.{new-desk, session, line-of, Turned, Runs, Feeds, Finishes};
 
 // The state, and the first bytes of a line that has not ended: kept of them, 201 at most.
 pub struct Desk {

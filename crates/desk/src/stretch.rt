@@ -10,10 +10,7 @@ use campaigns::View;
 use campaigns::weights::weights;
 use day::Answer;
 use day::Day;
-use day::ops::closed;
-use day::ops::filling;
 use day::view::counts;
-use day::view::running;
 use day::view::show_sound;
 use lines::Reading;
 use lines::Record;
@@ -22,7 +19,8 @@ ghost use mathlib.Core.Bool.{true};
 ghost use mathlib.Core.List.{List};
 ghost use Prim.Native.Nat.{ℕ, _-_, _≤_};
 ghost use lib.ListN.{length};
-ghost use Rattle.campaigns.specs.Inner.{Weights, Entries};
+ghost use Rattle.campaigns.specs.Inner.{Weights};
+ghost use Rattle.views.specs.Inner.{Entries};
 ghost use Rattle.day.specs.Inner.{state-of};
 ghost use Rattle.day.specs.Sound.{sound};
 ghost use Rattle.lines.specs.Reading.{reading};
@@ -69,14 +67,14 @@ fn step_of(phase: Phase, input: Record) -> Step
     ensures { λ r. ⌜ r ≡ step-of phase (request input) ⌝ }
 {
     match input {
-        Record::Plan { depth: _, width: _ } => unless(closed(phase), 2),
+        Record::Plan { depth: _, width: _ } => unless(phase.closed(), 2),
         Record::Campaign {
             price: _,
             budget: _,
-        } => unless(filling(phase), 6),
-        Record::Start => unless(filling(phase), 6),
+        } => unless(phase.filling(), 6),
+        Record::Start => unless(phase.filling(), 6),
         Record::View(set) => Step::Show(set),
-        Record::Close => unless(running(phase), 11),
+        Record::Close => unless(phase.running(), 11),
         Record::Done => Step::Refuse(17),
         Record::Play {
             campaign: _,

@@ -17,8 +17,10 @@ use Rattle.campaigns.specs.declared.Terms.{Terms}
 use Rattle.campaigns.specs.Campaign.{whole}
 use Rattle.campaigns.proofs.Laws.{Sized, plan-sized}
 use Rattle.day.specs.declared.Day.{Day}
-use Rattle.day.specs.Day.{campaign, no-terms, full, taken, claimed}
-use Rattle.day.specs.Sound.{sound, phase-holds}
+use Rattle.day.specs.Day.{campaign, no-terms, taken, claimed}
+use Rattle.campaigns.specs.View.{full}
+use Rattle.day.specs.Sound.{sound}
+use Rattle.campaigns.specs.Phase.{phase-holds}
 use Rattle.day.specs.Calls.{Call}
 use Rattle.day.proofs.State.{Sound, sound-facts, held-at}
 use Rattle.laws.specs.Transcript.{transcript, final}

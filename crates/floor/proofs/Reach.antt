@@ -25,7 +25,8 @@ use Rattle.day.specs.declared.Answer.{Answer}
 use Rattle.day.specs.declared.Answer.the-variants.{Refused, Done}
 use Rattle.day.specs.declared.Day.{Day}
 use Rattle.day.specs.declared.Outcome.{Outcome}
-use Rattle.day.specs.Day.{campaign, no-terms, planned, blank-plan, blank, taken, is-filling}
+use Rattle.day.specs.Day.{campaign, no-terms, planned, blank-plan, blank, taken}
+use Rattle.campaigns.specs.Phase.{is-filling}
 use Rattle.day.specs.Sound.{sound}
 use Rattle.day.specs.Calls.{number, Call, questions, joined, player, offers, shown, told, result, call}
 use Rattle.day.specs.Calls.Call.{open-plan, add-campaign, start-day, show-view, ask-tally, close-day}

@@ -1,10 +1,9 @@
 -- The proviso of demand 3 is needed, by computation.
 use mathlib.Core.Path.{_≡_, refl, subst⁻¹}
 use mathlib.Core.Bool.{true, false}
-use mathlib.Core.List.{List, [], _∷_}
-use Prim.Native.Nat.{ℕ, _*_, _≤_}
+use mathlib.Core.List.{[], _∷_}
+use Prim.Native.Nat.{_≤_}
 use native.Mathlib.Omega.{arith}
-use lib.Dec.{leb}
 use borrow.Author.Tests.{leb-true}
 use Rattle.finite.specs.Finite.{sum, count, every, table, total}
 use Rattle.sets.specs.Set.{member, size, within}
@@ -15,7 +14,7 @@ use Rattle.day.specs.Day.{blank, taken, claimed, budgeted}
 use Rattle.day.specs.Sound.{sound}
 use Rattle.day.specs.Calls.{first-no, width-holds, call}
 use Rattle.laws.specs.Transcript.{transcript}
-use Rattle.floor.specs.History.{History, continued, history}
+use Rattle.floor.specs.History.{History, continued}
 use Rattle.floor.specs.History.Starts.{from-blank}
 use Rattle.floor.specs.Allotment.{takings-of}
 use Rattle.floor.specs.Floor.{price-of, unstruck, falls-short, Allotted, Covered}

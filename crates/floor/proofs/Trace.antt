@@ -14,7 +14,7 @@ use Rattle.campaigns.specs.declared.View.{View}
 use Rattle.campaigns.specs.Choice.{role-of}
 use Rattle.campaigns.specs.Campaign.{whole, can-pay, aged, after, fresh}
 use Rattle.campaigns.specs.View.{names, pays, becomes}
-use Rattle.campaigns.proofs.Totals.{Held}
+use Rattle.audit.proofs.Totals.{Held}
 use Rattle.laws.proofs.Laws.{Steady}
 use Rattle.floor.specs.Floor.{Trace}
 

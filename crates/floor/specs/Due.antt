@@ -6,7 +6,8 @@ use lib.ListN.{length}
 use Rattle.finite.specs.Finite.{sum}
 use Rattle.powers.specs.Power.{share}
 use Rattle.day.specs.declared.Day.{Day}
-use Rattle.day.specs.Day.{campaign, full, claimed}
+use Rattle.day.specs.Day.{campaign, claimed}
+use Rattle.campaigns.specs.View.{full}
 use Rattle.day.specs.Calls.{Call}
 use Rattle.laws.specs.Transcript.{transcript, final}
 use Rattle.floor.specs.History.{History, Starts, history}

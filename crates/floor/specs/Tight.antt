@@ -5,7 +5,8 @@ use mathlib.Core.List.{List, [], _∷_, map}
 use Prim.Native.Nat.{ℕ, zero, suc, _*_, _<_}
 use lib.ListN.{getD, length}
 use Rattle.powers.specs.Power.{share}
-use Rattle.day.specs.Day.{blank, full}
+use Rattle.day.specs.Day.{blank}
+use Rattle.campaigns.specs.View.{full}
 use Rattle.day.specs.Calls.{Call}
 use Rattle.day.specs.Calls.Call.{start-day}
 use Rattle.laws.specs.Transcript.{transcript}

@@ -24,8 +24,10 @@ use Rattle.campaigns.specs.View.{names, pays, becomes, able, takings, claims}
 use Rattle.campaigns.proofs.Laws.{Sized, plan-sized}
 use Rattle.day.specs.declared.Day.{Day}
 use Rattle.day.specs.declared.Outcome.{Outcome}
-use Rattle.day.specs.Day.{campaign, holding, in-phase, no-terms, planned, blank-plan, blank, full, taken, claimed, budgeted}
-use Rattle.day.specs.Sound.{sound-entry, phase-holds, sound-tests, sound}
+use Rattle.day.specs.Day.{campaign, holding, in-phase, no-terms, planned, blank-plan, blank, taken, claimed, budgeted}
+use Rattle.campaigns.specs.View.{full}
+use Rattle.day.specs.Sound.{sound-entry, sound-tests, sound}
+use Rattle.campaigns.specs.Phase.{phase-holds}
 use Rattle.day.specs.Calls.{number, Call, width-holds, questions, result, joined, player, shown, call}
 use Rattle.day.specs.Calls.Call.{open-plan, add-campaign, start-day, show-view, ask-tally, close-day}
 use Rattle.day.proofs.Questions.{Yes, call-elim}

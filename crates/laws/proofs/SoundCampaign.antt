@@ -16,7 +16,7 @@ use Rattle.campaigns.specs.declared.View.{View}
 use Rattle.campaigns.specs.Choice.{role-of}
 use Rattle.campaigns.specs.Campaign.{whole, can-pay, aged, after, fresh, price-fits, budget-fits, priced, counted, uncounted, untouched, sound-campaign}
 use Rattle.campaigns.specs.View.{names, pays, becomes}
-use Rattle.campaigns.proofs.Totals.{Held}
+use Rattle.audit.proofs.Totals.{Held}
 
 -- soundness of a campaign from its facts
 pub campaign-sound : (p : Phase) (pl : Plan) (n : ℕ) (c : Campaign) → priced c ≡ true → c .age < pl .depth → c .plays ≤ whole c → c .plays ≤ c .turns → c .turns ≤ c .named → c .named ≤ n → untouched p c ≡ true → sound-campaign p pl n c ≡ true

@@ -21,7 +21,8 @@ use Rattle.campaigns.specs.Choice.{Choice}
 use Rattle.campaigns.specs.Choice.Choice.{nobody, plays}
 use Rattle.campaigns.specs.Campaign.{fresh}
 use Rattle.campaigns.specs.View.{names, chosen-of}
-use Rattle.day.specs.Day.{campaign, in-phase, planned, no-terms, blank-plan, blank, taken, is-filling}
+use Rattle.day.specs.Day.{campaign, in-phase, planned, no-terms, blank-plan, blank, taken}
+use Rattle.campaigns.specs.Phase.{is-filling}
 use Rattle.day.specs.Sound.{sound-tests, sound}
 use Rattle.day.specs.Calls.{number, Call, questions, joined, player, offers, shown, told, result, call}
 use Rattle.day.specs.Calls.Call.{open-plan, add-campaign, start-day, show-view, ask-tally, close-day}

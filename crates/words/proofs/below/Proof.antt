@@ -4,7 +4,7 @@ use lib.Dec.{ltb}
 use lib.ListN.{getD}
 use native.Mathlib.Nat.{le-refl}
 use borrow.Author.Tests.{lt-ltb}
-use Rattle.campaigns.proofs.Zeros.{from-start, from-next}
+use Rattle.finite.proofs.Tests.{from-start, from-next}
 use Rattle.finite.proofs.Tests.{both-join}
 use borrow.Author.Needs.{needs}
 use native.Mathlib.Omega.{arith}

@@ -7,15 +7,12 @@ use Rattle.campaigns.proofs.Campaign.can_pay.Tie as tie
 use Rattle.campaigns.proofs.Campaign.can_pay.Reads as reads
 use Rattle.campaigns.proofs.Campaign.can_pay.Lts as lts
 
--- src/rules.rt:96:23
 add-result : tie.Need-add-result
 add-result c = search needs
 
--- src/rules.rt:96:9
 mul-result : tie.Need-mul-result
 mul-result c = record { fits = product-fits (c .before .before .args .self .price) (c .before .before .args .self .plays + 1) (omega arith) (omega arith) }
 
--- src/rules.rt:91:5
 returns : tie.Need-returns
 returns c = plays-below (c .before .before .before .args .self) (c .before .before .before .pre .1)
 

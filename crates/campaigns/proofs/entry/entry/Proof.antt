@@ -7,79 +7,60 @@ use Rattle.campaigns.proofs.entry.entry.Lts as lts
 use Rattle.campaigns.proofs.entry.wide16.Reads as wide16-reads
 use Rattle.campaigns.proofs.entry.wide32.Reads as wide32-reads
 
--- src/entry.rt:32:24
 mul-wide32 : tie.Need-mul-wide32
 mul-wide32 c = search needs
 
--- src/entry.rt:32:24
 element-copy-out-wide32 : tie.Need-element-copy-out-wide32
 element-copy-out-wide32 c = search needs
 
--- src/entry.rt:32:9
 wide32-requires : tie.Need-wide32-requires
 wide32-requires c κs = search needs
 
--- src/entry.rt:33:25
 mul-wide32-2 : tie.Need-mul-wide32-2
 mul-wide32-2 c = search needs
 
--- src/entry.rt:33:25
 element-copy-out-wide32-2 : tie.Need-element-copy-out-wide32-2
 element-copy-out-wide32-2 c = search needs
 
--- src/entry.rt:33:9
 wide32-requires-2 : tie.Need-wide32-requires-2
 wide32-requires-2 c κs = search needs
 
--- src/entry.rt:34:23
 mul-wide16 : tie.Need-mul-wide16
 mul-wide16 c = search needs
 
--- src/entry.rt:34:23
 element-copy-out-wide16 : tie.Need-element-copy-out-wide16
 element-copy-out-wide16 c = search needs
 
--- src/entry.rt:34:9
 wide16-requires : tie.Need-wide16-requires
 wide16-requires c κs = search needs
 
--- src/entry.rt:35:23
 mul-wide16-2 : tie.Need-mul-wide16-2
 mul-wide16-2 c = search needs
 
--- src/entry.rt:35:23
 element-copy-out-wide16-2 : tie.Need-element-copy-out-wide16-2
 element-copy-out-wide16-2 c = search needs
 
--- src/entry.rt:35:9
 wide16-requires-2 : tie.Need-wide16-requires-2
 wide16-requires-2 c κs = search needs
 
--- src/entry.rt:36:22
 mul-wide16-3 : tie.Need-mul-wide16-3
 mul-wide16-3 c = search needs
 
--- src/entry.rt:36:22
 element-copy-out-wide16-3 : tie.Need-element-copy-out-wide16-3
 element-copy-out-wide16-3 c = search needs
 
--- src/entry.rt:36:9
 wide16-requires-3 : tie.Need-wide16-requires-3
 wide16-requires-3 c κs = search needs
 
--- src/entry.rt:37:23
 mul-wide16-4 : tie.Need-mul-wide16-4
 mul-wide16-4 c = search needs
 
--- src/entry.rt:37:23
 element-copy-out-wide16-4 : tie.Need-element-copy-out-wide16-4
 element-copy-out-wide16-4 c = search needs
 
--- src/entry.rt:37:9
 wide16-requires-4 : tie.Need-wide16-requires-4
 wide16-requires-4 c κs = search needs
 
--- src/entry.rt:20:1
 returns : tie.Need-returns
 returns c = (cc, record { price-narrow = omega arith; budget-narrow = omega arith; plays-narrow = omega arith; turns-narrow = omega arith; age-narrow = omega arith; named-narrow = omega arith })
 

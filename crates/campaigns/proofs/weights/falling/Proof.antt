@@ -24,31 +24,24 @@ small s i h =
     let z = plan-sized (s .args .plan) (s .pre) in
     le-trans (pow-le-pow-left (sub-le (s .args .plan .width) 1) i) (le-trans (pow-le-pow-right (z .wide) h) (z .top))
 
--- src/weights.rt:17:16
 sub-base : tie.Need-sub-base Inv-loop μ-loop
 sub-base c = let z = plan-sized (c .before .args .plan) (c .before .pre) in omega (arith, z .wide)
 
--- src/weights.rt:19:17
 add-i-end : tie.Need-add-i-end Inv-loop μ-loop
 add-i-end c = let z = plan-sized (c .before .args .plan) (c .before .pre) in omega (arith, z .shallow)
 
--- src/weights.rt:19:5
 loop-holds : tie.Need-loop-holds Inv-loop μ-loop
 loop-holds c = (omega arith, sym (pow-zero (c .before .args .plan .width - 1)), λ j h. absurd (omega arith), refl)
 
--- src/weights.rt:20:14
 sub-list : tie.Need-sub-list Inv-loop μ-loop
 sub-list c = omega arith
 
--- src/weights.rt:20:9
 mul-list : tie.Need-mul-list Inv-loop μ-loop
 mul-list c = let z = plan-sized (c .before .before .before .args .plan) (c .before .before .before .pre) in omega (arith, z .shallow)
 
--- src/weights.rt:20:9
 array-write-list : tie.Need-array-write-list Inv-loop μ-loop
 array-write-list c = let z = plan-sized (c .before .before .before .args .plan) (c .before .before .before .pre) in omega (arith, z .shallow)
 
--- src/weights.rt:21:17
 mul-power : tie.Need-mul-power Inv-loop μ-loop
 mul-power c =
     let s = c .before .before .before in
@@ -57,15 +50,12 @@ mul-power c =
     let y : s .args .plan .width - 1 ≤ 16 = omega (arith, z .narrow) in
     record { fits = omega (arith, mul-le-mul x y) }
 
--- src/weights.rt:19:9
 add-i : tie.Need-add-i Inv-loop μ-loop
 add-i c = let z = plan-sized (c .before .before .before .args .plan) (c .before .before .before .pre) in omega (arith, z .shallow)
 
--- src/weights.rt:19:5
 loop-less : tie.Need-loop-less Inv-loop μ-loop
 loop-less c = omega arith
 
--- src/weights.rt:19:5
 loop-again : tie.Need-loop-again Inv-loop μ-loop
 loop-again c = let l = c .before .loop in
     let k = c .before .before .before .args .plan .depth in
@@ -79,7 +69,6 @@ loop-again c = let l = c .before .loop in
       length-set (l .list) (k - l .i) (l .power) ∙ l .inv .3,
     )
 
--- src/weights.rt:11:1
 returns : tie.Need-returns Inv-loop μ-loop
 returns c = let l = c .before .loop in
     let k = c .before .before .before .args .plan .depth in

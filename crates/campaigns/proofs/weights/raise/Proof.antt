@@ -30,35 +30,27 @@ product c =
     let t = c .before .loop-test .taken in
     ap₂ (λ (x y : ℕ). x * y) (l .inv .3 (l .i) (omega arith) (omega arith)) (l .inv .1) ∙ mul-comm ((d - 1) ^ (k - l .i)) (d ^ l .i)
 
--- src/weights.rt:35:17
 add-i-end : tie.Need-add-i-end Inv-loop μ-loop
 add-i-end c = let z = plan-sized (c .args .plan) (c .pre .plan-fits) in omega (arith, z .shallow)
 
--- src/weights.rt:35:5
 loop-holds : tie.Need-loop-holds Inv-loop μ-loop
 loop-holds c = (omega arith, sym (pow-zero (c .args .plan .width)), λ a h. absurd (omega arith), λ a _ h. c .pre .falls a h, c .pre .full-length)
 
--- src/weights.rt:36:19
 mul-list : tie.Need-mul-list Inv-loop μ-loop
 mul-list c = let z = plan-sized (c .before .before .args .plan) (c .before .before .pre .plan-fits) in omega (arith, z .shallow)
 
--- src/weights.rt:36:19
 element-copy-out-list : tie.Need-element-copy-out-list Inv-loop μ-loop
 element-copy-out-list c = let z = plan-sized (c .before .before .args .plan) (c .before .before .pre .plan-fits) in omega (arith, z .shallow)
 
--- src/weights.rt:36:19
 mul-list-2 : tie.Need-mul-list-2 Inv-loop μ-loop
 mul-list-2 c = let z = plan-sized (c .before .before .before .args .plan) (c .before .before .before .pre .plan-fits) in record { fits = omega (arith, product c, weight-top (c .before .before .before .args .plan) (c .before .before .before .pre .plan-fits) (c .before .before .loop .i) (omega (arith, c .before .loop-test .taken))) }
 
--- src/weights.rt:36:9
 mul-list-3 : tie.Need-mul-list-3 Inv-loop μ-loop
 mul-list-3 c = let z = plan-sized (c .before .before .before .args .plan) (c .before .before .before .pre .plan-fits) in omega (arith, z .shallow)
 
--- src/weights.rt:36:9
 element-write-list : tie.Need-element-write-list Inv-loop μ-loop
 element-write-list c = let z = plan-sized (c .before .before .before .args .plan) (c .before .before .before .pre .plan-fits) in omega (arith, z .shallow)
 
--- src/weights.rt:37:17
 mul-power : tie.Need-mul-power Inv-loop μ-loop
 mul-power c =
     let s = c .before .before .before in
@@ -67,15 +59,12 @@ mul-power c =
     let x : c .before .before .loop .power ≤ 4_294_967_296 = omega (arith, c .before .before .loop .inv .1, le-trans (pow-le-pow-right (z .wide) h) (z .top)) in
     record { fits = omega (arith, mul-le-mul x (z .narrow)) }
 
--- src/weights.rt:35:9
 add-i : tie.Need-add-i Inv-loop μ-loop
 add-i c = let z = plan-sized (c .before .before .before .args .plan) (c .before .before .before .pre .plan-fits) in omega (arith, z .shallow)
 
--- src/weights.rt:35:5
 loop-less : tie.Need-loop-less Inv-loop μ-loop
 loop-less c = omega arith
 
--- src/weights.rt:35:5
 loop-again : tie.Need-loop-again Inv-loop μ-loop
 loop-again c = let l = c .before .before .loop in
     let k = c .before .before .before .args .plan .depth in
@@ -91,7 +80,6 @@ loop-again c = let l = c .before .before .loop in
       length-set (l .list) (l .i) x ∙ l .inv .4,
     )
 
--- src/weights.rt:27:1
 returns : tie.Need-returns Inv-loop μ-loop
 returns c = record { plan-sound = c .before .before .pre .plan-fits; weigh-is = λ a h. c .before .loop .inv .2 a (omega arith) h }
 

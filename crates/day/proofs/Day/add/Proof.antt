@@ -20,19 +20,15 @@ use Rattle.day.proofs.Day.refused.Reads as refused-reads
 abbrev done : Day → Outcome
 done d = record { day = d; answer = Done }
 
--- src/ops.rt:181:13
 add-question-requires : tie.Need-add-question-requires
 add-question-requires c κs = search needs
 
--- src/ops.rt:183:13
 refused-requires : tie.Need-refused-requires
 refused-requires c κs = search needs
 
--- src/ops.rt:183:13
 returns : tie.Need-returns
 returns c = c .refused .ensures ∙ refused-is (c .before .before .before .args .self) (add-campaign (c .before .before .before .args .terms)) (c .before .before .add-question .result) (c .before .before .add-question .ensures) (c .before .if1 .taken)
 
--- src/ops.rt:185:13
 joined-requires : tie.Need-joined-requires
 joined-requires c κs =
     let s = c .before .before .args .self in
@@ -46,7 +42,6 @@ joined-requires c κs =
       budget-narrow = omega (arith, leb-true (t .budget) 2_000_000_000 (both-right (leb (t .price) (t .budget)) (leb (t .budget) 2_000_000_000) (y .1 .1 .1 .1 .0)));
     }
 
--- src/ops.rt:178:5
 returns-2 : tie.Need-returns-2
 returns-2 c = ap done (c .joined .ensures) ∙ accepted-is (c .before .before .before .args .self) (add-campaign (c .before .before .before .args .terms)) (c .before .before .add-question .result) (c .before .before .add-question .ensures) (c .before .if1 .left)
 

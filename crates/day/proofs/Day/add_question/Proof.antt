@@ -2,8 +2,9 @@ use Rattle.day.proofs.State.{sound-facts}
 use Rattle.day.proofs.Questions.{audit-sound, audit-figures}
 use Rattle.day.specs.Calls.{first-no}
 use Rattle.day.specs.Sound.{sound}
-use Rattle.day.specs.Day.{is-filling, budgeted}
-use Rattle.day.specs.declared.audit.Audit.{Audit}
+use Rattle.campaigns.specs.Phase.{is-filling}
+use Rattle.day.specs.Day.{budgeted}
+use Rattle.audit.specs.declared.Audit.{Audit}
 use Rattle.campaigns.specs.Campaign.{price-fits, budget-fits}
 use Rattle.finite.proofs.Tests.{both-right}
 use borrow.Author.Tests.{not-true, not-false, le-ltb, lt-ltb, leb-true, le-leb, lt-leb}
@@ -20,7 +21,7 @@ use Rattle.day.proofs.Day.add_question.Lts as lts
 use Rattle.campaigns.proofs.Terms.budget_fits.Reads as budget-fits-reads
 use Rattle.campaigns.proofs.Terms.price_fits.Reads as price-fits-reads
 use Rattle.day.proofs.Day.audit.Reads as audit-reads
-use Rattle.day.proofs.ops.filling.Reads as filling-reads
+use Rattle.campaigns.proofs.Phase.filling.Reads as filling-reads
 
 is-sound : (c : tie.Else1) → sound (c .before .before .before .args .self) ≡ true
 is-sound c = sym (audit-sound (c .before .before .before .args .self) (c .before .before .audit .result) (c .before .before .audit .ensures)) ∙ not-false (c .before .before .audit .result .sound) (c .if1 .left)
@@ -40,48 +41,38 @@ funded c = sym (c .before .budget-fits .ensures) ∙ not-false (c .before .budge
 budgets-are : (c : tie.Else1) → c .before .before .audit .result .budgets ≡ budgeted (c .before .before .before .args .self)
 budgets-are c = ap (λ (a : Audit). a .budgets) (audit-figures (c .before .before .before .args .self) (c .before .before .audit .result) (c .before .before .audit .ensures) (is-sound c))
 
--- src/ops.rt:143:13
 audit-requires : tie.Need-audit-requires
 audit-requires c κs = search needs
 
--- src/ops.rt:145:13
 returns : tie.Need-returns
 unfolding first-no
 returns c = rw (sym (audit-sound (c .before .before .before .args .self) (c .before .before .audit .result) (c .before .before .audit .ensures)) ∙ not-true (c .before .before .audit .result .sound) (c .if1 .taken))
 
--- src/ops.rt:148:13
 filling-requires : tie.Need-filling-requires
 filling-requires c κs = search needs
 
--- src/ops.rt:149:13
 returns-2 : tie.Need-returns-2
 unfolding first-no
 returns-2 c = rw (is-sound (c .before .before), sym (c .before .filling .ensures) ∙ not-true (c .before .filling .result) (c .if2 .taken))
 
--- src/ops.rt:152:13
 returns-3 : tie.Need-returns-3
 unfolding first-no
 returns-3 c = rw (is-sound (c .before .before .before .before), fills (c .before .before), le-ltb (c .before .before .before .before .before .before .before .args .self .count) 64 (c .if3 .taken))
 
--- src/ops.rt:154:13
 price-fits-requires : tie.Need-price-fits-requires
 price-fits-requires c κs = search needs
 
--- src/ops.rt:155:13
 returns-4 : tie.Need-returns-4
 unfolding first-no
 returns-4 c = rw (is-sound (c .before .before .before .before .before .before), fills (c .before .before .before .before), has-room (c .before .before), sym (c .before .price-fits .ensures) ∙ not-true (c .before .price-fits .result) (c .if4 .taken))
 
--- src/ops.rt:157:13
 budget-fits-requires : tie.Need-budget-fits-requires
 budget-fits-requires c κs = search needs
 
--- src/ops.rt:158:13
 returns-5 : tie.Need-returns-5
 unfolding first-no
 returns-5 c = rw (is-sound (c .before .before .before .before .before .before .before .before), fills (c .before .before .before .before .before .before), has-room (c .before .before .before .before), priced (c .before .before), sym (c .before .budget-fits .ensures) ∙ not-true (c .before .budget-fits .result) (c .if5 .taken))
 
--- src/ops.rt:160:30
 add-if6 : tie.Need-add-if6
 add-if6 c =
     let t = c .before .before .before .before .before .before .before .before .before .before .before .before .before .args .terms in
@@ -89,14 +80,12 @@ add-if6 c =
     let h = sound-facts (c .before .before .before .before .before .before .before .before .before .before .before .before .before .args .self) (is-sound (c .before .before .before .before .before .before .before .before .before .before)) in
     record { fits = omega (arith, budgets-are (c .before .before .before .before .before .before .before .before .before .before)) }
 
--- src/ops.rt:161:13
 returns-6 : tie.Need-returns-6
 unfolding first-no
 returns-6 c =
     let s = c .before .before .before .before .before .before .before .before .before .before .before .before .before .before .args .self in
     rw (is-sound (c .before .before .before .before .before .before .before .before .before .before .before), fills (c .before .before .before .before .before .before .before .before .before), has-room (c .before .before .before .before .before .before .before), priced (c .before .before .before .before .before), funded (c .before .before .before), lt-leb (budgeted s + c .before .before .before .before .before .before .before .before .before .before .before .before .before .before .args .terms .budget) 2_000_000_000 (let e = budgets-are (c .before .before .before .before .before .before .before .before .before .before .before) in let l = c .if6 .taken in omega arith))
 
--- src/ops.rt:140:5
 returns-7 : tie.Need-returns-7
 unfolding first-no
 returns-7 c =

@@ -6,11 +6,9 @@ use Rattle.day.proofs.Day.blank.Reads as reads
 use Rattle.day.proofs.Day.blank.Lts as lts
 use Rattle.day.proofs.Day.planned.Reads as planned-reads
 
--- src/lib.rt:90:9
 planned-requires : tie.Need-planned-requires
 planned-requires c κs = search needs
 
--- src/lib.rt:87:5
 returns : tie.Need-returns
 unfolding blank
 returns c = c .planned .ensures

@@ -5,8 +5,9 @@ use Rattle.day.proofs.Questions.{refused-is, accepted-is, all-yes, audi
 use Rattle.day.specs.Calls.Call.{close-day}
 use Rattle.day.specs.Calls.{first-no, questions}
 use Rattle.day.specs.Sound.{sound}
-use Rattle.day.specs.Day.{is-running, in-phase}
-use Rattle.day.specs.declared.audit.Audit.{Audit}
+use Rattle.campaigns.specs.Phase.{is-running}
+use Rattle.day.specs.Day.{in-phase}
+use Rattle.audit.specs.declared.Audit.{Audit}
 use Rattle.day.specs.declared.Outcome.{Outcome}
 use Rattle.day.specs.declared.Day.{Day}
 use borrow.Author.Tests.{not-true, not-false}
@@ -21,7 +22,7 @@ use Rattle.day.proofs.Day.close.Lts as lts
 use Rattle.day.proofs.Day.audit.Reads as audit-reads
 use Rattle.day.proofs.Day.in_phase.Reads as in-phase-reads
 use Rattle.day.proofs.Day.refused.Reads as refused-reads
-use Rattle.day.proofs.view.running.Reads as running-reads
+use Rattle.campaigns.proofs.Phase.running.Reads as running-reads
 
 abbrev done : Day → Audit → Outcome
 done d a = record { day = d; answer = Closing (a .takings) (a .claim) (a .full) }
@@ -40,35 +41,27 @@ asked-1 : (c : tie.Then1) → 1 ≡ first-no (questions (c .before .before .befo
 unfolding first-no
 asked-1 c = rw (sym (audit-sound (c .before .before .before .args .self) (c .before .before .audit .result) (c .before .before .audit .ensures)) ∙ not-true (c .before .before .audit .result .sound) (c .if1 .taken))
 
--- src/ops.rt:244:13
 audit-requires : tie.Need-audit-requires
 audit-requires c κs = search needs
 
--- src/ops.rt:246:13
 refused-requires : tie.Need-refused-requires
 refused-requires c κs = search needs
 
--- src/ops.rt:246:13
 returns : tie.Need-returns
 returns c = c .refused .ensures ∙ refused-is (c .before .before .before .before .args .self) close-day 1 (asked-1 (c .before)) (λ e. omega arith)
 
--- src/ops.rt:249:13
 running-requires : tie.Need-running-requires
 running-requires c κs = search needs
 
--- src/ops.rt:250:13
 refused-requires-2 : tie.Need-refused-requires-2
 refused-requires-2 c κs = search needs
 
--- src/ops.rt:250:13
 returns-2 : tie.Need-returns-2
 returns-2 c = c .refused2 .ensures ∙ refused-is (c .before .before .before .before .before .before .args .self) close-day 11 (asked-2 (c .before)) (λ e. omega arith)
 
--- src/ops.rt:252:13
 in-phase-requires : tie.Need-in-phase-requires
 in-phase-requires c κs = search needs
 
--- src/ops.rt:241:5
 returns-3 : tie.Need-returns-3
 returns-3 c =
     let s = c .before .before .before .before .before .before .args .self in

@@ -8,35 +8,27 @@ use Rattle.day.proofs.Day.joined.Lts as lts
 lengths : (s : tie.Start) → Lengths (s .args .t1)
 lengths s = record { prices-length = search needs; budgets-length = search needs; plays-length = search needs; turns-length = search needs; ages-length = search needs; named-length = search needs }
 
--- src/ops.rt:172:27
 cast-self : tie.Need-cast-self
 cast-self c = search needs
 
--- src/ops.rt:172:9
 mul-self : tie.Need-mul-self
 mul-self c = search needs
 
--- src/ops.rt:172:9
 element-write-self : tie.Need-element-write-self
 element-write-self c = search needs
 
--- src/ops.rt:173:28
 cast-self-2 : tie.Need-cast-self-2
 cast-self-2 c = search needs
 
--- src/ops.rt:173:9
 mul-self-2 : tie.Need-mul-self-2
 mul-self-2 c = search needs
 
--- src/ops.rt:173:9
 element-write-self-2 : tie.Need-element-write-self-2
 element-write-self-2 c = search needs
 
--- src/ops.rt:174:22
 add-self : tie.Need-add-self
 add-self c = search needs
 
--- src/ops.rt:167:5
 returns : tie.Need-returns
 returns c =
     let s = c .before .before in

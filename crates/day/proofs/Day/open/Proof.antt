@@ -16,23 +16,18 @@ use Rattle.day.proofs.Day.refused.Reads as refused-reads
 abbrev done : Day → Outcome
 done d = record { day = d; answer = Done }
 
--- src/ops.rt:129:13
 open-question-requires : tie.Need-open-question-requires
 open-question-requires c κs = search needs
 
--- src/ops.rt:131:13
 refused-requires : tie.Need-refused-requires
 refused-requires c κs = search needs
 
--- src/ops.rt:131:13
 returns : tie.Need-returns
 returns c = c .refused .ensures ∙ refused-is (c .before .before .before .args .self) (open-plan (c .before .before .before .args .plan)) (c .before .before .open-question .result) (c .before .before .open-question .ensures) (c .before .if1 .taken)
 
--- src/ops.rt:133:13
 planned-requires : tie.Need-planned-requires
 planned-requires c κs = search needs
 
--- src/ops.rt:126:5
 returns-2 : tie.Need-returns-2
 returns-2 c = ap done (c .planned .ensures) ∙ accepted-is (c .before .before .before .args .self) (open-plan (c .before .before .before .args .plan)) (c .before .before .open-question .result) (c .before .before .open-question .ensures) (c .before .if1 .left)
 

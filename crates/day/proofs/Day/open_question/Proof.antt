@@ -1,7 +1,7 @@
 use Rattle.day.proofs.Questions.{audit-sound}
 use Rattle.day.specs.Calls.{first-no}
 use Rattle.day.specs.Sound.{sound}
-use Rattle.day.specs.Day.{is-closed}
+use Rattle.campaigns.specs.Phase.{is-closed}
 use borrow.Author.Tests.{not-true, not-false}
 use mathlib.Core.Bool.{true}
 use mathlib.Core.Path.{_≡_, sym, _∙_}
@@ -11,35 +11,29 @@ use Rattle.day.proofs.Day.open_question.Tie as tie
 use Rattle.day.proofs.Day.open_question.Reads as reads
 use Rattle.day.proofs.Day.open_question.Lts as lts
 use Rattle.day.proofs.Day.audit.Reads as audit-reads
-use Rattle.day.proofs.ops.closed.Reads as closed-reads
+use Rattle.campaigns.proofs.Phase.closed.Reads as closed-reads
 use Rattle.day.proofs.ops.plan_question.Reads as plan-question-reads
 
 is-sound : (c : tie.Else1) → sound (c .before .before .before .args .self) ≡ true
 is-sound c = sym (audit-sound (c .before .before .before .args .self) (c .before .before .audit .result) (c .before .before .audit .ensures)) ∙ not-false (c .before .before .audit .result .sound) (c .if1 .left)
 
--- src/ops.rt:115:13
 audit-requires : tie.Need-audit-requires
 audit-requires c κs = search needs
 
--- src/ops.rt:117:13
 returns : tie.Need-returns
 unfolding first-no
 returns c = rw (sym (audit-sound (c .before .before .before .args .self) (c .before .before .audit .result) (c .before .before .audit .ensures)) ∙ not-true (c .before .before .audit .result .sound) (c .if1 .taken))
 
--- src/ops.rt:120:13
 closed-requires : tie.Need-closed-requires
 closed-requires c κs = search needs
 
--- src/ops.rt:121:13
 returns-2 : tie.Need-returns-2
 unfolding first-no
 returns-2 c = rw (is-sound (c .before .before), sym (c .before .closed .ensures) ∙ not-true (c .before .closed .result) (c .if2 .taken))
 
--- src/ops.rt:123:9
 plan-question-requires : tie.Need-plan-question-requires
 plan-question-requires c κs = search needs
 
--- src/ops.rt:112:5
 returns-3 : tie.Need-returns-3
 unfolding first-no
 returns-3 c = let p : is-closed (c .before .before .before .before .before .before .args .self .phase) ≡ true = sym (c .before .before .closed .ensures) ∙ not-false (c .before .before .closed .result) (c .before .if2 .left) in rw (is-sound (c .before .before .before), p) (c .plan-question .ensures)

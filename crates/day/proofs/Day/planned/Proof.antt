@@ -5,7 +5,6 @@ use Rattle.day.proofs.Day.planned.Tie as tie
 use Rattle.day.proofs.Day.planned.Reads as reads
 use Rattle.day.proofs.Day.planned.Lts as lts
 
--- src/lib.rt:69:5
 returns : tie.Need-returns
 unfolding table
 returns c = refl

@@ -4,7 +4,8 @@ use Rattle.day.proofs.Questions.{refused-is, accepted-is, all-yes, audi
 use Rattle.day.specs.Calls.Call.{start-day}
 use Rattle.day.specs.Calls.{first-no, questions}
 use Rattle.day.specs.Sound.{sound}
-use Rattle.day.specs.Day.{is-filling, in-phase}
+use Rattle.campaigns.specs.Phase.{is-filling}
+use Rattle.day.specs.Day.{in-phase}
 use Rattle.day.specs.declared.Outcome.{Outcome}
 use Rattle.day.specs.declared.Day.{Day}
 use borrow.Author.Tests.{not-true, not-false}
@@ -19,7 +20,7 @@ use Rattle.day.proofs.Day.start.Lts as lts
 use Rattle.day.proofs.Day.audit.Reads as audit-reads
 use Rattle.day.proofs.Day.in_phase.Reads as in-phase-reads
 use Rattle.day.proofs.Day.refused.Reads as refused-reads
-use Rattle.day.proofs.ops.filling.Reads as filling-reads
+use Rattle.campaigns.proofs.Phase.filling.Reads as filling-reads
 
 abbrev done : Day → Outcome
 done d = record { day = d; answer = Done }
@@ -38,35 +39,27 @@ asked-1 : (c : tie.Then1) → 1 ≡ first-no (questions (c .before .before .befo
 unfolding first-no
 asked-1 c = rw (sym (audit-sound (c .before .before .before .args .self) (c .before .before .audit .result) (c .before .before .audit .ensures)) ∙ not-true (c .before .before .audit .result .sound) (c .if1 .taken))
 
--- src/ops.rt:195:13
 audit-requires : tie.Need-audit-requires
 audit-requires c κs = search needs
 
--- src/ops.rt:197:13
 refused-requires : tie.Need-refused-requires
 refused-requires c κs = search needs
 
--- src/ops.rt:197:13
 returns : tie.Need-returns
 returns c = c .refused .ensures ∙ refused-is (c .before .before .before .before .args .self) start-day 1 (asked-1 (c .before)) (λ e. omega arith)
 
--- src/ops.rt:200:13
 filling-requires : tie.Need-filling-requires
 filling-requires c κs = search needs
 
--- src/ops.rt:201:13
 refused-requires-2 : tie.Need-refused-requires-2
 refused-requires-2 c κs = search needs
 
--- src/ops.rt:201:13
 returns-2 : tie.Need-returns-2
 returns-2 c = c .refused2 .ensures ∙ refused-is (c .before .before .before .before .before .before .args .self) start-day 6 (asked-2 (c .before)) (λ e. omega arith)
 
--- src/ops.rt:203:13
 in-phase-requires : tie.Need-in-phase-requires
 in-phase-requires c κs = search needs
 
--- src/ops.rt:192:5
 returns-3 : tie.Need-returns-3
 returns-3 c = ap (λ (d : Day). done d) (c .in-phase .ensures) ∙ accepted-is (c .before .before .before .before .before .before .args .self) start-day (first-no (questions (c .before .before .before .before .before .before .args .self) start-day)) refl (all-yes (questions (c .before .before .before .before .before .before .args .self) start-day) (is-sound (c .before .before .before), (in-time (c .before), tt)))
 

@@ -33,31 +33,24 @@ asked-2 : (c : tie.Then2) → 15 ≡ first-no (questions (c .before .before .bef
 unfolding first-no
 asked-2 c = rw (is-sound (c .before), le-ltb (c .before .before .before .before .args .campaign) (c .before .before .before .before .args .t1 .count) (c .if2 .taken))
 
--- src/ops.rt:213:13
 audit-requires : tie.Need-audit-requires
 audit-requires c κs = search needs
 
--- src/ops.rt:215:13
 refused-requires : tie.Need-refused-requires
 refused-requires c κs = search needs
 
--- src/ops.rt:215:13
 returns : tie.Need-returns
 returns c = c .refused .ensures ∙ refused-is (c .before .before .before .before .args .t1) (ask-tally (c .before .before .before .before .args .campaign)) 1 (asked-1 (c .before)) (λ e. omega arith)
 
--- src/ops.rt:218:13
 refused-requires-2 : tie.Need-refused-requires-2
 refused-requires-2 c κs = search needs
 
--- src/ops.rt:218:13
 returns-2 : tie.Need-returns-2
 returns-2 c = c .refused2 .ensures ∙ refused-is (c .before .before .before .before .before .args .t1) (ask-tally (c .before .before .before .before .before .args .campaign)) 15 (asked-2 (c .before)) (λ e. omega arith)
 
--- src/ops.rt:221:13
 entry-requires : tie.Need-entry-requires
 entry-requires c κs = let h = sound-facts (c .before .before .before .before .before .before .before .before .before .before .before .args .t1) (is-sound (c .before .before .before .before .before .before .before .before)) in omega arith
 
--- src/ops.rt:210:5
 returns-3 : tie.Need-returns-3
 returns-3 c =
     let s = c .before .before .before .before .before .before .before .before .before .before .before .before .args .t1 in

@@ -8,11 +8,9 @@ use Rattle.day.proofs.Day.view.Reads as reads
 use Rattle.day.proofs.Day.view.Lts as lts
 use Rattle.day.proofs.Day.view_checked.Reads as view-checked-reads
 
--- src/view.rt:277:9
 view-checked-requires : tie.Need-view-checked-requires
 view-checked-requires c κs = λ e. absurd (never false refl e)
 
--- src/view.rt:274:5
 returns : tie.Need-returns
 returns c = search needs
 

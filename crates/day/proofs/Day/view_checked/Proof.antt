@@ -20,19 +20,15 @@ budgets-length s = search needs
 below : (s : tie.Start) → s .args .t1 .accepted < 18_446_744_073_709_551_616
 below s = search needs
 
--- src/view.rt:249:13
 show-requires : tie.Need-show-requires
 show-requires c κs = search needs
 
--- src/view.rt:267:41
 counts-requires : tie.Need-counts-requires
 counts-requires c κs = search needs
 
--- src/view.rt:267:25
 add-self : tie.Need-add-self
 add-self c = record { fits = omega (arith, c .counts .ensures, shows-room (c .before .before .before .before .before .before .before .before .before .before .before .before .before .before .args .t1) (c .before .before .before .before .before .before .before .before .before .before .before .before .before .before .args .view) (prices-length (c .before .before .before .before .before .before .before .before .before .before .before .before .before .before)) (budgets-length (c .before .before .before .before .before .before .before .before .before .before .before .before .before .before)) (c .before .show .result) _ _ _ _ (c .before .show .ensures) (below (c .before .before .before .before .before .before .before .before .before .before .before .before .before .before))) }
 
--- src/view.rt:239:5
 returns : tie.Need-returns
 returns c = shows-call (c .before .before .before .before .before .before .before .before .before .before .before .before .before .before .args .t1) (c .before .before .before .before .before .before .before .before .before .before .before .before .before .before .args .view) (prices-length (c .before .before .before .before .before .before .before .before .before .before .before .before .before .before)) (budgets-length (c .before .before .before .before .before .before .before .before .before .before .before .before .before .before)) (c .before .show .result) _ _ _ _ (c .before .show .ensures) (c .counts .result) (c .counts .ensures)
 

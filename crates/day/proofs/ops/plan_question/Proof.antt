@@ -9,8 +9,8 @@ use Rattle.day.proofs.ops.plan_question.Statement.{statement}
 use Rattle.day.proofs.ops.plan_question.Tie as tie
 use Rattle.day.proofs.ops.plan_question.Reads as reads
 use Rattle.day.proofs.ops.plan_question.Lts as lts
-use Rattle.day.proofs.audit.depth_fits.Reads as depth-fits-reads
-use Rattle.day.proofs.audit.width_fits.Reads as width-fits-reads
+use Rattle.campaigns.proofs.Plan.depth_fits.Reads as depth-fits-reads
+use Rattle.campaigns.proofs.Plan.width_fits.Reads as width-fits-reads
 use Rattle.powers.proofs.power.Reads as power-reads
 
 deep : (c : tie.Else1) → depth-fits (c .before .before .args .plan) ≡ true
@@ -19,34 +19,27 @@ deep c = sym (c .before .depth-fits .ensures) ∙ not-false (c .before .depth-fi
 wide : (c : tie.Else2) → width-fits (c .before .before .before .before .args .plan) ≡ true
 wide c = sym (c .before .width-fits .ensures) ∙ not-false (c .before .width-fits .result) (c .if2 .left)
 
--- src/ops.rt:51:9
 depth-fits-requires : tie.Need-depth-fits-requires
 depth-fits-requires c κs = search needs
 
--- src/ops.rt:52:9
 returns : tie.Need-returns
 unfolding first-no
 returns c = rw (sym (c .before .depth-fits .ensures) ∙ not-true (c .before .depth-fits .result) (c .if1 .taken))
 
--- src/ops.rt:54:9
 width-fits-requires : tie.Need-width-fits-requires
 width-fits-requires c κs = search needs
 
--- src/ops.rt:55:9
 returns-2 : tie.Need-returns-2
 unfolding first-no
 returns-2 c = rw (deep (c .before .before), sym (c .before .width-fits .ensures) ∙ not-true (c .before .width-fits .result) (c .if2 .taken))
 
--- src/ops.rt:57:8
 power-requires : tie.Need-power-requires
 power-requires c κs = search needs
 
--- src/ops.rt:58:9
 returns-3 : tie.Need-returns-3
 unfolding first-no
 returns-3 c = rw (deep (c .before .before .before .before), wide (c .before .before), listed-over (c .before .before .before .before .before .before .args .plan) (deep (c .before .before .before .before)) (wide (c .before .before)) (sym (c .before .power .ensures) ∙ c .if3 .taken))
 
--- src/ops.rt:48:1
 returns-4 : tie.Need-returns-4
 unfolding first-no
 returns-4 c = rw (deep (c .before .before .before .before), wide (c .before .before), listed-under (c .before .before .before .before .before .before .args .plan) (deep (c .before .before .before .before)) (wide (c .before .before)) (λ z. c .if3 .left (c .before .power .ensures ∙ z)))

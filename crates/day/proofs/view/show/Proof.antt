@@ -13,7 +13,7 @@ use Rattle.day.proofs.view.show.Tie as tie
 use Rattle.day.proofs.view.show.Reads as reads
 use Rattle.day.proofs.view.show.Lts as lts
 use Rattle.campaigns.proofs.weights.weights.Reads as weights-reads
-use Rattle.day.proofs.audit.limits_hold.Reads as limits-hold-reads
+use Rattle.audit.proofs.limits_hold.Reads as limits-hold-reads
 use Rattle.day.proofs.view.is_sound.Reads as is-sound-reads
 use Rattle.day.proofs.view.show_sound.Reads as show-sound-reads
 
@@ -23,31 +23,24 @@ state s = state-of (s .args .phase) (s .args .plan) (s .args .count) (s .args .a
 limited : (c : tie.Else1) → plan-part (state (c .before .before)) ≡ true
 limited c = sym (c .before .limits-hold .ensures) ∙ not-false (c .before .limits-hold .result) (c .if1 .left)
 
--- src/view.rt:190:9
 limits-hold-requires : tie.Need-limits-hold-requires
 limits-hold-requires c κs = search needs
 
--- src/view.rt:191:9
 returns : tie.Need-returns
 returns c = refused-shows (state (c .before .before)) (c .before .before .args .view) 1 (unsound-refused (state (c .before .before)) (show-view (c .before .before .args .view)) (first-part (state (c .before .before)) (sym (c .before .limits-hold .ensures) ∙ not-true (c .before .limits-hold .result) (c .if1 .taken))))
 
--- src/view.rt:193:19
 weights-requires : tie.Need-weights-requires
 weights-requires c κs = plan-of (state (c .before .before)) (limited c)
 
--- src/view.rt:194:9
 is-sound-requires : tie.Need-is-sound-requires
 is-sound-requires c κs = ((c .before .before .before .before .before .weights .ensures, few-of (state (c .before .before .before .before .before .before .before .before)) (limited (c .before .before .before .before .before .before)), views-of (state (c .before .before .before .before .before .before .before .before)) (limited (c .before .before .before .before .before .before))), c .before .before .before .before .before .before .before .before .pre .1)
 
--- src/view.rt:208:9
 returns-2 : tie.Need-returns-2
 returns-2 c = refused-shows (state (c .before .before .before .before .before .before .before .before .before .before)) (c .before .before .before .before .before .before .before .before .before .before .args .view) 1 (unsound-refused (state (c .before .before .before .before .before .before .before .before .before .before)) (show-view (c .before .before .before .before .before .before .before .before .before .before .args .view)) (sym (c .before .is-sound .ensures) ∙ not-true (c .before .is-sound .result) (c .if2 .taken)))
 
--- src/view.rt:210:5
 show-sound-requires : tie.Need-show-sound-requires
 show-sound-requires c κs = (c .before .before .before .before .before .before .before .before .before .before .before .before .weights .ensures, (c .before .before .before .before .before .before .before .before .before .before .before .before .before .before .before .pre .0, sym (c .before .before .before .before .before .before .is-sound .ensures) ∙ not-false (c .before .before .before .before .before .before .is-sound .result) (c .before .before .before .before .before .if2 .left)))
 
--- src/view.rt:172:1
 returns-3 : tie.Need-returns-3
 returns-3 c = search needs
 

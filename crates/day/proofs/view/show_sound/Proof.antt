@@ -1,4 +1,4 @@
-use Rattle.campaigns.specs.Inner.{Ready}
+use Rattle.views.specs.Inner.{Ready}
 use Rattle.day.specs.Day.{campaign}
 use Rattle.day.proofs.Shown.{named-ready, accepted-shows, refused-shows}
 use Rattle.day.proofs.State.{sound-facts}
@@ -13,7 +13,7 @@ use Rattle.day.proofs.view.show_sound.Statement.{statement}
 use Rattle.day.proofs.view.show_sound.Tie as tie
 use Rattle.day.proofs.view.show_sound.Reads as reads
 use Rattle.day.proofs.view.show_sound.Lts as lts
-use Rattle.campaigns.proofs.pass.play.Reads as play-reads
+use Rattle.views.proofs.play.Reads as play-reads
 use Rattle.day.proofs.view.told.Reads as told-reads
 use Rattle.day.proofs.view.view_question.Reads as view-question-reads
 
@@ -30,23 +30,18 @@ yes c = asked-yes (state (c .before .before)) (show-view (c .before .before .arg
 ready : (c : tie.Else1) → Ready (c .before .before .args .plan) (c .before .before .args .view) (campaign (state (c .before .before)))
 ready c = let y = yes c in named-ready (state (c .before .before)) (c .before .before .args .view) (sound-facts (state (c .before .before)) (y .0)) (y .1 .1 .1 .0)
 
--- src/view.rt:113:9
 view-question-requires : tie.Need-view-question-requires
 view-question-requires c κs = search needs
 
--- src/view.rt:115:9
 returns : tie.Need-returns
 returns c = refused-shows (state (c .before .before)) (c .before .before .args .view) (c .before .view-question .result) (refused-is (state (c .before .before)) (show-view (c .before .before .args .view)) (c .before .view-question .result) (asked (c .before)) (c .if1 .taken))
 
--- src/view.rt:117:9
 play-requires : tie.Need-play-requires
 play-requires c κs = (c .before .before .before .before .before .before .pre .0, (c .before .before .before .before .before .before .pre .1 .0, ready (c .before .before .before .before)))
 
--- src/view.rt:128:5
 told-requires : tie.Need-told-requires
 told-requires c κs = search needs
 
--- src/view.rt:94:1
 returns-2 : tie.Need-returns-2
 returns-2 c = let s = c .before .before .before .before .before .before .before .before in accepted-shows (state s) (s .args .view) (c .before .play .result) (yes (c .before .before .before .before .before .before)) (c .before .play .ensures .0) _ _ _ _ (c .told .result) (c .before .play .ensures .1) (c .told .ensures)
 

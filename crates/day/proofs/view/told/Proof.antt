@@ -3,11 +3,9 @@ use Rattle.day.proofs.view.told.Tie as tie
 use Rattle.day.proofs.view.told.Reads as reads
 use Rattle.day.proofs.view.told.Lts as lts
 
--- src/view.rt:59:9
 returns : tie.Need-returns
 returns c = rw (c .if1 .taken)
 
--- src/view.rt:55:1
 returns-2 : tie.Need-returns-2
 returns-2 c = rw (c .if1 .left)
 

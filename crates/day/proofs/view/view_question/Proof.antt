@@ -1,5 +1,5 @@
 use Rattle.day.specs.Calls.{first-no}
-use Rattle.day.specs.Day.{is-running}
+use Rattle.campaigns.specs.Phase.{is-running}
 use Rattle.sets.proofs.Walk.{within-next, within-not}
 use Rattle.sets.specs.Set.{size, within}
 use borrow.Author.Tests.{not-true, not-false, lt-ltb, le-ltb}
@@ -12,7 +12,7 @@ use Rattle.day.proofs.view.view_question.Statement.{statement}
 use Rattle.day.proofs.view.view_question.Tie as tie
 use Rattle.day.proofs.view.view_question.Reads as reads
 use Rattle.day.proofs.view.view_question.Lts as lts
-use Rattle.day.proofs.view.running.Reads as running-reads
+use Rattle.campaigns.proofs.Phase.running.Reads as running-reads
 use Rattle.sets.proofs.count.Reads as count-reads
 use Rattle.sets.proofs.next_from.Reads as next-from-reads
 
@@ -25,39 +25,31 @@ inside c = within-next (c .before .before .before .before .before .args .view .s
 counted : (c : tie.After-struct-known) → (leb 1 (c .before .count .result) && leb (c .before .count .result) (c .before .before .before .before .before .before .before .args .plan .width)) ≡ (leb 1 (size (c .before .before .before .before .before .before .before .args .view .set)) && leb (size (c .before .before .before .before .before .before .before .args .view .set)) (c .before .before .before .before .before .before .before .args .plan .width))
 counted c = ap (λ (x : ℕ). leb 1 x && leb x (c .before .before .before .before .before .before .before .args .plan .width)) (c .before .count .ensures)
 
--- src/view.rt:34:9
 running-requires : tie.Need-running-requires
 running-requires c κs = search needs
 
--- src/view.rt:35:9
 returns : tie.Need-returns
 unfolding first-no
 returns c = rw (sym (c .before .running .ensures) ∙ not-true (c .before .running .result) (c .if1 .taken))
 
--- src/view.rt:38:9
 returns-2 : tie.Need-returns-2
 unfolding first-no
 returns-2 c = rw (runs (c .before), le-ltb (c .before .before .before .args .accepted) 4_096 (c .if2 .taken))
 
--- src/view.rt:41:8
 next-from-requires : tie.Need-next-from-requires
 next-from-requires c κs = search needs
 
--- src/view.rt:42:9
 returns-3 : tie.Need-returns-3
 unfolding first-no
 returns-3 c = rw (runs (c .before .before .before), lt-ltb (c .before .before .before .before .before .args .accepted) 4_096 (c .before .before .if2 .left), within-not (c .before .before .before .before .before .args .view .set) (c .before .before .before .before .before .args .count) (subst (λ (x : ℕ). x < 64) (c .before .next-from .ensures) (c .if3 .taken)))
 
--- src/view.rt:44:9
 count-requires : tie.Need-count-requires
 count-requires c κs = search needs
 
--- src/view.rt:46:9
 returns-4 : tie.Need-returns-4
 unfolding first-no
 returns-4 c = rw (runs (c .before .before .before .before .before .before), lt-ltb (c .before .before .before .before .before .before .before .before .args .accepted) 4_096 (c .before .before .before .before .before .if2 .left), inside (c .before .before .before), sym (counted (c .before)) ∙ not-true (leb 1 (c .before .before .count .result) && leb (c .before .before .count .result) (c .before .before .before .before .before .before .before .before .args .plan .width)) (c .if4 .taken))
 
--- src/view.rt:31:1
 returns-5 : tie.Need-returns-5
 unfolding first-no
 returns-5 c = rw (runs (c .before .before .before .before .before .before), lt-ltb (c .before .before .before .before .before .before .before .before .args .accepted) 4_096 (c .before .before .before .before .before .if2 .left), inside (c .before .before .before), sym (counted (c .before)) ∙ not-false (leb 1 (c .before .before .count .result) && leb (c .before .before .count .result) (c .before .before .before .before .before .before .before .before .args .plan .width)) (c .if4 .left))

@@ -6,7 +6,8 @@ use Rattle.desk.specs.declared.feed.Cursor.{Cursor}
 use Rattle.day.specs.declared.Day.{Day}
 use Rattle.day.specs.Inner.{state-of}
 use Rattle.day.proofs.State.{sound-facts}
-use Rattle.campaigns.specs.Inner.{Entries, Weights}
+use Rattle.views.specs.Inner.{Entries}
+use Rattle.campaigns.specs.Inner.{Weights}
 use borrow.Author.Tests.{not-true}
 use borrow.Author.Needs.{needs}
 use native.Mathlib.Nat.{le-refl}

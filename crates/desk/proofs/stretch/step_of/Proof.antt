@@ -6,9 +6,9 @@ use Rattle.desk.proofs.stretch.step_of.Statement.{statement}
 use Rattle.desk.proofs.stretch.step_of.Tie as tie
 use Rattle.desk.proofs.stretch.step_of.Reads as reads
 use Rattle.desk.proofs.stretch.step_of.Lts as lts
-use Rattle.day.proofs.ops.closed.Reads as closed-reads
-use Rattle.day.proofs.ops.filling.Reads as filling-reads
-use Rattle.day.proofs.view.running.Reads as running-reads
+use Rattle.campaigns.proofs.Phase.closed.Reads as closed-reads
+use Rattle.campaigns.proofs.Phase.filling.Reads as filling-reads
+use Rattle.campaigns.proofs.Phase.running.Reads as running-reads
 use Rattle.desk.proofs.stretch.unless.Reads as unless-reads
 
 -- src/stretch.rt:72:55

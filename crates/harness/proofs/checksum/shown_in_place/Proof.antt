@@ -3,7 +3,7 @@ use lib.ListN.{getD}
 use Rattle.day.proofs.Shown.{shows-room, shows-entries}
 use Rattle.day.specs.Inner.{state-of}
 use Rattle.day.specs.declared.Day.{Day}
-use Rattle.campaigns.specs.Inner.{Entries}
+use Rattle.views.specs.Inner.{Entries}
 use Rattle.finite.proofs.Tests.{never}
 use borrow.Author.Needs.{needs}
 use native.Mathlib.Omega.{arith}
@@ -47,47 +47,36 @@ below s = search needs
 room : (c : tie.After-counts Inv-loop μ-loop) → c .before .before .before .before .before .before .before .before .before .before .loop .accepted + c .counts .result < 18_446_744_073_709_551_616
 room c = omega (arith, c .counts .ensures, shows-room (before-show (c .before)) (shown-view (c .before)) (prices-length (c .before .before .before .before .before .before .before .before .before .before .before .before .before .before .before .before .before .before .before)) (budgets-length (c .before .before .before .before .before .before .before .before .before .before .before .before .before .before .before .before .before .before .before)) (c .before .show .result) _ _ _ _ (c .before .show .ensures) (c .before .before .before .before .before .before .before .before .before .before .loop .inv .1))
 
--- src/checksum.rt:81:5
 loop-holds : tie.Need-loop-holds Inv-loop μ-loop
 loop-holds c = (start-entries (c .before .before .before .before .before .before .before .before), below (c .before .before .before .before .before .before .before .before), omega arith)
 
--- src/checksum.rt:88:25
 mul-accepted : tie.Need-mul-accepted Inv-loop μ-loop
 mul-accepted c = search needs
 
--- src/checksum.rt:88:25
 shared-slice-read-accepted : tie.Need-shared-slice-read-accepted Inv-loop μ-loop
 shared-slice-read-accepted c = search needs
 
--- src/checksum.rt:82:13
 show-requires : tie.Need-show-requires Inv-loop μ-loop
 show-requires c κs = (c .before .before .before .before .before .before .before .before .loop .inv .0, λ e. absurd (never false refl e))
 
--- src/checksum.rt:96:31
 counts-requires : tie.Need-counts-requires Inv-loop μ-loop
 counts-requires c κs = search needs
 
--- src/checksum.rt:96:20
 add-accepted : tie.Need-add-accepted Inv-loop μ-loop
 add-accepted c = record { fits = room c }
 
--- src/checksum.rt:97:9
 fold-answer-requires : tie.Need-fold-answer-requires Inv-loop μ-loop
 fold-answer-requires c κs = search needs
 
--- src/checksum.rt:81:9
 add-i : tie.Need-add-i Inv-loop μ-loop
 add-i c = search needs
 
--- src/checksum.rt:81:5
 loop-less : tie.Need-loop-less Inv-loop μ-loop
 loop-less c = search needs
 
--- src/checksum.rt:81:5
 loop-again : tie.Need-loop-again Inv-loop μ-loop
 loop-again c = (shows-entries (before-show (c .before .before)) (shown-view (c .before .before)) (prices-length (c .before .before .before .before .before .before .before .before .before .before .before .before .before .before .before .before .before .before .before .before)) (budgets-length (c .before .before .before .before .before .before .before .before .before .before .before .before .before .before .before .before .before .before .before .before)) (c .before .before .show .result) _ _ _ _ (c .before .before .show .ensures) (c .before .before .before .before .before .before .before .before .before .before .before .loop .inv .0), room (c .before), omega arith)
 
--- src/checksum.rt:69:1
 returns : tie.Need-returns Inv-loop μ-loop
 returns c = search needs
 

@@ -1,0 +1,72 @@
+use Rattle.audit.proofs.Zeros.{or-zero}
+use Rattle.finite.proofs.Tests.{from-start, from-next}
+use Rattle.audit.specs.Inner.{no-terms-from}
+use lib.ListN.{getD}
+use lib.Dec.{eqb}
+use native.Mathlib.Omega.{arith}
+use native.Mathlib.Nat.{le-refl}
+use Prim.Native.Nat.{_-_, _≤_}
+use mathlib.Core.Bool.{_&&_, and-assoc}
+use mathlib.Core.Path.{_≡_, ap, _∙_}
+use borrow.Author.Needs.{needs}
+use Rattle.audit.proofs.columns.no_terms_from.Statement.{statement}
+use Rattle.audit.proofs.columns.no_terms_from.Tie as tie
+use Rattle.audit.proofs.columns.no_terms_from.Reads as reads
+use Rattle.audit.proofs.columns.no_terms_from.Lts as lts
+
+abbrev Inv-loop : tie.InvT-loop
+Inv-loop n prices budgets any₀ i₀ any i = (n ≤ i) × (i ≤ 64) × (eqb any 0 ≡ no-terms-from n prices budgets i)
+
+abbrev μ-loop : tie.MeasureT-loop
+μ-loop n prices budgets any₀ i₀ any i = 64 - i
+
+loop-holds : tie.Need-loop-holds Inv-loop μ-loop
+unfolding no-terms-from
+loop-holds c = (le-refl (c .args .n), c .pre, from-start (c .args .n) (λ i. eqb (getD (c .args .prices .now) i 0) 0 && eqb (getD (c .args .budgets .now) i 0) 0))
+
+mul-any : tie.Need-mul-any Inv-loop μ-loop
+mul-any c = search needs
+
+element-copy-out-any : tie.Need-element-copy-out-any Inv-loop μ-loop
+element-copy-out-any c = search needs
+
+mul-any-2 : tie.Need-mul-any-2 Inv-loop μ-loop
+mul-any-2 c = search needs
+
+element-copy-out-any-2 : tie.Need-element-copy-out-any-2 Inv-loop μ-loop
+element-copy-out-any-2 c = search needs
+
+add-i : tie.Need-add-i Inv-loop μ-loop
+add-i c = search needs
+
+loop-less : tie.Need-loop-less Inv-loop μ-loop
+loop-less c = search needs
+
+loop-again : tie.Need-loop-again Inv-loop μ-loop
+unfolding no-terms-from
+loop-again c =
+    let a = c .before .before .before .before .args in
+    let l = c .before .before .before .loop in (
+      omega arith,
+      omega arith,
+      rw (from-next (a .n) (l .i) (λ i. eqb (getD (a .prices .now) i 0) 0 && eqb (getD (a .budgets .now) i 0) 0) (l .inv .0), ← l .inv .2) (simp (or-zero, and-assoc)),
+    )
+
+returns : tie.Need-returns Inv-loop μ-loop
+returns c = let e : c .before .loop .i ≡ 64 = omega arith in c .before .loop .inv .2 ∙ ap (no-terms-from (c .before .before .args .n) (c .before .before .args .prices .now) (c .before .before .args .budgets .now)) e
+
+pub no-terms-from-spec : {M : Type 1} → statement M
+no-terms-from-spec =
+    tie.close
+    (tie.spec
+    Inv-loop
+    μ-loop
+    loop-holds
+    mul-any
+    element-copy-out-any
+    mul-any-2
+    element-copy-out-any-2
+    add-i
+    loop-less
+    loop-again
+    returns)

@@ -1,0 +1,33 @@
+use native.Mathlib.Omega.{arith}
+use borrow.Author.Needs.{needs}
+use Rattle.audit.proofs.columns.untouched_all.Statement.{statement}
+use Rattle.audit.proofs.columns.untouched_all.Tie as tie
+use Rattle.audit.proofs.columns.untouched_all.Reads as reads
+use Rattle.audit.proofs.columns.untouched_all.Lts as lts
+use Rattle.audit.proofs.columns.no_counts_in.Reads as no-counts-in-reads
+
+enum-told : tie.Need-enum-told
+enum-told c = search needs
+
+no-counts-in-requires : tie.Need-no-counts-in-requires
+no-counts-in-requires c κs = (omega arith, c .before .before .pre)
+
+enum-told-2 : tie.Need-enum-told-2
+enum-told-2 c = search needs
+
+enum-told-3 : tie.Need-enum-told-3
+enum-told-3 c = search needs
+
+returns : tie.Need-returns
+returns c = rw (c .before .enum-told .given .1) (c .no-counts-in .ensures)
+
+returns-2 : tie.Need-returns-2
+returns-2 c = rw (c .enum-told2 .given .1)
+
+returns-3 : tie.Need-returns-3
+returns-3 c = rw (c .enum-told3 .given .1)
+
+pub untouched-all-spec : {M : Type 1} → statement M
+untouched-all-spec =
+    tie.close
+    (tie.spec enum-told no-counts-in-requires enum-told-2 enum-told-3 returns returns-2 returns-3)

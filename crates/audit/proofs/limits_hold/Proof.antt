@@ -1,0 +1,31 @@
+use Rattle.audit.proofs.Settling.{plan-tells}
+use lib.Dec.{leb}
+use mathlib.Core.Bool.{Bool, _&&_}
+use mathlib.Core.Path.{ap, ap₂, _∙_}
+use borrow.Author.Needs.{needs}
+use Rattle.audit.proofs.limits_hold.Statement.{statement}
+use Rattle.audit.proofs.limits_hold.Tie as tie
+use Rattle.audit.proofs.limits_hold.Reads as reads
+use Rattle.audit.proofs.limits_hold.Lts as lts
+use Rattle.campaigns.proofs.Plan.depth_fits.Reads as depth-fits-reads
+use Rattle.campaigns.proofs.Plan.width_fits.Reads as width-fits-reads
+use Rattle.powers.proofs.deepest.Reads as deepest-reads
+
+depth-fits-requires : tie.Need-depth-fits-requires
+depth-fits-requires c κs = search needs
+
+width-fits-requires : tie.Need-width-fits-requires
+width-fits-requires c κs = search needs
+
+deepest-requires : tie.Need-deepest-requires
+deepest-requires c κs = search needs
+
+returns : tie.Need-returns
+returns c = let a = c .before .before .before .before .args in
+    let r = c .before .deepest in
+    ap (λ (x : Bool). x && leb (a .count) 64 && leb (a .accepted) 4_096)
+    (ap₂ (λ (x y : Bool). x && y && leb (a .plan .depth) (r .result)) (c .before .before .before .depth-fits .ensures) (c .before .before .width-fits .ensures) ∙ plan-tells (a .plan) (r .result) (r .ensures))
+
+pub limits-hold-spec : {M : Type 1} → statement M
+limits-hold-spec =
+    tie.close (tie.spec depth-fits-requires width-fits-requires deepest-requires returns)

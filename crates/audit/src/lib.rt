@@ -1,0 +1,129 @@
+// Question 1: is the state sound, for any value of the state. No sum or product on the way can overflow.
+pub mod columns;
+pub mod sums;
+
+use crate::columns::empty_from;
+use crate::sums::Sums;
+use crate::sums::sum_all;
+use campaigns::Phase;
+use campaigns::Plan;
+use campaigns::Terms;
+use campaigns::weights::weigh;
+ghost use mathlib.Core.Path.{_≡_};
+ghost use Prim.Native.Nat.{_≤_};
+ghost use Rattle.campaigns.specs.Campaign.{campaign-at};
+ghost use Rattle.campaigns.specs.Inner.{Weights};
+ghost use Rattle.campaigns.specs.Phase.{phase-holds};
+ghost use Rattle.audit.specs.Inner.{limits, not-sound, Bounded, settled, examined};
+
+// Whether the state is sound and, if so, the sum of its budgets, its takings, total claim and full.
+pub struct Audit {
+    pub sound: bool,
+    pub budgets: u64,
+    pub takings: u64,
+    pub claim: u64,
+    pub full: u64,
+}
+
+impl Audit {
+    pub fn unsound() -> Audit
+        ensures { λ r. ⌜ r ≡ not-sound ⌝ }
+    {
+        Audit {
+            sound: false,
+            budgets: 0,
+            takings: 0,
+            claim: 0,
+            full: 0,
+        }
+    }
+}
+
+// Questions 3 to 5 of a state's plan, and the limits of its campaigns and its views.
+pub fn limits_hold(plan: Plan, count: u64, accepted: u64) -> bool
+    ensures { λ r. ⌜ r ≡ limits plan count accepted ⌝ }
+{
+    plan.depth_fits()
+        & plan.width_fits()
+        & (plan.depth <= powers::deepest(plan.width))
+        & (count <= Plan::MAX_CAMPAIGNS)
+        & (accepted <= Plan::MAX_VIEWS)
+}
+
+// In Filling no view is accepted; a Closed phase holds the takings.
+fn phase_holds(phase: Phase, accepted: u64, takings: u64) -> bool
+    ensures { λ r. ⌜ r ≡ phase-holds phase accepted takings ⌝ }
+{
+    match phase {
+        Phase::Filling => accepted == 0,
+        Phase::Running => true,
+        Phase::Closed(held) => held == takings,
+    }
+}
+
+// The last question of soundness: the total claim, turned × (d^k − (d−1)^k) + waited, is at most full. The product is
+// formed only once it is known to be at most full. `examine` has the bounds of the sums from its tests.
+fn settle(sums: Sums, plan: Plan, weights: &[u64; 33]) -> Audit
+    requires { ⌜ Weights plan (now weights) ⌝ }
+    requires { ⌜ Bounded sums ⌝ }
+    ensures { λ r. ⌜ r ≡ settled plan sums ⌝ }
+{
+    let high = weigh(plan.depth, plan, weights);
+    let share = high - weigh(0, plan, weights);
+    let full = high * sums.takings;
+    if full / share < sums.turned {
+        return Audit::unsound();
+    }
+    let claim = sums.turned * share + sums.waited;
+    if full < claim {
+        return Audit::unsound();
+    }
+    Audit {
+        sound: true,
+        budgets: sums.budgets,
+        takings: sums.takings,
+        claim: claim,
+        full: full,
+    }
+}
+
+// The audit of a state within its limits, handed in by its parts so that no array is copied. `Day::audit`
+// and `day::view::show` have tested the limits and taken the weights.
+pub fn examine<'a>(
+    phase: Phase,
+    plan: Plan,
+    count: u64,
+    accepted: u64,
+    weights: &'a [u64; 33],
+    prices: &'a [u32; 64],
+    budgets: &'a [u32; 64],
+    plays: &'a [u16; 64],
+    turns: &'a [u16; 64],
+    ages: &'a [u16; 64],
+    named: &'a [u16; 64],
+) -> Audit
+    requires { ⌜ Weights plan (now weights) × (count ≤ 64) × (accepted ≤ 4096) ⌝ }
+    ensures { λ r. ⌜ r ≡ examined phase plan accepted count (campaign-at (now (prices .entry)) (now (budgets .entry)) (now (plays .entry)) (now (turns .entry)) (now (ages .entry)) (now (named .entry))) ⌝ }
+{
+    let n = count as usize;
+    let sums = sum_all(
+        n,
+        phase,
+        plan,
+        accepted,
+        weights,
+        prices,
+        budgets,
+        plays,
+        turns,
+        ages,
+        named,
+    );
+    if !(sums.sound
+        & empty_from(n, prices, budgets, plays, turns, ages, named)
+        & (sums.budgets <= Terms::MAX_BUDGET)
+        & phase_holds(phase, accepted, sums.takings)) {
+        return Audit::unsound();
+    }
+    settle(sums, plan, weights)
+}

@@ -1,0 +1,145 @@
+// The sums that soundness compares, over campaigns whose tests pass.
+use crate::columns::ordered_all;
+use crate::columns::priced_all;
+use crate::columns::untouched_all;
+use campaigns::Phase;
+use campaigns::Plan;
+use campaigns::entry::wide16;
+use campaigns::entry::wide32;
+use campaigns::weights::weigh;
+ghost use mathlib.Core.Path.{_≡_};
+ghost use Prim.Native.Nat.{_≤_};
+ghost use Rattle.campaigns.specs.Campaign.{campaign-at};
+ghost use Rattle.campaigns.specs.Inner.{Weights};
+ghost use Rattle.audit.specs.Inner.{spent-of, waited-of, Modest, no-sums, summed};
+
+// What a pass over the campaigns finds: whether each is sound and, if so, the sums that soundness compares.
+pub struct Sums {
+    pub sound: bool,
+    pub budgets: u64,
+    pub takings: u64,
+    // of price × turns
+    pub turned: u64,
+    // of price × (W(age) − W(0))
+    pub waited: u64,
+}
+
+impl Sums {
+    fn none() -> Sums
+        ensures { λ r. ⌜ r ≡ no-sums ⌝ }
+    {
+        Sums {
+            sound: false,
+            budgets: 0,
+            takings: 0,
+            turned: 0,
+            waited: 0,
+        }
+    }
+}
+
+// Whether each campaign has paid at most its budget, price × plays ≤ budget, and, if so, the sums of the budgets, of the
+// spendings and of price × turns.
+pub struct Spent {
+    pub within: bool,
+    pub budgets: u64,
+    pub takings: u64,
+    pub turned: u64,
+}
+
+// No sum of 64 products of a u32 and a u16 overflows.
+fn spend_all<'a>(
+    n: usize,
+    prices: &'a [u32; 64],
+    budgets: &'a [u32; 64],
+    plays: &'a [u16; 64],
+    turns: &'a [u16; 64],
+) -> Spent
+    requires { ⌜ n ≤ 64 ⌝ }
+    ensures { λ r. ⌜ r ≡ spent-of n (now (prices .entry)) (now (budgets .entry)) (now (plays .entry)) (now (turns .entry)) ⌝ }
+{
+    let mut all: u64 = 0;
+    let mut takings: u64 = 0;
+    let mut turned: u64 = 0;
+    for i in 0..n {
+        let price = wide32(prices[i]);
+        let budget = wide32(budgets[i]);
+        let spent = price * wide16(plays[i]);
+        if budget < spent {
+            return Spent {
+                within: false,
+                budgets: 0,
+                takings: 0,
+                turned: 0,
+            };
+        }
+        all = all + budget;
+        takings = takings + spent;
+        turned = turned + price * wide16(turns[i]);
+    }
+    Spent {
+        within: true,
+        budgets: all,
+        takings: takings,
+        turned: turned,
+    }
+}
+
+// The sum of price × (W(age) − W(0)), of campaigns that `sum_all` has found sound.
+fn wait_all<'a>(
+    n: usize,
+    plan: Plan,
+    weights: &'a [u64; 33],
+    prices: &'a [u32; 64],
+    ages: &'a [u16; 64],
+) -> u64
+    requires { ⌜ n ≤ 64 ⌝ }
+    requires { ⌜ Weights plan (now weights) ⌝ }
+    requires { ⌜ Modest plan n (now prices) (now ages) ⌝ }
+    ensures { λ r. ⌜ r ≡ waited-of plan n (now (prices .entry)) (now (ages .entry)) ⌝ }
+{
+    let low = weigh(0, plan, weights);
+    let mut sum: u64 = 0;
+    for i in 0..n {
+        let weight = weigh(wide16(ages[i]), plan, weights);
+        sum = sum + wide32(prices[i]) * (weight - low);
+    }
+    sum
+}
+
+// The sums over the first n campaigns. `examine` is called within the limits, with the plan's weights.
+pub fn sum_all<'a>(
+    n: usize,
+    phase: Phase,
+    plan: Plan,
+    accepted: u64,
+    weights: &'a [u64; 33],
+    prices: &'a [u32; 64],
+    budgets: &'a [u32; 64],
+    plays: &'a [u16; 64],
+    turns: &'a [u16; 64],
+    ages: &'a [u16; 64],
+    named: &'a [u16; 64],
+) -> Sums
+    requires { ⌜ n ≤ 64 ⌝ }
+    requires { ⌜ accepted ≤ 4096 ⌝ }
+    requires { ⌜ Weights plan (now weights) ⌝ }
+    ensures { λ r. ⌜ r ≡ summed phase plan accepted n (campaign-at (now (prices .entry)) (now (budgets .entry)) (now (plays .entry)) (now (turns .entry)) (now (ages .entry)) (now (named .entry))) ⌝ }
+{
+    let depth = plan.depth as u16;
+    let views = accepted as u16;
+    let spent = spend_all(n, prices, budgets, plays, turns);
+    if !(priced_all(n, prices, budgets)
+        & ordered_all(n, depth, views, plays, turns, ages, named)
+        & untouched_all(phase, n, plays, turns, ages, named)
+        & spent.within) {
+        return Sums::none();
+    }
+    Sums {
+        sound: true,
+        budgets: spent.budgets,
+        takings: spent.takings,
+        turned: spent.turned,
+        waited: wait_all(n, plan, weights, prices, ages),
+    }
+}

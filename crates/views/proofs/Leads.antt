@@ -1,0 +1,63 @@
+-- The choice as a walk: what one named campaign, and a stretch of unnamed ones, does to the leader.
+use mathlib.Core.Path.{_≡_, refl, ap, _∙_}
+use mathlib.Core.Bool.{Bool, true, false, cond, not, _||_}
+use Prim.Native.Nat.{ℕ, suc, _+_, _≤_}
+use native.Mathlib.Numerals.{add-one}
+use native.Mathlib.Omega.{arith}
+use lib.Dec.{ltb}
+use borrow.Author.Tests.{ltb-true}
+use Rattle.finite.proofs.Tests.{stands, every-at}
+use Rattle.sets.specs.Set.{member, within}
+use Rattle.sets.proofs.Walk.{Next}
+use Rattle.campaigns.specs.declared.Campaign.{Campaign}
+use Rattle.campaigns.specs.declared.Plan.{Plan}
+use Rattle.campaigns.specs.declared.View.{View}
+use Rattle.views.specs.declared.Leader.{Leader}
+use Rattle.campaigns.specs.Choice.{Choice, best, against, ahead, choice}
+use Rattle.campaigns.specs.Choice.Choice.{nobody, plays}
+use Rattle.campaigns.specs.Campaign.{can-pay}
+use Rattle.campaigns.specs.View.{names, offer, figure, chosen-of}
+use Rattle.views.specs.Inner.{led, challenged, leader-of}
+
+-- an unnamed campaign changes no choice
+pub choice-unnamed : (pl : Plan) (w : View) (f : ℕ → Campaign) (j : ℕ) → names w j ≡ false → chosen-of (suc j) pl w f ≡ chosen-of j pl w f
+unfolding choice best
+choice-unnamed pl w f j e = rw e
+
+pub leader-gap : (pl : Plan) (w : View) (f : ℕ → Campaign) (a r : ℕ) → Next (w .set) a r → leader-of pl w f r ≡ leader-of pl w f a
+unfolding leader-of
+leader-gap pl w f a r n = stands (leader-of pl w f) a r (n .low) (λ j p q. ap (led (λ i. figure pl w i (f i)) (λ i. offer pl w i (f i))) (choice-unnamed pl w f j (n .gap j p q)))
+
+-- a named campaign challenges the leader
+module _ (x o : ℕ → ℕ) (i : ℕ) where
+  abbrev lead : Leader
+  lead = record { found = true; campaign = i; paid = o i; score = x i }
+
+  meets : (ch : Choice) → led x o (against (ahead x) ch i) ≡ cond (not (led x o ch .found) || ltb (led x o ch .score) (x i)) lead (led x o ch)
+  meets nobody = refl
+  meets (plays m) = go (ltb (x m) (x i))
+    where
+      go : (b : Bool) → led x o (cond b (plays i) (plays m)) ≡ cond b lead (led x o (plays m))
+      go true = refl
+      go false = refl
+
+  tries : (ch : Choice) (b : Bool) → led x o (cond b (against (ahead x) ch i) ch) ≡ cond b (cond (not (led x o ch .found) || ltb (led x o ch .score) (x i)) lead (led x o ch)) (led x o ch)
+  tries ch true = meets ch
+  tries ch false = refl
+
+leader-named : (pl : Plan) (w : View) (f : ℕ → Campaign) (i : ℕ) → names w i ≡ true → leader-of pl w f (suc i) ≡ challenged pl (leader-of pl w f i) i (f i)
+unfolding leader-of challenged choice best
+leader-named pl w f i e = rw e (tries (λ j. figure pl w j (f j)) (λ j. offer pl w j (f j)) i (chosen-of i pl w f) (can-pay (f i)))
+
+-- from one named campaign to the next
+pub leader-next : (pl : Plan) (w : View) (f : ℕ → Campaign) (i r : ℕ) → names w i ≡ true → Next (w .set) (i + 1) r → leader-of pl w f r ≡ challenged pl (leader-of pl w f i) i (f i)
+leader-next pl w f i r e n = leader-gap pl w f (i + 1) r n ∙ ap (leader-of pl w f) (add-one i) ∙ leader-named pl w f i e
+
+-- with every name below n, the choice among all 64 places is that among the first n
+pub choice-within : (pl : Plan) (w : View) (f : ℕ → Campaign) (n : ℕ) → n ≤ 64 → within n (w .set) ≡ true → chosen-of 64 pl w f ≡ chosen-of n pl w f
+unfolding within
+choice-within pl w f n h e = stands (λ m. chosen-of m pl w f) n 64 h (λ j p q. choice-unnamed pl w f j (outside j p (member (w .set) j) refl (every-at 64 (λ i. cond (member (w .set) i) (ltb i n) true) e j q)))
+  where
+    outside : (j : ℕ) → n ≤ j → (b : Bool) → member (w .set) j ≡ b → cond b (ltb j n) true ≡ true → b ≡ false
+    outside j p false t z = refl
+    outside j p true t z = absurd (omega (arith, ltb-true j n z))
