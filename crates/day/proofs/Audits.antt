@@ -4,7 +4,7 @@ use mathlib.Core.Bool.{Bool, true, false, _&&_, and-assoc, and-true}
 use Prim.Native.Nat.{ℕ, _+_, _-_, _*_, _≤_, _<_}
 use native.Mathlib.Omega.{arith}
 use lib.Dec.{leb}
-use borrow.Author.Tests.{leb-true, le-leb}
+use borrow.Author.Tests.{leb-true}
 use Rattle.finite.specs.Finite.{sum, every}
 use Rattle.finite.proofs.Tests.{both-left, both-right, every-cut}
 use Rattle.finite.proofs.Sums.{sum-eq, sum-add, sum-mul}
@@ -83,10 +83,6 @@ claims-sum pl e n f h =
     omega (arith, ap (λ (x : ℕ). f i .price * x) q))
     ∙ sum-add n (λ i. share k d * (f i .price * f i .turns)) (λ i. f i .price * waiting pl (f i))
     ∙ omega (arith, sum-mul n (share k d) (λ i. f i .price * f i .turns))
-
--- the limits, one by one
-pub limits-of : (s : Day) → sound-plan (s .plan) ≡ true → s .count ≤ 64 → s .accepted ≤ 4_096 → plan-part s ≡ true
-limits-of s e n a = rw (e, le-leb (s .count) 64 n, le-leb (s .accepted) 4_096 a)
 
 -- the audit past the limits
 pub audit-rest : (s : Day) → plan-part s ≡ true → audited s ≡ examined (s .phase) (s .plan) (s .accepted) (s .count) (campaign s)

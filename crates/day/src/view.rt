@@ -80,8 +80,8 @@ pub fn counts(answer: Answer) -> u64
     }
 }
 
-// The view of a sound state, whose counts are changed where they stand: `show` has tested the state, and the desk keeps
-// the one that it tested.
+// The view of a sound state, whose counts are changed where they stand: `show` has tested the state, and a stretch of the
+// desk keeps the one that it tested.
 pub fn show_sound<'a>(
     phase: Phase,
     plan: Plan,
@@ -119,50 +119,9 @@ pub fn show_sound<'a>(
     told(leader)
 }
 
-// Question 1, unless the state is known to be sound, of which `show` was told. It has tested the limits.
-fn is_sound<'a>(
-    checked: bool,
-    phase: Phase,
-    plan: Plan,
-    count: u64,
-    accepted: u64,
-    weights: &'a [u64; 33],
-    prices: &'a [u32; 64],
-    budgets: &'a [u32; 64],
-    plays: &'a [u16; 64],
-    turns: &'a [u16; 64],
-    ages: &'a [u16; 64],
-    named: &'a [u16; 64],
-) -> bool
-    requires { ⌜ Weights plan (now weights) × (count ≤ 64) × (accepted ≤ 4096) ⌝ }
-    requires { ⌜ (checked ≡ true → sound (state-of phase plan count accepted (now prices) (now budgets) (now plays) (now turns) (now ages) (now named)) ≡ true) ⌝ }
-    ensures { λ r. ⌜ r ≡ sound (state-of phase plan count accepted (now (prices .entry)) (now (budgets .entry)) (now (plays .entry)) (now (turns .entry)) (now (ages .entry)) (now (named .entry))) ⌝ }
-{
-    if checked {
-        return true;
-    }
-    let audit = examine(
-        phase,
-        plan,
-        count,
-        accepted,
-        weights,
-        prices,
-        budgets,
-        plays,
-        turns,
-        ages,
-        named,
-    );
-    audit.sound
-}
-
 // A view of the state that is handed in by its parts: its counts are changed where they stand, and the caller adds
-// `counts(answer)` to the accepted views. The caller may know the state to be sound, as every state is that the
-// operations hand back from a sound one; else `checked` is false. `view_checked` meets what it asks, whose arrays have
-// the lengths of their types.
+// `counts(answer)` to the accepted views. `Day::view` meets what it asks: its arrays have the lengths of their types.
 pub fn show<'a>(
-    checked: bool,
     phase: Phase,
     plan: Plan,
     count: u64,
@@ -176,15 +135,13 @@ pub fn show<'a>(
     named: &'a mut [u16; 64],
 ) -> Answer
     requires { ⌜ Entries (now plays) (now turns) (now ages) (now named) ⌝ }
-    requires { ⌜ (checked ≡ true → sound (state-of phase plan count accepted (now prices) (now budgets) (now plays) (now turns) (now ages) (now named)) ≡ true) ⌝ }
     ensures { λ r. ⌜ Shows (state-of phase plan count accepted (now (prices .entry)) (now (budgets .entry)) (now (plays .entry)) (now (turns .entry)) (now (ages .entry)) (now (named .entry))) view r (now (plays .exit)) (now (turns .exit)) (now (ages .exit)) (now (named .exit)) ⌝ }
 {
     if !limits_hold(plan, count, accepted) {
         return Answer::Refused(1);
     }
     let weights = weights(plan);
-    if !is_sound(
-        checked,
+    let audit = examine(
         phase,
         plan,
         count,
@@ -196,7 +153,8 @@ pub fn show<'a>(
         turns,
         ages,
         named,
-    ) {
+    );
+    if !audit.sound {
         return Answer::Refused(1);
     }
     show_sound(
@@ -216,10 +174,7 @@ pub fn show<'a>(
 }
 
 impl Day {
-    // The view of a state that may be known to be sound: question 1 need not be asked again. The desk has audited the
-    // state, and `view` passes false.
-    pub fn view_checked(mut self, checked: bool, view: View) -> Outcome
-        requires { ⌜ (checked ≡ true → sound self ≡ true) ⌝ }
+    pub fn view(mut self, view: View) -> Outcome
         ensures { λ r. ⌜ r ≡ call self (show-view view) ⌝ }
     {
         let phase = self.phase;
@@ -229,7 +184,6 @@ impl Day {
         let mut ages = self.ages;
         let mut named = self.named;
         let answer = show(
-            checked,
             phase,
             plan,
             self.count,
@@ -251,11 +205,5 @@ impl Day {
             day: self,
             answer: answer,
         }
-    }
-
-    pub fn view(self, view: View) -> Outcome
-        ensures { λ r. ⌜ r ≡ call self (show-view view) ⌝ }
-    {
-        self.view_checked(false, view)
     }
 }

@@ -80,7 +80,6 @@ fn shown_in_place(start: Day, views: &[u64]) -> Viewed {
     let mut sum: u64 = 0;
     for i in 0..views.len() {
         let answer = show(
-            false,
             phase,
             plan,
             count,

@@ -1,4 +1,3 @@
-use native.Mathlib.Omega.{arith}
 use borrow.Author.Needs.{needs}
 use Rattle.campaigns.proofs.entry.entry.Statement.{statement}
 use Rattle.campaigns.proofs.entry.entry.Tie as tie
@@ -62,7 +61,17 @@ wide16-requires-4 : tie.Need-wide16-requires-4
 wide16-requires-4 c κs = search needs
 
 returns : tie.Need-returns
-returns c = (cc, record { price-narrow = omega arith; budget-narrow = omega arith; plays-narrow = omega arith; turns-narrow = omega arith; age-narrow = omega arith; named-narrow = omega arith })
+returns c = (
+  cc,
+  record {
+    price-narrow = c .before .before .before .before .before .before .before .before .before .before .wide32 .ensures .1;
+    budget-narrow = c .before .before .before .before .before .before .before .before .wide322 .ensures .1;
+    plays-narrow = c .before .before .before .before .before .before .wide16 .ensures .1;
+    turns-narrow = c .before .before .before .before .wide162 .ensures .1;
+    age-narrow = c .before .before .wide163 .ensures .1;
+    named-narrow = c .wide164 .ensures .1;
+  },
+)
 
 pub entry-spec : {M : Type 1} → statement M
 entry-spec =

@@ -1,18 +1,36 @@
-use mathlib.Core.Bool.{false}
-use mathlib.Core.Path.{refl}
-use Rattle.finite.proofs.Tests.{never}
+use lib.ListN.{length}
+use Prim.Native.Nat.{_<_}
+use Rattle.day.proofs.Shown.{shows-call, shows-room}
+use native.Mathlib.Omega.{arith}
+use mathlib.Core.Path.{_≡_}
 use borrow.Author.Needs.{needs}
 use Rattle.day.proofs.Day.view.Statement.{statement}
 use Rattle.day.proofs.Day.view.Tie as tie
 use Rattle.day.proofs.Day.view.Reads as reads
 use Rattle.day.proofs.Day.view.Lts as lts
-use Rattle.day.proofs.Day.view_checked.Reads as view-checked-reads
+use Rattle.day.proofs.view.counts.Reads as counts-reads
+use Rattle.day.proofs.view.show.Reads as show-reads
 
-view-checked-requires : tie.Need-view-checked-requires
-view-checked-requires c κs = λ e. absurd (never false refl e)
+prices-length : (s : tie.Start) → length (s .args .t1 .prices) ≡ 64
+prices-length s = search needs
+
+budgets-length : (s : tie.Start) → length (s .args .t1 .budgets) ≡ 64
+budgets-length s = search needs
+
+below : (s : tie.Start) → s .args .t1 .accepted < 18_446_744_073_709_551_616
+below s = search needs
+
+show-requires : tie.Need-show-requires
+show-requires c κs = search needs
+
+counts-requires : tie.Need-counts-requires
+counts-requires c κs = search needs
+
+add-self : tie.Need-add-self
+add-self c = record { fits = omega (arith, c .counts .ensures, shows-room (c .before .before .before .before .before .before .before .before .before .before .before .before .before .before .args .t1) (c .before .before .before .before .before .before .before .before .before .before .before .before .before .before .args .view) (prices-length (c .before .before .before .before .before .before .before .before .before .before .before .before .before .before)) (budgets-length (c .before .before .before .before .before .before .before .before .before .before .before .before .before .before)) (c .before .show .result) _ _ _ _ (c .before .show .ensures) (below (c .before .before .before .before .before .before .before .before .before .before .before .before .before .before))) }
 
 returns : tie.Need-returns
-returns c = search needs
+returns c = shows-call (c .before .before .before .before .before .before .before .before .before .before .before .before .before .before .args .t1) (c .before .before .before .before .before .before .before .before .before .before .before .before .before .before .args .view) (prices-length (c .before .before .before .before .before .before .before .before .before .before .before .before .before .before)) (budgets-length (c .before .before .before .before .before .before .before .before .before .before .before .before .before .before)) (c .before .show .result) _ _ _ _ (c .before .show .ensures) (c .counts .result) (c .counts .ensures)
 
 pub view-spec : {M : Type 1} → statement M
-view-spec = tie.close (tie.spec view-checked-requires returns)
+view-spec = tie.close (tie.spec show-requires counts-requires add-self returns)

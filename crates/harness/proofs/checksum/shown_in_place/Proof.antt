@@ -4,13 +4,11 @@ use Rattle.day.proofs.Shown.{shows-room, shows-entries}
 use Rattle.day.specs.Inner.{state-of}
 use Rattle.day.specs.declared.Day.{Day}
 use Rattle.views.specs.Inner.{Entries}
-use Rattle.finite.proofs.Tests.{never}
 use borrow.Author.Needs.{needs}
 use native.Mathlib.Omega.{arith}
 use lib.ListN.{length}
 use Prim.Native.Nat.{_+_, _-_, _≤_, _<_}
-use mathlib.Core.Bool.{false}
-use mathlib.Core.Path.{_≡_, refl}
+use mathlib.Core.Path.{_≡_}
 use Rattle.harness.proofs.checksum.shown_in_place.Statement.{statement}
 use Rattle.harness.proofs.checksum.shown_in_place.Tie as tie
 use Rattle.harness.proofs.checksum.shown_in_place.Reads as reads
@@ -57,7 +55,7 @@ shared-slice-read-accepted : tie.Need-shared-slice-read-accepted Inv-loop μ-loo
 shared-slice-read-accepted c = search needs
 
 show-requires : tie.Need-show-requires Inv-loop μ-loop
-show-requires c κs = (c .before .before .before .before .before .before .before .before .loop .inv .0, λ e. absurd (never false refl e))
+show-requires c κs = c .before .before .before .before .before .before .before .before .loop .inv .0
 
 counts-requires : tie.Need-counts-requires Inv-loop μ-loop
 counts-requires c κs = search needs
