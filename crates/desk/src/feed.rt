@@ -1,15 +1,17 @@
 // A block of input split at byte 10, and each line answered as it ends.
-use crate::ROOM;
-use crate::line::Served;
-use crate::line::line_end;
 use day::Day;
+use reply::ROOM;
+use reply::line::Served;
+use stretch::Cursor;
+use stretch::line_end;
 ghost use mathlib.Core.Path.{_≡_};
 ghost use mathlib.Core.Bool.{true};
 ghost use Prim.Native.Nat.{min, _+_, _≤_};
 ghost use lib.ListN.{length, take, drop};
 ghost use Rattle.day.specs.Sound.{sound};
-ghost use Rattle.desk.specs.Desk.{Serves};
-ghost use Rattle.desk.specs.Session.{new-desk, session, line-of, upto, Turned, Runs, Feeds, Finishes};
+ghost use Rattle.reply.specs.Reply.{Serves};
+ghost use Rattle.stretch.specs.Stretch.{line-of};
+ghost use Rattle.desk.specs.Desk.{new-desk, session, Turned, Runs, Feeds, Finishes};
 
 // The state, and the first bytes of a line that has not ended: kept of them, 201 at most.
 pub struct Desk {
@@ -23,14 +25,6 @@ pub struct Fed {
     pub desk: Desk,
     pub consumed: usize,
     pub written: usize,
-}
-
-// Between two lines: the state, how many bytes are held, and the places in the input and in the buffer for answers.
-pub struct Cursor {
-    pub day: Day,
-    pub kept: usize,
-    pub from: usize,
-    pub at: usize,
 }
 
 // The bytes of s behind those that are kept, up to 201 in all.
@@ -67,10 +61,10 @@ fn serve_line(
     ensures { λ r. ⌜ Serves day (line-of (now (held .entry)) kept (now (s .entry))) (now (out .entry)) (now (out .exit)) at r × (length (now (held .exit)) ≡ 201) ⌝ }
 {
     if kept == 0 {
-        return crate::line::serve(day, checked, s, out, at);
+        return reply::line::serve(day, checked, s, out, at);
     }
     let n = keep(held, kept, s);
-    crate::line::serve(day, checked, &held[..n], out, at)
+    reply::line::serve(day, checked, &held[..n], out, at)
 }
 
 // One line answered, or what is left of the input kept.
@@ -129,7 +123,7 @@ fn run(
             return t;
         }
         let next = advance(t, checked, held, input, out);
-        let after = crate::stretch::pass(next, checked, input, out);
+        let after = stretch::pass(next, checked, input, out);
         t = after;
     }
     t
@@ -150,7 +144,7 @@ fn serve_held(day: Day, held: &[u8], kept: usize, out: &mut [u8]) -> Served
     requires { ⌜ 16384 ≤ length (now out) ⌝ }
     ensures { λ r. ⌜ Serves day (take kept (now (held .entry))) (now (out .entry)) (now (out .exit)) 0 r ⌝ }
 {
-    crate::line::serve(day, false, &held[..kept], out, 0)
+    reply::line::serve(day, false, &held[..kept], out, 0)
 }
 
 impl Desk {

@@ -2,7 +2,8 @@ use mathlib.Core.Path.{sym, _∙_}
 use Prim.Native.Nat.{_-_, _<_}
 use native.Mathlib.Omega.{arith}
 use lib.ListN.{length}
-use Rattle.desk.specs.Session.{session, Stands}
+use Rattle.stretch.specs.Stretch.{Stands}
+use Rattle.desk.specs.Desk.{session}
 use Rattle.desk.proofs.Turns.{turned-stands, turned-less, stands-first, runs-through, runs-full}
 use Rattle.desk.proofs.feed.run.Statement.{statement}
 use Rattle.desk.proofs.feed.run.Tie as tie

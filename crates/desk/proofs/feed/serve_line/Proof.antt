@@ -4,8 +4,8 @@ use Prim.Native.Nat.{ℕ}
 use native.Mathlib.Omega.{arith}
 use lib.Seq.{length-take-le}
 use borrow.Author.Needs.{needs}
-use Rattle.desk.specs.Desk.{Serves}
-use Rattle.desk.proofs.Ends.{uncut}
+use Rattle.reply.specs.Reply.{Serves}
+use Rattle.stretch.proofs.Ends.{uncut}
 use Rattle.desk.proofs.feed.serve_line.Statement.{statement}
 use Rattle.desk.proofs.feed.serve_line.Tie as tie
 

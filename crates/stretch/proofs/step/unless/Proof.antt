@@ -1,0 +1,15 @@
+use Rattle.stretch.proofs.step.unless.Statement.{statement}
+use Rattle.stretch.proofs.step.unless.Tie as tie
+use Rattle.stretch.proofs.step.unless.Reads as reads
+use Rattle.stretch.proofs.step.unless.Lts as lts
+
+-- src/stretch.rt:62:9
+returns : tie.Need-returns
+returns c = rw (c .if1 .taken)
+
+-- src/stretch.rt:58:1
+returns-2 : tie.Need-returns-2
+returns-2 c = rw (c .if1 .left)
+
+pub unless-spec : {M : Type 1} → statement M
+unless-spec = tie.close (tie.spec returns returns-2)
