@@ -12,7 +12,6 @@ use views::Leader;
 use views::play;
 ghost use mathlib.Core.Path.{_≡_};
 ghost use mathlib.Core.Bool.{true};
-ghost use Prim.Native.Nat.{_≤_};
 ghost use Rattle.campaigns.specs.Inner.{Weights};
 ghost use Rattle.views.specs.Inner.{Entries};
 ghost use Rattle.day.specs.Sound.{sound};

@@ -10,11 +10,12 @@ use lib.Seq.{take-all}
 use borrow.Author.Tests.{le-leb, lt-leb, leb-true, leb-false}
 use Rattle.writer.specs.Buffer.{Put}
 use Rattle.writer.proofs.Buffers.{over-front}
-use Rattle.desk.specs.declared.line.Served.{Served}
-use Rattle.desk.specs.declared.feed.Cursor.{Cursor}
+use Rattle.reply.specs.declared.line.Served.{Served}
+use Rattle.reply.specs.Reply.{reply, next, Serves}
+use Rattle.stretch.specs.declared.Cursor.{Cursor}
+use Rattle.stretch.specs.Session.{Session, ended}
 use Rattle.desk.specs.declared.feed.Desk.{Desk}
-use Rattle.desk.specs.Desk.{reply, next, Serves}
-use Rattle.desk.specs.Session.{Session, ended, ended-if, finished, session, session-of, Holds, Feeds, Finishes, Runs}
+use Rattle.desk.specs.Desk.{ended-if, finished, session, session-of, Holds, Feeds, Finishes, Runs}
 
 -- no more than 201 bytes are held
 pub take-least : (h : List ℕ) (k : ℕ) → length h ≡ 201 → take (min k 201) h ≡ take k h

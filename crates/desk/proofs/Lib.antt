@@ -1,9 +1,4 @@
-pub mod Over
-pub mod Ranges
-pub mod Serving
-pub mod Sessions
+pub mod Rests
 pub mod Turns
-pub mod Ends
-pub mod Stretches
 pub mod Desks
 pub mod Pieces

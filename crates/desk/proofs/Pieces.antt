@@ -8,10 +8,12 @@ use lib.Dec.{eqb}
 use lib.ListN.{take}
 use borrow.Author.Tests.{eqb-true}
 use Rattle.day.specs.declared.Day.{Day}
-use Rattle.desk.specs.Desk.{reply, next}
-use Rattle.desk.specs.Session.{Session, longer, ended, after-byte, fed, finished, session, upto}
+use Rattle.reply.specs.Reply.{reply, next}
+use Rattle.stretch.specs.Session.{Session, longer, ended, after-byte, fed, upto}
+use Rattle.stretch.proofs.Sessions.{cut-reply, cut-next, fed-append, byte-plain, byte-end}
+use Rattle.desk.specs.Desk.{finished, session}
 use Rattle.desk.specs.Pieces.{joined, Plain, All-plain, after-lines, replies, Split, silent, said-in, after-pieces, concat, last-reply, Any-pieces}
-use Rattle.desk.proofs.Sessions.{cut-reply, cut-next, fed-append, rest-fed, byte-plain, byte-end}
+use Rattle.desk.proofs.Rests.{rest-fed}
 
 abbrev with-said : Session → List ℕ → Session
 with-said x w = record { day = x .day; held = x .held; said = w }

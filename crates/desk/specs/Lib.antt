@@ -1,4 +1,2 @@
 pub mod Desk
-pub mod Session
 pub mod Pieces
-pub mod Stretch

@@ -4,8 +4,9 @@ use mathlib.Core.List.{List, [], _∷_, _++_}
 use Prim.Native.Nat.{ℕ}
 use lib.ListN.{length}
 use Rattle.day.specs.declared.Day.{Day}
-use Rattle.desk.specs.Desk.{reply, next}
-use Rattle.desk.specs.Session.{Session, fed, finished, session, upto}
+use Rattle.reply.specs.Reply.{reply, next}
+use Rattle.stretch.specs.Session.{Session, fed, upto}
+use Rattle.desk.specs.Desk.{finished, session}
 
 -- the input that has these lines, each ended by byte 10, and a rest
 unfoldable pub joined : List (List ℕ) → List ℕ → List ℕ

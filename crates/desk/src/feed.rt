@@ -1,15 +1,15 @@
 // A block of input split at byte 10, and each line answered as it ends.
-use crate::ROOM;
-use crate::line::Served;
-use crate::line::line_end;
 use day::Day;
+use reply::ROOM;
+use reply::line::Served;
+use stretch::Cursor;
+use stretch::line_end;
 ghost use mathlib.Core.Path.{_≡_};
-ghost use mathlib.Core.Bool.{true};
 ghost use Prim.Native.Nat.{min, _+_, _≤_};
 ghost use lib.ListN.{length, take, drop};
-ghost use Rattle.day.specs.Sound.{sound};
-ghost use Rattle.desk.specs.Desk.{Serves};
-ghost use Rattle.desk.specs.Session.{new-desk, session, line-of, Turned, Runs, Feeds, Finishes};
+ghost use Rattle.reply.specs.Reply.{Serves};
+ghost use Rattle.stretch.specs.Stretch.{line-of};
+ghost use Rattle.desk.specs.Desk.{new-desk, session, Turned, Runs, Feeds, Finishes};
 
 // The state, and the first bytes of a line that has not ended: kept of them, 201 at most.
 pub struct Desk {
@@ -23,14 +23,6 @@ pub struct Fed {
     pub desk: Desk,
     pub consumed: usize,
     pub written: usize,
-}
-
-// Between two lines: the state, how many bytes are held, and the places in the input and in the buffer for answers.
-pub struct Cursor {
-    pub day: Day,
-    pub kept: usize,
-    pub from: usize,
-    pub at: usize,
 }
 
 // The bytes of s behind those that are kept, up to 201 in all.
@@ -52,31 +44,21 @@ fn keep(held: &mut [u8], kept: usize, s: &[u8]) -> usize
 }
 
 // The line that began with the kept bytes and ends with s. A line that lies whole in the input is not copied.
-fn serve_line(
-    day: Day,
-    checked: bool,
-    held: &mut [u8],
-    kept: usize,
-    s: &[u8],
-    out: &mut [u8],
-    at: usize,
-) -> Served
+fn serve_line(day: Day, held: &mut [u8], kept: usize, s: &[u8], out: &mut [u8], at: usize) -> Served
     requires { ⌜ (kept ≤ 201) × (length (now held) ≡ 201) ⌝ }
-    requires { ⌜ (checked ≡ true → sound day ≡ true) ⌝ }
     requires { ⌜ at + 16384 ≤ length (now out) ⌝ }
     ensures { λ r. ⌜ Serves day (line-of (now (held .entry)) kept (now (s .entry))) (now (out .entry)) (now (out .exit)) at r × (length (now (held .exit)) ≡ 201) ⌝ }
 {
     if kept == 0 {
-        return crate::line::serve(day, checked, s, out, at);
+        return reply::line::serve(day, s, out, at);
     }
     let n = keep(held, kept, s);
-    crate::line::serve(day, checked, &held[..n], out, at)
+    reply::line::serve(day, &held[..n], out, at)
 }
 
 // One line answered, or what is left of the input kept.
-fn advance(t: Cursor, checked: bool, held: &mut [u8], input: &[u8], out: &mut [u8]) -> Cursor
+fn advance(t: Cursor, held: &mut [u8], input: &[u8], out: &mut [u8]) -> Cursor
     requires { ⌜ (t .kept ≤ 201) × (length (now held) ≡ 201) × (t .from ≤ length (now input)) ⌝ }
-    requires { ⌜ (checked ≡ true → sound (t .day) ≡ true) ⌝ }
     requires { ⌜ t .at + 16384 ≤ length (now out) ⌝ }
     ensures { λ r. ⌜ Turned t (now (held .entry)) (drop (t .from) (now (input .entry))) (now (out .entry)) (now (out .exit)) r (now (held .exit)) × (length (now (held .exit)) ≡ 201) ⌝ }
 {
@@ -95,7 +77,7 @@ fn advance(t: Cursor, checked: bool, held: &mut [u8], input: &[u8], out: &mut [u
         };
     }
     let after = end + 1;
-    let served = serve_line(day, checked, held, kept, &input[from..end], out, at);
+    let served = serve_line(day, held, kept, &input[from..end], out, at);
     let next = served.day;
     Cursor {
         day: next,
@@ -106,16 +88,8 @@ fn advance(t: Cursor, checked: bool, held: &mut [u8], input: &[u8], out: &mut [u
 }
 
 // Line after line, while there is input and room for the longest answer.
-fn run(
-    day: Day,
-    checked: bool,
-    held: &mut [u8],
-    kept: usize,
-    input: &[u8],
-    out: &mut [u8],
-) -> Cursor
+fn run(day: Day, held: &mut [u8], kept: usize, input: &[u8], out: &mut [u8]) -> Cursor
     requires { ⌜ (kept ≤ 201) × (length (now held) ≡ 201) ⌝ }
-    requires { ⌜ (checked ≡ true → sound day ≡ true) ⌝ }
     ensures { λ r. ⌜ Runs (session day (now (held .entry)) kept) (now (input .entry)) (now (out .entry)) (now (out .exit)) r (now (held .exit)) × (length (now (held .exit)) ≡ 201) ⌝ }
 {
     let mut t = Cursor {
@@ -128,8 +102,8 @@ fn run(
         if out.len() - t.at < ROOM {
             return t;
         }
-        let next = advance(t, checked, held, input, out);
-        let after = crate::stretch::pass(next, checked, input, out);
+        let next = advance(t, held, input, out);
+        let after = stretch::pass(next, input, out);
         t = after;
     }
     t
@@ -150,7 +124,7 @@ fn serve_held(day: Day, held: &[u8], kept: usize, out: &mut [u8]) -> Served
     requires { ⌜ 16384 ≤ length (now out) ⌝ }
     ensures { λ r. ⌜ Serves day (take kept (now (held .entry))) (now (out .entry)) (now (out .exit)) 0 r ⌝ }
 {
-    crate::line::serve(day, false, &held[..kept], out, 0)
+    reply::line::serve(day, &held[..kept], out, 0)
 }
 
 impl Desk {
@@ -173,8 +147,7 @@ impl Desk {
         let day = self.day;
         let mut held = self.held;
         let kept = at_most_201(self.kept);
-        let audit = day.audit();
-        let t = run(day, audit.sound, &mut held, kept, input, out);
+        let t = run(day, &mut held, kept, input, out);
         let next = t.day;
         Fed {
             desk: Desk {

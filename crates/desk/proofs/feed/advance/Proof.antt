@@ -1,6 +1,6 @@
 use native.Mathlib.Omega.{arith}
 use borrow.Author.Needs.{needs}
-use Rattle.desk.proofs.Ends.{kept-rest, answered-line}
+use Rattle.desk.proofs.Turns.{kept-rest, answered-line}
 use Rattle.desk.proofs.feed.advance.Statement.{statement}
 use Rattle.desk.proofs.feed.advance.Tie as tie
 

@@ -3,7 +3,7 @@ use mathlib.Core.List.{_++_, append-nil}
 use Prim.Native.Nat.{_+_, _-_, _≤_}
 use native.Mathlib.Omega.{arith}
 use lib.ListN.{length, take, getD, length-set}
-use Rattle.desk.proofs.Sessions.{keep-more, keep-all}
+use Rattle.desk.proofs.Rests.{keep-more, keep-all}
 use Rattle.desk.proofs.feed.keep.Statement.{statement}
 use Rattle.desk.proofs.feed.keep.Tie as tie
 

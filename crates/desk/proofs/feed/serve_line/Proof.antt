@@ -4,8 +4,8 @@ use Prim.Native.Nat.{ℕ}
 use native.Mathlib.Omega.{arith}
 use lib.Seq.{length-take-le}
 use borrow.Author.Needs.{needs}
-use Rattle.desk.specs.Desk.{Serves}
-use Rattle.desk.proofs.Ends.{uncut}
+use Rattle.reply.specs.Reply.{Serves}
+use Rattle.stretch.proofs.Ends.{uncut}
 use Rattle.desk.proofs.feed.serve_line.Statement.{statement}
 use Rattle.desk.proofs.feed.serve_line.Tie as tie
 
@@ -24,7 +24,7 @@ returns-2 c =
     let a = c .before .before .before .before .before .before .before .before .before .before .before .before .before .args in
     let k = c .before .before .before .before .before .before .before .keep in
     let s = c .before .before .serve2 in
-    (subst (λ (l : List ℕ). Serves (a .day) l (a .out .now) (s .last .1 .1 .1 .0) (a .at) (s .result)) (k .ensures .1) (s .ensures), k .ensures .2)
+    (subst (λ (l : List ℕ). Serves (a .day) l (a .out .now) (s .last .1 .1 .0) (a .at) (s .result)) (k .ensures .1) (s .ensures), k .ensures .2)
 
 pub serve-line-spec : {M : Type 1} → statement M
 serve-line-spec =

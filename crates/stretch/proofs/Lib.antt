@@ -1,0 +1,4 @@
+pub mod Sessions
+pub mod Turns
+pub mod Ends
+pub mod Stretches
