@@ -7,11 +7,6 @@ use mathlib.Core.Path.{_≡_, refl, sym, subst}
 use borrow.Author.Needs.{needs}
 use Rattle.stretch.proofs.pass.Statement.{statement}
 use Rattle.stretch.proofs.pass.Tie as tie
-use Rattle.stretch.proofs.pass.Reads as reads
-use Rattle.stretch.proofs.pass.Lts as lts
-use Rattle.stretch.proofs.look.Reads as look-reads
-use Rattle.stretch.proofs.run_stretch.Reads as run-stretch-reads
-use Rattle.stretch.proofs.step.stops.Reads as stops-reads
 
 -- the test that went by
 tests : (c : tie.Else1) → (c .before .before .before .before .args .checked ≡ true) × (not (eqb (c .before .before .before .before .args .t .kept) 0) ≡ false)

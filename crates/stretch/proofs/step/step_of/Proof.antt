@@ -4,12 +4,6 @@ use mathlib.Core.Path.{ap, _∙_}
 use borrow.Author.Needs.{needs}
 use Rattle.stretch.proofs.step.step_of.Statement.{statement}
 use Rattle.stretch.proofs.step.step_of.Tie as tie
-use Rattle.stretch.proofs.step.step_of.Reads as reads
-use Rattle.stretch.proofs.step.step_of.Lts as lts
-use Rattle.day.proofs.ops.closed.Reads as closed-reads
-use Rattle.day.proofs.ops.filling.Reads as filling-reads
-use Rattle.day.proofs.view.running.Reads as running-reads
-use Rattle.stretch.proofs.step.unless.Reads as unless-reads
 
 -- src/stretch.rt:72:55
 enum-told : tie.Need-enum-told

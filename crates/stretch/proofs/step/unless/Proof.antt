@@ -1,7 +1,5 @@
 use Rattle.stretch.proofs.step.unless.Statement.{statement}
 use Rattle.stretch.proofs.step.unless.Tie as tie
-use Rattle.stretch.proofs.step.unless.Reads as reads
-use Rattle.stretch.proofs.step.unless.Lts as lts
 
 -- src/stretch.rt:62:9
 returns : tie.Need-returns
