@@ -17,7 +17,7 @@ use std::io::Write;
 use std::path::{Path, PathBuf};
 use std::process::Command;
 
-const CRATES: [&str; 10] = ["sets", "powers", "campaigns", "audit", "views", "day", "lines", "writer", "desk", "replay"];
+const CRATES: [&str; 12] = ["sets", "powers", "campaigns", "audit", "views", "day", "lines", "writer", "reply", "stretch", "desk", "replay"];
 
 pub struct Mutant {
     pub id: String,

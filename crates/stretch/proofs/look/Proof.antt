@@ -8,10 +8,6 @@ use Rattle.finite.proofs.Tests.{never}
 use borrow.Author.Needs.{needs}
 use Rattle.stretch.proofs.look.Statement.{statement}
 use Rattle.stretch.proofs.look.Tie as tie
-use Rattle.stretch.proofs.look.Reads as reads
-use Rattle.stretch.proofs.look.Lts as lts
-use Rattle.stretch.proofs.line_end.Reads as line-end-reads
-use Rattle.stretch.proofs.step.read_step.Reads as read-step-reads
 
 -- the test that went by
 tests : (c : tie.Else1) → (ltb (c .before .before .before .args .room) 16384 ≡ false) × (eqb (c .before .line-end .result) (length (c .before .before .before .args .input .now)) ≡ false)

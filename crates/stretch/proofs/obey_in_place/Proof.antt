@@ -6,9 +6,6 @@ use Rattle.stretch.proofs.Stretches.{obeys-refused, obeys-shown}
 use borrow.Author.Needs.{needs}
 use Rattle.stretch.proofs.obey_in_place.Statement.{statement}
 use Rattle.stretch.proofs.obey_in_place.Tie as tie
-use Rattle.stretch.proofs.obey_in_place.Reads as reads
-use Rattle.stretch.proofs.obey_in_place.Lts as lts
-use Rattle.day.proofs.view.show_sound.Reads as show-sound-reads
 
 abbrev state : tie.Start → Day
 state s = state-of (s .args .phase) (s .args .plan) (s .args .count) (s .args .accepted) (s .args .prices .now) (s .args .budgets .now) (s .args .plays .now) (s .args .turns .now) (s .args .ages .now) (s .args .named .now)

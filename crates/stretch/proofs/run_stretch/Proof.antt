@@ -18,14 +18,6 @@ use mathlib.Core.Path.{_≡_, refl, ap, sym, subst, _∙_}
 use Prim.Native.Nat.{ℕ, _+_, _-_, _≤_, _<_}
 use Rattle.stretch.proofs.run_stretch.Statement.{statement}
 use Rattle.stretch.proofs.run_stretch.Tie as tie
-use Rattle.stretch.proofs.run_stretch.Reads as reads
-use Rattle.stretch.proofs.run_stretch.Lts as lts
-use Rattle.campaigns.proofs.weights.weights.Reads as weights-reads
-use Rattle.day.proofs.view.counts.Reads as counts-reads
-use Rattle.reply.proofs.say.say.Reads as say-reads
-use Rattle.stretch.proofs.look.Reads as look-reads
-use Rattle.stretch.proofs.obey_in_place.Reads as obey-in-place-reads
-use Rattle.stretch.proofs.step.stops.Reads as stops-reads
 
 abbrev Inv-loop : tie.InvT-loop
 Inv-loop input out₀ phase plan count weights prices budgets accepted₀ plays₀ turns₀ ages₀ named₀ from₀ at₀ next₀ out accepted plays turns ages named from at next = Going input (record { day = state-of phase plan count accepted₀ prices budgets plays₀ turns₀ ages₀ named₀; kept = 0; from = from₀; at = at₀ }) out₀ (record { day = state-of phase plan count accepted prices budgets plays turns ages named; kept = 0; from = from; at = at }) out next × Weights plan weights

@@ -6,14 +6,6 @@ use Rattle.day.specs.declared.Outcome.{Outcome}
 use Rattle.reply.specs.Reply.{request, obeyed}
 use Rattle.reply.proofs.line.obey.Statement.{statement}
 use Rattle.reply.proofs.line.obey.Tie as tie
-use Rattle.reply.proofs.line.obey.Reads as reads
-use Rattle.reply.proofs.line.obey.Lts as lts
-use Rattle.day.proofs.Day.add.Reads as add-reads
-use Rattle.day.proofs.Day.close.Reads as close-reads
-use Rattle.day.proofs.Day.open.Reads as open-reads
-use Rattle.day.proofs.Day.start.Reads as start-reads
-use Rattle.reply.proofs.line.refuse.Reads as refuse-reads
-use Rattle.day.proofs.Day.view.Reads as view-reads
 
 -- o is what the record r asks for, where r is t
 made : (s : Day) {r t : Record} {o : Outcome} → r ≡ t → o ≡ obeyed s (request t) → o ≡ obeyed s (request r)

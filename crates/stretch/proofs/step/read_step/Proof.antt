@@ -5,10 +5,6 @@ use mathlib.Core.Path.{sym, ap, _∙_}
 use borrow.Author.Needs.{needs}
 use Rattle.stretch.proofs.step.read_step.Statement.{statement}
 use Rattle.stretch.proofs.step.read_step.Tie as tie
-use Rattle.stretch.proofs.step.read_step.Reads as reads
-use Rattle.stretch.proofs.step.read_step.Lts as lts
-use Rattle.stretch.proofs.step.step_of.Reads as step-of-reads
-use Rattle.lines.proofs.read_line.Reads as read-line-reads
 
 read-line-requires : tie.Need-read-line-requires
 read-line-requires c κs = search needs

@@ -4,12 +4,6 @@ use mathlib.Core.Path.{ap, _∙_}
 use borrow.Author.Needs.{needs}
 use Rattle.stretch.proofs.step.step_of.Statement.{statement}
 use Rattle.stretch.proofs.step.step_of.Tie as tie
-use Rattle.stretch.proofs.step.step_of.Reads as reads
-use Rattle.stretch.proofs.step.step_of.Lts as lts
-use Rattle.campaigns.proofs.Phase.closed.Reads as closed-reads
-use Rattle.campaigns.proofs.Phase.filling.Reads as filling-reads
-use Rattle.campaigns.proofs.Phase.running.Reads as running-reads
-use Rattle.stretch.proofs.step.unless.Reads as unless-reads
 
 enum-told : tie.Need-enum-told
 enum-told c = search needs

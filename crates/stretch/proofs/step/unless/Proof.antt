@@ -1,7 +1,5 @@
 use Rattle.stretch.proofs.step.unless.Statement.{statement}
 use Rattle.stretch.proofs.step.unless.Tie as tie
-use Rattle.stretch.proofs.step.unless.Reads as reads
-use Rattle.stretch.proofs.step.unless.Lts as lts
 
 returns : tie.Need-returns
 returns c = rw (c .if1 .taken)
