@@ -10,13 +10,6 @@ use mathlib.Core.Path.{_≡_, ap, sym, subst, _∙_}
 use borrow.Author.Needs.{needs}
 use Rattle.audit.proofs.examine.Statement.{statement}
 use Rattle.audit.proofs.examine.Tie as tie
-use Rattle.audit.proofs.examine.Reads as reads
-use Rattle.audit.proofs.examine.Lts as lts
-use Rattle.audit.proofs.columns.empty_from.Reads as empty-from-reads
-use Rattle.audit.proofs.sums.sum_all.Reads as sum-all-reads
-use Rattle.audit.proofs.Audit.unsound.Reads as unsound-reads
-use Rattle.audit.proofs.phase_holds.Reads as phase-holds-reads
-use Rattle.audit.proofs.settle.Reads as settle-reads
 
 abbrev campaign : tie.Start → ℕ → Campaign
 campaign s = campaign-at (s .args .prices .now) (s .args .budgets .now) (s .args .plays .now) (s .args .turns .now) (s .args .ages .now) (s .args .named .now)

@@ -5,11 +5,6 @@ use mathlib.Core.Path.{ap, ap₂, _∙_}
 use borrow.Author.Needs.{needs}
 use Rattle.audit.proofs.limits_hold.Statement.{statement}
 use Rattle.audit.proofs.limits_hold.Tie as tie
-use Rattle.audit.proofs.limits_hold.Reads as reads
-use Rattle.audit.proofs.limits_hold.Lts as lts
-use Rattle.campaigns.proofs.Plan.depth_fits.Reads as depth-fits-reads
-use Rattle.campaigns.proofs.Plan.width_fits.Reads as width-fits-reads
-use Rattle.powers.proofs.deepest.Reads as deepest-reads
 
 depth-fits-requires : tie.Need-depth-fits-requires
 depth-fits-requires c κs = search needs

@@ -3,14 +3,6 @@ use borrow.Author.Tests.{ne-eqb}
 use Rattle.words.specs.Words.{call-of}
 use Rattle.harness.proofs.operated.Statement.{statement}
 use Rattle.harness.proofs.operated.Tie as tie
-use Rattle.harness.proofs.operated.Reads as reads
-use Rattle.harness.proofs.operated.Lts as lts
-use Rattle.day.proofs.Day.add.Reads as add-reads
-use Rattle.day.proofs.Day.close.Reads as close-reads
-use Rattle.day.proofs.Day.open.Reads as open-reads
-use Rattle.day.proofs.Day.start.Reads as start-reads
-use Rattle.day.proofs.Day.tally.Reads as tally-reads
-use Rattle.day.proofs.Day.view.Reads as view-reads
 
 open-requires : tie.Need-open-requires
 open-requires c κs = search needs

@@ -8,12 +8,6 @@ use Rattle.words.proofs.Columns.{left, answered}
 use borrow.Author.Needs.{needs}
 use Rattle.harness.proofs.wezghuli_operate.Statement.{statement}
 use Rattle.harness.proofs.wezghuli_operate.Tie as tie
-use Rattle.harness.proofs.wezghuli_operate.Reads as reads
-use Rattle.harness.proofs.wezghuli_operate.Lts as lts
-use Rattle.harness.proofs.operated.Reads as operated-reads
-use Rattle.words.proofs.fit.Reads as fit-reads
-use Rattle.words.proofs.read_day.Reads as read-day-reads
-use Rattle.words.proofs.write_outcome.Reads as write-outcome-reads
 
 returns : tie.Need-returns
 unfolding readable

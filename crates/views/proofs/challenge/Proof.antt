@@ -10,10 +10,6 @@ use mathlib.Core.Path.{_≡_, sym, _∙_}
 use borrow.Author.Needs.{needs}
 use Rattle.views.proofs.challenge.Statement.{statement}
 use Rattle.views.proofs.challenge.Tie as tie
-use Rattle.views.proofs.challenge.Reads as reads
-use Rattle.views.proofs.challenge.Lts as lts
-use Rattle.campaigns.proofs.Campaign.can_pay.Reads as can-pay-reads
-use Rattle.campaigns.proofs.weights.weigh.Reads as weigh-reads
 
 able : (c : tie.Else1) → can-pay (c .before .before .args .c) ≡ true
 able c = sym (c .before .can-pay .ensures) ∙ not-false (c .before .can-pay .result) (c .if1 .left)

@@ -13,11 +13,6 @@ use mathlib.Core.Bool.{true}
 use mathlib.Core.Path.{_≡_, ap, sym, _∙_}
 use Rattle.views.proofs.choose.Statement.{statement}
 use Rattle.views.proofs.choose.Tie as tie
-use Rattle.views.proofs.choose.Reads as reads
-use Rattle.views.proofs.choose.Lts as lts
-use Rattle.campaigns.proofs.entry.entry.Reads as entry-reads
-use Rattle.views.proofs.challenge.Reads as challenge-reads
-use Rattle.sets.proofs.next_from.Reads as next-from-reads
 
 abbrev Inv-loop : tie.InvT-loop
 Inv-loop plan weights prices budgets plays turns ages named set leader₀ i₀ leader i = (i ≤ 64) × (leader ≡ leader-of plan (record { set = set }) (campaign-at prices budgets plays turns ages named) i) × (i < 64 → member set i ≡ true)

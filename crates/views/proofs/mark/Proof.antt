@@ -15,11 +15,6 @@ use mathlib.Core.Bool.{Bool, true, _&&_}
 use mathlib.Core.Path.{_≡_, ap, sym, subst, _∙_}
 use Rattle.views.proofs.mark.Statement.{statement}
 use Rattle.views.proofs.mark.Tie as tie
-use Rattle.views.proofs.mark.Reads as reads
-use Rattle.views.proofs.mark.Lts as lts
-use Rattle.campaigns.proofs.Campaign.viewed.Reads as viewed-reads
-use Rattle.campaigns.proofs.entry.entry.Reads as entry-reads
-use Rattle.sets.proofs.next_from.Reads as next-from-reads
 
 abbrev Inv-loop : tie.InvT-loop
 Inv-loop leader prices budgets plays₀ turns₀ ages₀ named₀ set depth i₀ plays turns ages named i = (i ≤ 64) × Counts (cut depth (record { set = set }) leader (campaign-at prices budgets plays₀ turns₀ ages₀ named₀) i) prices budgets plays turns ages named × (i < 64 → member set i ≡ true)

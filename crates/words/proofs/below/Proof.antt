@@ -13,8 +13,6 @@ use Rattle.words.specs.Words.{below}
 use Rattle.words.proofs.Columns.{not-below}
 use Rattle.words.proofs.below.Statement.{statement}
 use Rattle.words.proofs.below.Tie as tie
-use Rattle.words.proofs.below.Reads as reads
-use Rattle.words.proofs.below.Lts as lts
 
 abbrev Inv-loop : tie.InvT-loop
 Inv-loop s from to limit i₀ i = (from ≤ i) × (i ≤ to) × (below s from i limit ≡ true)

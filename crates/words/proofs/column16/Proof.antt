@@ -7,8 +7,6 @@ use Prim.Native.Nat.{ℕ, _+_, _-_, _≤_, _<_}
 use Rattle.words.proofs.Columns.{fill-next}
 use Rattle.words.proofs.column16.Statement.{statement}
 use Rattle.words.proofs.column16.Tie as tie
-use Rattle.words.proofs.column16.Reads as reads
-use Rattle.words.proofs.column16.Lts as lts
 
 abbrev Inv-loop : tie.InvT-loop
 Inv-loop s at column₀ i₀ column i = (i ≤ 64) × (length column ≡ 64) × (take i column ≡ take i (drop at s))

@@ -2,9 +2,6 @@ use Rattle.words.specs.Words.{fit}
 use borrow.Author.Needs.{needs}
 use Rattle.words.proofs.fit.Statement.{statement}
 use Rattle.words.proofs.fit.Tie as tie
-use Rattle.words.proofs.fit.Reads as reads
-use Rattle.words.proofs.fit.Lts as lts
-use Rattle.words.proofs.below.Reads as below-reads
 
 below-requires : tie.Need-below-requires
 below-requires c κs = search needs

@@ -2,8 +2,6 @@ use borrow.Author.Tests.{ne-eqb}
 use Rattle.words.specs.Words.{phase-of}
 use Rattle.words.proofs.phase_of.Statement.{statement}
 use Rattle.words.proofs.phase_of.Tie as tie
-use Rattle.words.proofs.phase_of.Reads as reads
-use Rattle.words.proofs.phase_of.Lts as lts
 
 returns : tie.Need-returns
 unfolding phase-of

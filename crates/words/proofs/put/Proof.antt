@@ -7,8 +7,6 @@ use borrow.Author.Needs.{needs}
 use Rattle.words.proofs.Columns.{copy-next}
 use Rattle.words.proofs.put.Statement.{statement}
 use Rattle.words.proofs.put.Tie as tie
-use Rattle.words.proofs.put.Reads as reads
-use Rattle.words.proofs.put.Lts as lts
 
 abbrev Inv-loop : tie.InvT-loop
 Inv-loop out₀ at words i₀ i-end out i = (i-end ≡ length words) × (i ≤ i-end) × (length out ≡ length out₀) × (out ≡ paste out₀ at words i)

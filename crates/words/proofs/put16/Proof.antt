@@ -9,9 +9,6 @@ use borrow.Author.Needs.{needs}
 use Rattle.words.proofs.Columns.{copy-next}
 use Rattle.words.proofs.put16.Statement.{statement}
 use Rattle.words.proofs.put16.Tie as tie
-use Rattle.words.proofs.put16.Reads as reads
-use Rattle.words.proofs.put16.Lts as lts
-use Rattle.words.proofs.wide16.Reads as wide16-reads
 
 abbrev Inv-loop : tie.InvT-loop
 Inv-loop out₀ at column i₀ out i = (i ≤ 64) × (length out ≡ length out₀) × (out ≡ paste out₀ at column i)

@@ -4,11 +4,6 @@ use Rattle.words.proofs.Columns.{fit-parts}
 use borrow.Author.Needs.{needs}
 use Rattle.words.proofs.read_day.Statement.{statement}
 use Rattle.words.proofs.read_day.Tie as tie
-use Rattle.words.proofs.read_day.Reads as reads
-use Rattle.words.proofs.read_day.Lts as lts
-use Rattle.words.proofs.column16.Reads as column16-reads
-use Rattle.words.proofs.column32.Reads as column32-reads
-use Rattle.words.proofs.phase_of.Reads as phase-of-reads
 
 shared-slice-read-phase-of : tie.Need-shared-slice-read-phase-of
 shared-slice-read-phase-of c = search needs

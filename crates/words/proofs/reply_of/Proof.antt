@@ -1,8 +1,6 @@
 use borrow.Author.Needs.{needs}
 use Rattle.words.proofs.reply_of.Statement.{statement}
 use Rattle.words.proofs.reply_of.Tie as tie
-use Rattle.words.proofs.reply_of.Reads as reads
-use Rattle.words.proofs.reply_of.Lts as lts
 
 enum-known-answer : tie.Need-enum-known-answer
 enum-known-answer c = search needs

@@ -8,12 +8,6 @@ use Rattle.words.proofs.Columns.{write-next, longer}
 use borrow.Author.Needs.{needs}
 use Rattle.words.proofs.write_day.Statement.{statement}
 use Rattle.words.proofs.write_day.Tie as tie
-use Rattle.words.proofs.write_day.Reads as reads
-use Rattle.words.proofs.write_day.Lts as lts
-use Rattle.words.proofs.head_of.Reads as head-of-reads
-use Rattle.words.proofs.put.Reads as put-reads
-use Rattle.words.proofs.put16.Reads as put16-reads
-use Rattle.words.proofs.put32.Reads as put32-reads
 
 lengths : (s : tie.Start) → Lengths (s .args .day)
 lengths s = record { prices-length = search needs; budgets-length = search needs; plays-length = search needs; turns-length = search needs; ages-length = search needs; named-length = search needs }

@@ -8,11 +8,6 @@ use Rattle.words.proofs.Columns.{write-next, day-length, ends}
 use borrow.Author.Needs.{needs}
 use Rattle.words.proofs.write_outcome.Statement.{statement}
 use Rattle.words.proofs.write_outcome.Tie as tie
-use Rattle.words.proofs.write_outcome.Reads as reads
-use Rattle.words.proofs.write_outcome.Lts as lts
-use Rattle.words.proofs.put.Reads as put-reads
-use Rattle.words.proofs.reply_of.Reads as reply-of-reads
-use Rattle.words.proofs.write_day.Reads as write-day-reads
 
 lengths : (s : tie.Start) → Lengths (s .args .outcome .day)
 lengths s = record { prices-length = search needs; budgets-length = search needs; plays-length = search needs; turns-length = search needs; ages-length = search needs; named-length = search needs }

@@ -11,8 +11,6 @@ use mathlib.Core.Path.{_≡_, ap, _∙_}
 use borrow.Author.Needs.{needs}
 use Rattle.audit.proofs.columns.no_counts_in.Statement.{statement}
 use Rattle.audit.proofs.columns.no_counts_in.Tie as tie
-use Rattle.audit.proofs.columns.no_counts_in.Reads as reads
-use Rattle.audit.proofs.columns.no_counts_in.Lts as lts
 
 abbrev Inv-loop : tie.InvT-loop
 Inv-loop n m plays turns ages named any₀ i₀ any i = (n ≤ i) × (i ≤ m) × (eqb any 0 ≡ no-counts-in n plays turns ages named i)

@@ -11,8 +11,6 @@ use mathlib.Core.Path.{_≡_, ap, _∙_}
 use borrow.Author.Needs.{needs}
 use Rattle.audit.proofs.columns.no_terms_from.Statement.{statement}
 use Rattle.audit.proofs.columns.no_terms_from.Tie as tie
-use Rattle.audit.proofs.columns.no_terms_from.Reads as reads
-use Rattle.audit.proofs.columns.no_terms_from.Lts as lts
 
 abbrev Inv-loop : tie.InvT-loop
 Inv-loop n prices budgets any₀ i₀ any i = (n ≤ i) × (i ≤ 64) × (eqb any 0 ≡ no-terms-from n prices budgets i)

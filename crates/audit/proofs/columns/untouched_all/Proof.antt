@@ -2,9 +2,6 @@ use native.Mathlib.Omega.{arith}
 use borrow.Author.Needs.{needs}
 use Rattle.audit.proofs.columns.untouched_all.Statement.{statement}
 use Rattle.audit.proofs.columns.untouched_all.Tie as tie
-use Rattle.audit.proofs.columns.untouched_all.Reads as reads
-use Rattle.audit.proofs.columns.untouched_all.Lts as lts
-use Rattle.audit.proofs.columns.no_counts_in.Reads as no-counts-in-reads
 
 enum-told : tie.Need-enum-told
 enum-told c = search needs

@@ -13,10 +13,6 @@ use mathlib.Core.Path.{_≡_, refl, ap₂, _∙_}
 use borrow.Author.Needs.{needs}
 use Rattle.audit.proofs.sums.spend_all.Statement.{statement}
 use Rattle.audit.proofs.sums.spend_all.Tie as tie
-use Rattle.audit.proofs.sums.spend_all.Reads as reads
-use Rattle.audit.proofs.sums.spend_all.Lts as lts
-use Rattle.campaigns.proofs.entry.wide16.Reads as wide16-reads
-use Rattle.campaigns.proofs.entry.wide32.Reads as wide32-reads
 
 abbrev Inv-loop : tie.InvT-loop
 Inv-loop n prices budgets plays turns all₀ takings₀ turned₀ i₀ all takings turned i = (i ≤ n) × (every i (λ j. leb (getD prices j 0 * getD plays j 0) (getD budgets j 0)) ≡ true) × (all ≡ sum i (λ j. getD budgets j 0)) × (takings ≡ sum i (λ j. getD prices j 0 * getD plays j 0)) × (turned ≡ sum i (λ j. getD prices j 0 * getD turns j 0)) × (all ≤ i * 4_294_967_296) × (takings ≤ i * 281_474_976_710_656) × (turned ≤ i * 281_474_976_710_656)

@@ -15,14 +15,6 @@ use mathlib.Core.Path.{_≡_, ap₂, sym, _∙_}
 use borrow.Author.Needs.{needs}
 use Rattle.audit.proofs.sums.sum_all.Statement.{statement}
 use Rattle.audit.proofs.sums.sum_all.Tie as tie
-use Rattle.audit.proofs.sums.sum_all.Reads as reads
-use Rattle.audit.proofs.sums.sum_all.Lts as lts
-use Rattle.audit.proofs.columns.ordered_all.Reads as ordered-all-reads
-use Rattle.audit.proofs.columns.priced_all.Reads as priced-all-reads
-use Rattle.audit.proofs.columns.untouched_all.Reads as untouched-all-reads
-use Rattle.audit.proofs.sums.Sums.none.Reads as none-reads
-use Rattle.audit.proofs.sums.spend_all.Reads as spend-all-reads
-use Rattle.audit.proofs.sums.wait_all.Reads as wait-all-reads
 
 abbrev campaigns : tie.Start → ℕ → Campaign
 campaigns s = campaign-at (s .args .prices .now) (s .args .budgets .now) (s .args .plays .now) (s .args .turns .now) (s .args .ages .now) (s .args .named .now)

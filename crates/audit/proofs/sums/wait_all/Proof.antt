@@ -12,11 +12,6 @@ use mathlib.Core.Path.{_≡_, refl, ap, ap₂, _∙_}
 use borrow.Author.Needs.{needs}
 use Rattle.audit.proofs.sums.wait_all.Statement.{statement}
 use Rattle.audit.proofs.sums.wait_all.Tie as tie
-use Rattle.audit.proofs.sums.wait_all.Reads as reads
-use Rattle.audit.proofs.sums.wait_all.Lts as lts
-use Rattle.campaigns.proofs.entry.wide16.Reads as wide16-reads
-use Rattle.campaigns.proofs.entry.wide32.Reads as wide32-reads
-use Rattle.campaigns.proofs.weights.weigh.Reads as weigh-reads
 
 abbrev Inv-loop : tie.InvT-loop
 Inv-loop n plan weights prices ages low sum₀ i₀ sum i = (i ≤ n) × (sum ≡ waited-of plan i prices ages) × (sum ≤ i * 4_294_967_296_000_000)

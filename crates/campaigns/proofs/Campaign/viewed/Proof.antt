@@ -5,10 +5,6 @@ use Rattle.campaigns.specs.Campaign.{can-pay}
 use borrow.Author.Needs.{needs}
 use Rattle.campaigns.proofs.Campaign.viewed.Statement.{statement}
 use Rattle.campaigns.proofs.Campaign.viewed.Tie as tie
-use Rattle.campaigns.proofs.Campaign.viewed.Reads as reads
-use Rattle.campaigns.proofs.Campaign.viewed.Lts as lts
-use Rattle.campaigns.proofs.Campaign.can_pay.Reads as can-pay-reads
-use Rattle.campaigns.proofs.Campaign.named_again.Reads as named-again-reads
 
 able : (c : tie.Else1) → can-pay (c .before .before .args .self) ≡ true
 able c = sym (c .before .can-pay .ensures) ∙ not-false (c .before .can-pay .result) (c .if1 .left)

@@ -1,10 +1,6 @@
 use borrow.Author.Needs.{needs}
 use Rattle.campaigns.proofs.entry.entry.Statement.{statement}
 use Rattle.campaigns.proofs.entry.entry.Tie as tie
-use Rattle.campaigns.proofs.entry.entry.Reads as reads
-use Rattle.campaigns.proofs.entry.entry.Lts as lts
-use Rattle.campaigns.proofs.entry.wide16.Reads as wide16-reads
-use Rattle.campaigns.proofs.entry.wide32.Reads as wide32-reads
 
 mul-wide32 : tie.Need-mul-wide32
 mul-wide32 c = search needs

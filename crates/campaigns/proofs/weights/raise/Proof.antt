@@ -11,8 +11,6 @@ use native.Mathlib.Nat.{pow-zero, pow-suc, pow-le-pow-right, le-trans, mul-comm,
 use mathlib.Core.Path.{_≡_, ap, ap₂, sym, _∙_}
 use Rattle.campaigns.proofs.weights.raise.Statement.{statement}
 use Rattle.campaigns.proofs.weights.raise.Tie as tie
-use Rattle.campaigns.proofs.weights.raise.Reads as reads
-use Rattle.campaigns.proofs.weights.raise.Lts as lts
 
 abbrev Inv-loop : tie.InvT-loop
 Inv-loop list₀ depth width power₀ i₀ i-end list power i = (i ≤ depth + 1) × (power ≡ width ^ i) × ((a : ℕ) → a < i → a ≤ depth → getD list a 0 ≡ weight depth width a) × ((a : ℕ) → i ≤ a → a ≤ depth → getD list a 0 ≡ (width - 1) ^ (depth - a)) × (length list ≡ 33)

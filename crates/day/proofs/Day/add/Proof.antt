@@ -11,11 +11,6 @@ use mathlib.Core.Path.{ap, _∙_}
 use borrow.Author.Needs.{needs}
 use Rattle.day.proofs.Day.add.Statement.{statement}
 use Rattle.day.proofs.Day.add.Tie as tie
-use Rattle.day.proofs.Day.add.Reads as reads
-use Rattle.day.proofs.Day.add.Lts as lts
-use Rattle.day.proofs.Day.add_question.Reads as add-question-reads
-use Rattle.day.proofs.Day.joined.Reads as joined-reads
-use Rattle.day.proofs.Day.refused.Reads as refused-reads
 
 abbrev done : Day → Outcome
 done d = record { day = d; answer = Done }

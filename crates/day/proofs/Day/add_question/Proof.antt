@@ -16,12 +16,6 @@ use mathlib.Core.Path.{_≡_, ap, sym, _∙_}
 use borrow.Author.Needs.{needs}
 use Rattle.day.proofs.Day.add_question.Statement.{statement}
 use Rattle.day.proofs.Day.add_question.Tie as tie
-use Rattle.day.proofs.Day.add_question.Reads as reads
-use Rattle.day.proofs.Day.add_question.Lts as lts
-use Rattle.campaigns.proofs.Terms.budget_fits.Reads as budget-fits-reads
-use Rattle.campaigns.proofs.Terms.price_fits.Reads as price-fits-reads
-use Rattle.day.proofs.Day.audit.Reads as audit-reads
-use Rattle.campaigns.proofs.Phase.filling.Reads as filling-reads
 
 is-sound : (c : tie.Else1) → sound (c .before .before .before .args .self) ≡ true
 is-sound c = sym (audit-sound (c .before .before .before .args .self) (c .before .before .audit .result) (c .before .before .audit .ensures)) ∙ not-false (c .before .before .audit .result .sound) (c .if1 .left)

@@ -5,12 +5,6 @@ use mathlib.Core.Path.{_≡_, sym, _∙_}
 use borrow.Author.Needs.{needs}
 use Rattle.day.proofs.Day.audit.Statement.{statement}
 use Rattle.day.proofs.Day.audit.Tie as tie
-use Rattle.day.proofs.Day.audit.Reads as reads
-use Rattle.day.proofs.Day.audit.Lts as lts
-use Rattle.campaigns.proofs.weights.weights.Reads as weights-reads
-use Rattle.audit.proofs.Audit.unsound.Reads as unsound-reads
-use Rattle.audit.proofs.examine.Reads as examine-reads
-use Rattle.audit.proofs.limits_hold.Reads as limits-hold-reads
 
 limited : (c : tie.Else1) → plan-part (c .before .before .before .args .t1) ≡ true
 limited c = sym (c .before .limits-hold .ensures) ∙ not-false (c .before .limits-hold .result) (c .if1 .left)

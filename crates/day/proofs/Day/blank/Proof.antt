@@ -2,9 +2,6 @@ use Rattle.day.specs.Day.{blank}
 use borrow.Author.Needs.{needs}
 use Rattle.day.proofs.Day.blank.Statement.{statement}
 use Rattle.day.proofs.Day.blank.Tie as tie
-use Rattle.day.proofs.Day.blank.Reads as reads
-use Rattle.day.proofs.Day.blank.Lts as lts
-use Rattle.day.proofs.Day.planned.Reads as planned-reads
 
 planned-requires : tie.Need-planned-requires
 planned-requires c κs = search needs

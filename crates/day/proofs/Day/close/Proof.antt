@@ -17,12 +17,6 @@ use mathlib.Core.Path.{_≡_, ap, sym, _∙_}
 use borrow.Author.Needs.{needs}
 use Rattle.day.proofs.Day.close.Statement.{statement}
 use Rattle.day.proofs.Day.close.Tie as tie
-use Rattle.day.proofs.Day.close.Reads as reads
-use Rattle.day.proofs.Day.close.Lts as lts
-use Rattle.day.proofs.Day.audit.Reads as audit-reads
-use Rattle.day.proofs.Day.in_phase.Reads as in-phase-reads
-use Rattle.day.proofs.Day.refused.Reads as refused-reads
-use Rattle.campaigns.proofs.Phase.running.Reads as running-reads
 
 abbrev done : Day → Audit → Outcome
 done d a = record { day = d; answer = Closing (a .takings) (a .claim) (a .full) }

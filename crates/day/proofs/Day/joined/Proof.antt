@@ -2,8 +2,6 @@ use Rattle.day.proofs.State.{Lengths, sound-facts, joined-is}
 use borrow.Author.Needs.{needs}
 use Rattle.day.proofs.Day.joined.Statement.{statement}
 use Rattle.day.proofs.Day.joined.Tie as tie
-use Rattle.day.proofs.Day.joined.Reads as reads
-use Rattle.day.proofs.Day.joined.Lts as lts
 
 lengths : (s : tie.Start) → Lengths (s .args .t1)
 lengths s = record { prices-length = search needs; budgets-length = search needs; plays-length = search needs; turns-length = search needs; ages-length = search needs; named-length = search needs }

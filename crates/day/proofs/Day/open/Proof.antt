@@ -7,11 +7,6 @@ use mathlib.Core.Path.{ap, _∙_}
 use borrow.Author.Needs.{needs}
 use Rattle.day.proofs.Day.open.Statement.{statement}
 use Rattle.day.proofs.Day.open.Tie as tie
-use Rattle.day.proofs.Day.open.Reads as reads
-use Rattle.day.proofs.Day.open.Lts as lts
-use Rattle.day.proofs.Day.open_question.Reads as open-question-reads
-use Rattle.day.proofs.Day.planned.Reads as planned-reads
-use Rattle.day.proofs.Day.refused.Reads as refused-reads
 
 abbrev done : Day → Outcome
 done d = record { day = d; answer = Done }

@@ -8,11 +8,6 @@ use mathlib.Core.Path.{_≡_, sym, _∙_}
 use borrow.Author.Needs.{needs}
 use Rattle.day.proofs.Day.open_question.Statement.{statement}
 use Rattle.day.proofs.Day.open_question.Tie as tie
-use Rattle.day.proofs.Day.open_question.Reads as reads
-use Rattle.day.proofs.Day.open_question.Lts as lts
-use Rattle.day.proofs.Day.audit.Reads as audit-reads
-use Rattle.campaigns.proofs.Phase.closed.Reads as closed-reads
-use Rattle.day.proofs.ops.plan_question.Reads as plan-question-reads
 
 is-sound : (c : tie.Else1) → sound (c .before .before .before .args .self) ≡ true
 is-sound c = sym (audit-sound (c .before .before .before .args .self) (c .before .before .audit .result) (c .before .before .audit .ensures)) ∙ not-false (c .before .before .audit .result .sound) (c .if1 .left)

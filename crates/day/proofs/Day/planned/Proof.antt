@@ -2,8 +2,6 @@ use Rattle.finite.specs.Finite.{table}
 use mathlib.Core.Path.{refl}
 use Rattle.day.proofs.Day.planned.Statement.{statement}
 use Rattle.day.proofs.Day.planned.Tie as tie
-use Rattle.day.proofs.Day.planned.Reads as reads
-use Rattle.day.proofs.Day.planned.Lts as lts
 
 returns : tie.Need-returns
 unfolding table

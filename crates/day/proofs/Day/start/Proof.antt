@@ -15,12 +15,6 @@ use mathlib.Core.Path.{_≡_, ap, sym, _∙_}
 use borrow.Author.Needs.{needs}
 use Rattle.day.proofs.Day.start.Statement.{statement}
 use Rattle.day.proofs.Day.start.Tie as tie
-use Rattle.day.proofs.Day.start.Reads as reads
-use Rattle.day.proofs.Day.start.Lts as lts
-use Rattle.day.proofs.Day.audit.Reads as audit-reads
-use Rattle.day.proofs.Day.in_phase.Reads as in-phase-reads
-use Rattle.day.proofs.Day.refused.Reads as refused-reads
-use Rattle.campaigns.proofs.Phase.filling.Reads as filling-reads
 
 abbrev done : Day → Outcome
 done d = record { day = d; answer = Done }

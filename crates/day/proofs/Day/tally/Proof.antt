@@ -13,11 +13,6 @@ use mathlib.Core.Path.{_≡_, refl, ap, sym, _∙_}
 use borrow.Author.Needs.{needs}
 use Rattle.day.proofs.Day.tally.Statement.{statement}
 use Rattle.day.proofs.Day.tally.Tie as tie
-use Rattle.day.proofs.Day.tally.Reads as reads
-use Rattle.day.proofs.Day.tally.Lts as lts
-use Rattle.campaigns.proofs.entry.entry.Reads as entry-reads
-use Rattle.day.proofs.Day.audit.Reads as audit-reads
-use Rattle.day.proofs.Day.refused.Reads as refused-reads
 
 abbrev told : Day → Campaign → Outcome
 told s x = record { day = s; answer = tally-of x }

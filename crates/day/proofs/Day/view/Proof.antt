@@ -6,10 +6,6 @@ use mathlib.Core.Path.{_≡_}
 use borrow.Author.Needs.{needs}
 use Rattle.day.proofs.Day.view.Statement.{statement}
 use Rattle.day.proofs.Day.view.Tie as tie
-use Rattle.day.proofs.Day.view.Reads as reads
-use Rattle.day.proofs.Day.view.Lts as lts
-use Rattle.day.proofs.view.counts.Reads as counts-reads
-use Rattle.day.proofs.view.show.Reads as show-reads
 
 prices-length : (s : tie.Start) → length (s .args .t1 .prices) ≡ 64
 prices-length s = search needs

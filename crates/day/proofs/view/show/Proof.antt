@@ -11,12 +11,6 @@ use mathlib.Core.Path.{_≡_, sym, _∙_}
 use borrow.Author.Needs.{needs}
 use Rattle.day.proofs.view.show.Statement.{statement}
 use Rattle.day.proofs.view.show.Tie as tie
-use Rattle.day.proofs.view.show.Reads as reads
-use Rattle.day.proofs.view.show.Lts as lts
-use Rattle.campaigns.proofs.weights.weights.Reads as weights-reads
-use Rattle.audit.proofs.limits_hold.Reads as limits-hold-reads
-use Rattle.audit.proofs.examine.Reads as examine-reads
-use Rattle.day.proofs.view.show_sound.Reads as show-sound-reads
 
 abbrev state : tie.Start → Day
 state s = state-of (s .args .phase) (s .args .plan) (s .args .count) (s .args .accepted) (s .args .prices .now) (s .args .budgets .now) (s .args .plays .now) (s .args .turns .now) (s .args .ages .now) (s .args .named .now)

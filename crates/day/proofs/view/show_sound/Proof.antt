@@ -11,11 +11,6 @@ use mathlib.Core.Path.{_≡_}
 use borrow.Author.Needs.{needs}
 use Rattle.day.proofs.view.show_sound.Statement.{statement}
 use Rattle.day.proofs.view.show_sound.Tie as tie
-use Rattle.day.proofs.view.show_sound.Reads as reads
-use Rattle.day.proofs.view.show_sound.Lts as lts
-use Rattle.views.proofs.play.Reads as play-reads
-use Rattle.day.proofs.view.told.Reads as told-reads
-use Rattle.day.proofs.view.view_question.Reads as view-question-reads
 
 abbrev state : tie.Start → Day
 state s = state-of (s .args .phase) (s .args .plan) (s .args .count) (s .args .accepted) (s .args .prices .now) (s .args .budgets .now) (s .args .plays .now) (s .args .turns .now) (s .args .ages .now) (s .args .named .now)

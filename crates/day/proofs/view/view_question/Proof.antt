@@ -10,11 +10,6 @@ use mathlib.Core.Path.{_≡_, ap, sym, subst, _∙_}
 use borrow.Author.Needs.{needs}
 use Rattle.day.proofs.view.view_question.Statement.{statement}
 use Rattle.day.proofs.view.view_question.Tie as tie
-use Rattle.day.proofs.view.view_question.Reads as reads
-use Rattle.day.proofs.view.view_question.Lts as lts
-use Rattle.campaigns.proofs.Phase.running.Reads as running-reads
-use Rattle.sets.proofs.count.Reads as count-reads
-use Rattle.sets.proofs.next_from.Reads as next-from-reads
 
 runs : (c : tie.Else1) → is-running (c .before .before .args .phase) ≡ true
 runs c = sym (c .before .running .ensures) ∙ not-false (c .before .running .result) (c .if1 .left)

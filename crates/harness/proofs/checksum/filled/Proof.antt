@@ -4,9 +4,6 @@ use Prim.Native.Nat.{_-_, _/_, _≤_}
 use lib.ListN.{length}
 use Rattle.harness.proofs.checksum.filled.Statement.{statement}
 use Rattle.harness.proofs.checksum.filled.Tie as tie
-use Rattle.harness.proofs.checksum.filled.Reads as reads
-use Rattle.harness.proofs.checksum.filled.Lts as lts
-use Rattle.day.proofs.Day.add.Reads as add-reads
 
 abbrev Inv-loop : tie.InvT-loop
 Inv-loop terms day₀ i₀ i-end day i = (i-end ≡ length terms / 2) × (i ≤ i-end)

@@ -2,10 +2,6 @@ use borrow.Author.Needs.{needs}
 use Prim.Native.Nat.{_-_, _≤_}
 use Rattle.harness.proofs.checksum.fold_counts.Statement.{statement}
 use Rattle.harness.proofs.checksum.fold_counts.Tie as tie
-use Rattle.harness.proofs.checksum.fold_counts.Reads as reads
-use Rattle.harness.proofs.checksum.fold_counts.Lts as lts
-use Rattle.harness.proofs.checksum.fold.Reads as fold-reads
-use Rattle.harness.proofs.checksum.wide.Reads as wide-reads
 
 abbrev Inv-loop : tie.InvT-loop
 Inv-loop start day sum₀ i₀ sum i = i ≤ 64

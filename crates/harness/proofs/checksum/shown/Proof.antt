@@ -4,10 +4,6 @@ use Prim.Native.Nat.{_-_, _≤_}
 use lib.ListN.{length}
 use Rattle.harness.proofs.checksum.shown.Statement.{statement}
 use Rattle.harness.proofs.checksum.shown.Tie as tie
-use Rattle.harness.proofs.checksum.shown.Reads as reads
-use Rattle.harness.proofs.checksum.shown.Lts as lts
-use Rattle.day.proofs.Day.view.Reads as view-reads
-use Rattle.harness.proofs.checksum.fold_answer.Reads as fold-answer-reads
 
 abbrev Inv-loop : tie.InvT-loop
 Inv-loop views day₀ sum₀ i₀ i-end day sum i = (i-end ≡ length views) × (i ≤ i-end)

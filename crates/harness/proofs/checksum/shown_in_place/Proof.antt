@@ -11,11 +11,6 @@ use Prim.Native.Nat.{_+_, _-_, _≤_, _<_}
 use mathlib.Core.Path.{_≡_}
 use Rattle.harness.proofs.checksum.shown_in_place.Statement.{statement}
 use Rattle.harness.proofs.checksum.shown_in_place.Tie as tie
-use Rattle.harness.proofs.checksum.shown_in_place.Reads as reads
-use Rattle.harness.proofs.checksum.shown_in_place.Lts as lts
-use Rattle.day.proofs.view.counts.Reads as counts-reads
-use Rattle.day.proofs.view.show.Reads as show-reads
-use Rattle.harness.proofs.checksum.fold_answer.Reads as fold-answer-reads
 
 abbrev Inv-loop : tie.InvT-loop
 Inv-loop views phase plan count prices budgets accepted₀ plays₀ turns₀ ages₀ named₀ sum₀ i₀ i-end accepted plays turns ages named sum i = Entries plays turns ages named × (accepted < 18_446_744_073_709_551_616) × (i ≤ length views)
