@@ -1,11 +1,11 @@
 -- How long numerals, names and lines are.
 use mathlib.Core.Path.{_≡_, refl, sym, ap, _∙_}
-use mathlib.Core.Bool.{Bool, true, false, cond}
+use mathlib.Core.Bool.{Bool, true, false, cond, not}
 use mathlib.Core.List.{List, [], _∷_, _++_, append-assoc}
 use Prim.Native.Nat.{ℕ, zero, suc, _+_, _*_, _-_, _/_, _%_, _^_, _≤_, _<_}
 use native.Mathlib.Omega.{arith}
 use lib.Dec.{eqb}
-use lib.ListN.{length, length-append}
+use lib.ListN.{length, length-append, getD}
 use borrow.Author.Tests.{eq-eqb, ne-eqb}
 use lib.Pow.{field, mod-mod-pow}
 use Rattle.finite.specs.Finite.{one-if, count}
@@ -13,7 +13,7 @@ use Rattle.finite.proofs.Sums.{sum-zero, sum-eq, count-suc, count-skip}
 use Rattle.sets.specs.Set.{member, size, next}
 use Rattle.sets.proofs.Walk.{next-is}
 use Rattle.lines.specs.Numeral.{numeral}
-use Rattle.lines.specs.Form.{names, slotText, template, numbers, piece, after, filled, text}
+use Rattle.lines.specs.Form.{names, isSlot, slotText, template, numbers, piece, after, filled, text}
 use Rattle.lines.specs.declared.Record.{Record}
 use Rattle.lines.proofs.Numerals.{numeral-one, numeral-more}
 use Rattle.lines.proofs.NameSets.{above, names-skip}
@@ -168,3 +168,37 @@ filled-size (b ∷ t) ns = length-append (piece b ns) (filled t (after b ns)) �
 
 pub line-size : (r : Record) → length (line r) ≡ filledSize (template r ++ (10 ∷ [])) (numbers r)
 line-size r = ap length (line-filled r) ∙ filled-size (template r ++ (10 ∷ [])) (numbers r)
+
+-- The same slot by slot: k bytes more where s holds.
+abbrev plus : Bool → ℕ → ℕ → ℕ
+plus true k m = k + m
+plus false k m = m
+
+-- a template's own bytes
+abbrev pub ownSize : List ℕ → ℕ
+ownSize [] = 0
+ownSize (b ∷ t) = plus (not (isSlot b)) 1 (ownSize t)
+
+-- the slots' texts, and m bytes
+abbrev pub slotsSize : List ℕ → List ℕ → ℕ → ℕ
+slotsSize [] ns m = m
+slotsSize (b ∷ t) ns m = plus (isSlot b) (length (piece b ns)) (slotsSize t (after b ns) m)
+
+slots-size : (t ns : List ℕ) (m : ℕ) → length (filled t ns) + m ≡ slotsSize t ns (ownSize t + m)
+unfolding filled piece
+slots-size [] ns m = refl
+slots-size (b ∷ t) ns m =
+    ap (λ (x : ℕ). x + m) (length-append (piece b ns) (filled t (after b ns))) ∙ go (isSlot b) (slots-size t (after b ns))
+  where
+    go : (s : Bool)
+        → ((k : ℕ) → length (filled t (after b ns)) + k ≡ slotsSize t (after b ns) (ownSize t + k))
+        → length (cond s (slotText b (getD ns 0 0)) (b ∷ [])) + length (filled t (after b ns)) + m
+          ≡ plus s (length (cond s (slotText b (getD ns 0 0)) (b ∷ []))) (slotsSize t (after b ns) (plus (not s) 1 (ownSize t) + m))
+    go true ih = omega (arith, ih m)
+    go false ih =
+        let e : 1 + ownSize t + m ≡ ownSize t + (1 + m) = omega arith in
+        omega (arith, ih (1 + m), ap (slotsSize t (after b ns)) e)
+
+pub line-slots : (r : Record) → length (line r) ≡ slotsSize (template r) (numbers r) (ownSize (template r) + 1)
+unfolding line text
+line-slots r = length-append (text r) (10 ∷ []) ∙ slots-size (template r) (numbers r) 1
