@@ -4,7 +4,7 @@ use mathlib.Core.List.{List, _++_}
 use Prim.Native.Nat.{ℕ, _+_, _-_, _≤_}
 use native.Mathlib.Omega.{arith}
 use lib.ListN.{length, take, drop, length-drop}
-use Rattle.writer.specs.Buffer.{Put}
+use Rattle.print.specs.Buffer.{Put}
 use Rattle.day.specs.declared.Day.{Day}
 use Rattle.desk.specs.declared.line.Served.{Served}
 use Rattle.desk.specs.declared.feed.Cursor.{Cursor}

@@ -8,7 +8,7 @@ use lib.Dec.{ltb}
 use lib.ListN.{length, take, drop, length-take, length-drop, drop-of-length-le}
 use lib.Seq.{take-add, drop-drop, take-length}
 use borrow.Author.Tests.{ltb-true, ltb-false}
-use Rattle.writer.specs.Buffer.{Put}
+use Rattle.print.specs.Buffer.{Put}
 use Rattle.day.specs.declared.Day.{Day}
 use Rattle.day.specs.Sound.{sound}
 use Rattle.desk.specs.declared.feed.Cursor.{Cursor}

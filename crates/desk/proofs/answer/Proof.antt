@@ -7,7 +7,7 @@ use lib.ListN.{length}
 use borrow.Author.Needs.{needs}
 use borrow.Author.Tests.{le-leb, lt-leb}
 use Rattle.finite.proofs.Tests.{never}
-use Rattle.writer.proofs.Buffers.{over-front}
+use Rattle.print.proofs.Buffers.{over-front}
 use Rattle.day.specs.declared.Day.{Day}
 use Rattle.desk.specs.declared.Answered.{Answered}
 use Rattle.desk.specs.declared.line.Served.{Served}

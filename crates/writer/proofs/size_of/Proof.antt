@@ -7,9 +7,9 @@ use lib.ListN.{length}
 use borrow.Author.Tests.{leb-true}
 use Rattle.lines.specs.Form.{inSlot, slotText, template, numbers, piece, after, inSlots, inRange}
 use Rattle.lines.specs.declared.Record.{Record}
-use Rattle.writer.specs.declared.Size.{Size}
-use Rattle.writer.specs.Buffer.{Sized}
-use Rattle.writer.proofs.Lengths.{ownSize, slotsSize, line-slots}
+use Rattle.print.specs.declared.Size.{Size}
+use Rattle.writer.specs.Inner.{Sized}
+use Rattle.writer.proofs.Lines.{ownSize, slotsSize, line-slots}
 use Rattle.writer.proofs.size_of.Statement.{statement}
 use Rattle.writer.proofs.size_of.Tie as tie
 

@@ -6,7 +6,7 @@ use native.Mathlib.Omega.{arith}
 use borrow.Author.Needs.{needs}
 use lib.ListN.{length}
 use Rattle.lines.specs.declared.Record.the-variants.{Done, Play, Nobody, Refused, Closed}
-use Rattle.writer.specs.Buffer.{Put}
+use Rattle.print.specs.Buffer.{Put}
 use Rattle.day.specs.declared.Answer.{Answer}
 use Rattle.day.specs.declared.Answer.the-variants.{Refused as refusing, Done as done, Played as played, Nobody as no-one, Tallied as tallied, Closing as closing}
 use Rattle.desk.specs.Desk.{spoken, sayable}

@@ -10,9 +10,9 @@ use Rattle.lines.specs.Form.{inRange}
 use Rattle.writer.specs.declared.Writing.{Writing}
 use Rattle.writer.specs.declared.Writing.the-variants.{Length, Refusal}
 use Rattle.writer.specs.Writing.{line, writing, written}
-use Rattle.writer.specs.Buffer.{over, Put}
+use Rattle.print.specs.Buffer.{over, Put}
 use Rattle.desk.proofs.Over.{over-part, part-is, line-most, writing-is, written-is}
-use Rattle.writer.proofs.Buffers.{over-length}
+use Rattle.print.proofs.Buffers.{over-length}
 use Rattle.desk.proofs.say.send.Statement.{statement}
 use Rattle.desk.proofs.say.send.Tie as tie
 

@@ -5,7 +5,7 @@ use native.Mathlib.Omega.{arith}
 use native.Mathlib.Numerals.{add-one}
 use Rattle.lines.specs.declared.Record.{Record}
 use Rattle.writer.specs.Writing.{line}
-use Rattle.writer.specs.Buffer.{Put}
+use Rattle.print.specs.Buffer.{Put}
 use Rattle.day.specs.declared.Day.{Day}
 use Rattle.desk.specs.Desk.{tally, tallies}
 use Rattle.desk.proofs.Over.{line-most, put-none, put-then}
