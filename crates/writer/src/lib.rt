@@ -1,7 +1,9 @@
 // Bracket lines: the writer of one record into a lent buffer.
 ghost use mathlib.Core.Path.{_≡_};
-ghost use Prim.Native.Nat.{_≤_};
+ghost use mathlib.Core.List.{[], _∷_, _++_};
+ghost use Prim.Native.Nat.{_+_, _≤_};
 ghost use lib.ListN.{length};
+ghost use Rattle.lines.specs.Form.{slotText};
 ghost use Rattle.print.specs.Buffer.{Put};
 ghost use Rattle.writer.specs.Writing.{line, writing, written};
 ghost use Rattle.writer.specs.Inner.{Sized};
@@ -55,48 +57,13 @@ fn size_of(r: Record) -> Size
 
 // Each form is put from its last byte to its first.
 
-fn put_start(out: &mut [u8], to: usize) -> usize
-    requires { ⌜ (length (line Record.Start) ≤ to) × (to ≤ length (now out)) ⌝ }
-    ensures { λ r. ⌜ Put (now (out .entry)) (now (out .exit)) r to (line Record.Start) ⌝ }
-{
-    put(out, to, b"(start)\n")
-}
-
-fn put_close(out: &mut [u8], to: usize) -> usize
-    requires { ⌜ (length (line Record.Close) ≤ to) × (to ≤ length (now out)) ⌝ }
-    ensures { λ r. ⌜ Put (now (out .entry)) (now (out .exit)) r to (line Record.Close) ⌝ }
-{
-    put(out, to, b"(close)\n")
-}
-
-fn put_done(out: &mut [u8], to: usize) -> usize
-    requires { ⌜ (length (line Record.Done) ≤ to) × (to ≤ length (now out)) ⌝ }
-    ensures { λ r. ⌜ Put (now (out .entry)) (now (out .exit)) r to (line Record.Done) ⌝ }
-{
-    put(out, to, b"(ok)\n")
-}
-
-fn put_nobody(out: &mut [u8], to: usize) -> usize
-    requires { ⌜ (length (line Record.Nobody) ≤ to) × (to ≤ length (now out)) ⌝ }
-    ensures { λ r. ⌜ Put (now (out .entry)) (now (out .exit)) r to (line Record.Nobody) ⌝ }
-{
-    put(out, to, b"(nobody)\n")
-}
-
-fn put_view(out: &mut [u8], to: usize, set: u64) -> usize
-    requires { ⌜ (length (line (Record.View set)) ≤ to) × (to ≤ length (now out)) ⌝ }
-    ensures { λ r. ⌜ Put (now (out .entry)) (now (out .exit)) r to (line (Record.View set)) ⌝ }
+// The line of a form with one slot, the last before the closing bracket.
+fn put_one(out: &mut [u8], to: usize, word: &[u8], slot: u8, n: u64) -> usize
+    requires { ⌜ (length (slotText slot n) + (length (now word) + 2) ≤ to) × (to ≤ length (now out)) ⌝ }
+    ensures { λ r. ⌜ Put (now (out .entry)) (now (out .exit)) r to ((now (word .entry) ++ slotText slot n) ++ (41 ∷ 10 ∷ [])) ⌝ }
 {
     let to = put(out, to, b")\n");
-    put_field(out, to, b"(view", b'S', set)
-}
-
-fn put_refused(out: &mut [u8], to: usize, number: u64) -> usize
-    requires { ⌜ (length (line (Record.Refused number)) ≤ to) × (to ≤ length (now out)) ⌝ }
-    ensures { λ r. ⌜ Put (now (out .entry)) (now (out .exit)) r to (line (Record.Refused number)) ⌝ }
-{
-    let to = put(out, to, b")\n");
-    put_field(out, to, b"(refused ", b'R', number)
+    put_field(out, to, word, slot, n)
 }
 
 fn put_plan(out: &mut [u8], to: usize, depth: u64, width: u64) -> usize
@@ -163,13 +130,13 @@ fn put_record(r: Record, out: &mut [u8], to: usize) -> usize
     match r {
         Record::Plan { depth, width } => put_plan(out, to, depth, width),
         Record::Campaign { price, budget } => put_campaign(out, to, price, budget),
-        Record::Start => put_start(out, to),
-        Record::View(set) => put_view(out, to, set),
-        Record::Close => put_close(out, to),
-        Record::Done => put_done(out, to),
+        Record::Start => put(out, to, b"(start)\n"),
+        Record::View(set) => put_one(out, to, b"(view", b'S', set),
+        Record::Close => put(out, to, b"(close)\n"),
+        Record::Done => put(out, to, b"(ok)\n"),
         Record::Play { campaign, paid } => put_play(out, to, campaign, paid),
-        Record::Nobody => put_nobody(out, to),
-        Record::Refused(number) => put_refused(out, to, number),
+        Record::Nobody => put(out, to, b"(nobody)\n"),
+        Record::Refused(number) => put_one(out, to, b"(refused ", b'R', number),
         Record::Closed {
             takings,
             claim,
