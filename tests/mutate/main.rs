@@ -17,7 +17,7 @@ use std::io::Write;
 use std::path::{Path, PathBuf};
 use std::process::Command;
 
-const CRATES: [&str; 8] = ["sets", "powers", "campaigns", "day", "lines", "writer", "desk", "replay"];
+const CRATES: [&str; 9] = ["sets", "powers", "campaigns", "day", "lines", "print", "writer", "desk", "replay"];
 
 pub struct Mutant {
     pub id: String,

@@ -106,9 +106,6 @@ Room m to k = (k ≤ to) × (to ≤ m)
 pub left : (k : ℕ) {d e : List ℕ} {at to : ℕ} {w : List ℕ} → Put d e at to w → Room (length d) to (k + length w) → Room (length e) at k
 left k p h = (omega (arith, p .next, h .0), omega (arith, p .next, p .same, h .1))
 
-pub left-both : (k : ℕ) (u w : List ℕ) {d e : List ℕ} {at to : ℕ} → Put d e at to (u ++ w) → Room (length d) to (k + (length u + length w)) → Room (length e) at k
-left-both k u w p h = (omega (arith, p .next, length-append u w, h .0), omega (arith, p .next, p .same, h .1))
-
 -- the room of what stands last
 pub last : (k j : ℕ) {m to : ℕ} → Room m to (k + j) → Room m to j
 last k j h = (omega (arith, h .0), h .1)

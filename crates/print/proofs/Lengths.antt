@@ -1,4 +1,4 @@
--- How long numerals, names and lines are.
+-- How long numerals and names are.
 use mathlib.Core.Path.{_≡_, refl, sym, ap, _∙_}
 use mathlib.Core.Bool.{Bool, true, false, cond}
 use mathlib.Core.List.{List, [], _∷_, _++_}

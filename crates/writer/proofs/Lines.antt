@@ -1,5 +1,5 @@
 -- How long lines are.
-use mathlib.Core.Path.{_≡_, refl, sym, ap, _∙_}
+use mathlib.Core.Path.{_≡_, refl, sym, ap, _∙_, subst}
 use mathlib.Core.Bool.{Bool, true, false, cond, not}
 use mathlib.Core.List.{List, [], _∷_, _++_, append-assoc}
 use Prim.Native.Nat.{ℕ, _+_}
@@ -9,7 +9,7 @@ use lib.ListN.{length, length-append, getD}
 use Rattle.lines.specs.Form.{bytes, isSlot, slotText, template, numbers, piece, after, filled, text}
 use Rattle.lines.specs.declared.Record.{Record}
 use Rattle.print.specs.Buffer.{Put}
-use Rattle.print.proofs.Buffers.{Room, left-both}
+use Rattle.print.proofs.Buffers.{Room, left}
 use Rattle.writer.specs.Writing.{line}
 
 filled-end : (t ns : List ℕ) → filled (t ++ (10 ∷ [])) ns ≡ filled t ns ++ (10 ∷ [])
@@ -63,4 +63,4 @@ field word slot n = length (bytes word) + length (slotText slot n)
 -- the room that is left before them
 pub left-field : (k : ℕ) (word : String) (slot n : ℕ) {d e : List ℕ} {at to : ℕ}
     → Put d e at to (bytes word ++ slotText slot n) → Room (length d) to (k + field word slot n) → Room (length e) at k
-left-field k word slot n p h = left-both k (bytes word) (slotText slot n) p h
+left-field k word slot n {d} {e} {at} {to} p h = left k p (subst (λ (x : ℕ). Room (length d) to (k + x)) (sym (length-append (bytes word) (slotText slot n))) h)
