@@ -17,7 +17,8 @@ use std::io::Write;
 use std::path::{Path, PathBuf};
 use std::process::Command;
 
-const CRATES: [&str; 12] = ["sets", "powers", "campaigns", "audit", "views", "day", "lines", "writer", "reply", "stretch", "desk", "replay"];
+const CRATES: [&str; 13] =
+    ["sets", "powers", "campaigns", "audit", "views", "day", "lines", "print", "writer", "reply", "stretch", "desk", "replay"];
 
 pub struct Mutant {
     pub id: String,

@@ -8,8 +8,8 @@ use lib.Dec.{leb}
 use lib.ListN.{length, take, drop, length-take}
 use lib.Seq.{take-all}
 use borrow.Author.Tests.{le-leb, lt-leb, leb-true, leb-false}
-use Rattle.writer.specs.Buffer.{Put}
-use Rattle.writer.proofs.Buffers.{over-front}
+use Rattle.print.specs.Buffer.{Put}
+use Rattle.print.proofs.Buffers.{over-front}
 use Rattle.reply.specs.declared.line.Served.{Served}
 use Rattle.reply.specs.Reply.{reply, next, Serves}
 use Rattle.stretch.specs.declared.Cursor.{Cursor}

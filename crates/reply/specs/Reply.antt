@@ -12,7 +12,7 @@ use Rattle.lines.specs.declared.Reading.the-variants.{Got, Refusal}
 use Rattle.lines.specs.Form.{inRange}
 use Rattle.lines.specs.Reading.{reading}
 use Rattle.writer.specs.Writing.{line}
-use Rattle.writer.specs.Buffer.{Put}
+use Rattle.print.specs.Buffer.{Put}
 use Rattle.day.specs.declared.Answer.{Answer}
 use Rattle.day.specs.declared.Answer.the-variants.{Refused as refusing, Done as done, Played as played, Nobody as no-one, Tallied as tallied, Closing as closing}
 use Rattle.day.specs.declared.Day.{Day}

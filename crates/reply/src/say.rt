@@ -9,7 +9,7 @@ ghost use Prim.Native.Nat.{_+_, _≤_, _<_};
 ghost use lib.ListN.{length};
 ghost use Rattle.lines.specs.Form.{inRange};
 ghost use Rattle.writer.specs.Writing.{line};
-ghost use Rattle.writer.specs.Buffer.{Put};
+ghost use Rattle.print.specs.Buffer.{Put};
 ghost use Rattle.reply.specs.Reply.{tally, tallies, spoken, is-closing, sayable};
 
 // The record's line at the place at. The callers know its numbers to be in range, and the room.

@@ -5,7 +5,7 @@ use Prim.Native.Nat.{ℕ, suc, _+_, _≤_, _<_}
 use native.Mathlib.Omega.{arith}
 use lib.ListN.{length, take, drop, length-take, length-drop}
 use lib.Seq.{take-add, drop-drop}
-use Rattle.writer.specs.Buffer.{Put}
+use Rattle.print.specs.Buffer.{Put}
 use Rattle.day.specs.declared.Day.{Day}
 use Rattle.reply.specs.Reply.{reply, next}
 use Rattle.reply.proofs.Over.{put-then}

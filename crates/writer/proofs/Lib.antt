@@ -1,3 +1,2 @@
-pub mod Buffers
-pub mod Lengths
+pub mod Lines
 pub mod Numbers

@@ -1,9 +1,8 @@
-use mathlib.Core.Path.{_≡_, ap, sym, _∙_}
+use mathlib.Core.Path.{_≡_, refl, ap, sym, _∙_}
 use mathlib.Core.List.{List}
 use Prim.Native.Nat.{ℕ, _≤_}
-use native.Mathlib.Omega.{arith}
+use lib.Dec.{lit≤}
 use lib.ListN.{length, getD}
-use borrow.Author.Needs.{needs}
 use borrow.Author.Tests.{lt-ltb, ne-eqb}
 use Rattle.lines.specs.declared.Record.{Record}
 use Rattle.lines.specs.declared.Record.the-variants.{Plan, Campaign, Start, View, Close, Done, Play, Nobody, Refused, Closed, Tally}
@@ -32,13 +31,13 @@ view c =
     let b = c .before .before .before .before in
     let l = b .before .before .before .before .args .s .now in
     let x = c .before .before .field .ensures in
-    answers l (View 0) (omega arith) (simp (sym (b .before .byte .ensures) ∙ b .match .keys1)) (rw (← place-start l, ← x .end, ← x .number) (c .ended .ensures))
+    answers l (View 0) (c .before .before .before .before .before .before .if1 .left) (simp (sym (b .before .byte .ensures) ∙ b .match .keys1)) (rw (← place-start l, ← x .end, ← x .number) (c .ended .ensures))
 
 plan : tie.Need-returns-3
 unfolding chosen
 plan c =
     let l = c .before .before .before .before .before .before .before .args .s .now in
-    answers l (Plan 0 0) (omega arith) (simp (
+    answers l (Plan 0 0) (c .before .before .before .before .before .if1 .left) (simp (
       sym (c .before .before .before .before .byte .ensures) ∙ c .before .before .before .match .keys2,
       sym (c .before .before .byte2 .ensures) ∙ c .before .match2 .keys1,
     )) (c .read-plan .ensures)
@@ -47,7 +46,7 @@ play : tie.Need-returns-4
 unfolding chosen
 play c =
     let l = c .before .before .before .before .before .before .before .args .s .now in
-    answers l (Play 0 0) (omega arith) (simp (
+    answers l (Play 0 0) (c .before .before .before .before .before .if1 .left) (simp (
       sym (c .before .before .before .before .byte .ensures) ∙ c .before .before .before .match .keys2,
       ne-eqb (getD l 4 0) 110 (λ p. c .before .match2 .rest .1 (c .before .before .byte2 .ensures ∙ p)),
     )) (c .read-play .ensures)
@@ -56,7 +55,7 @@ close : tie.Need-returns-5
 unfolding chosen heldOr template restOf numbersOf step made stripped
 close c =
     let l = c .before .before .before .before .before .before .before .before .args .s .now in
-    answers l Close (omega arith) (simp (
+    answers l Close (c .before .before .before .before .before .before .if1 .left) (simp (
       sym (c .before .before .before .before .before .byte .ensures) ∙ c .before .before .before .before .match .keys3,
       sym (c .before .before .before .byte3 .ensures) ∙ c .before .before .match3 .keys1,
     )) (c .ended2 .ensures ∙ rw place-start)
@@ -65,7 +64,7 @@ closed : tie.Need-returns-6
 unfolding chosen
 closed c =
     let l = c .before .before .before .before .before .before .before .args .s .now in
-    answers l (Closed 0 0 0) (omega arith) (simp (
+    answers l (Closed 0 0 0) (c .before .before .before .before .before .if1 .left) (simp (
       sym (c .before .before .before .before .byte .ensures) ∙ c .before .before .before .match .keys3,
       sym (c .before .before .byte3 .ensures) ∙ c .before .match3 .keys2,
     )) (c .read-closed .ensures)
@@ -74,7 +73,7 @@ campaign : tie.Need-returns-7
 unfolding chosen
 campaign c =
     let l = c .before .before .before .before .before .before .before .args .s .now in
-    answers l (Campaign 0 0) (omega arith) (simp (
+    answers l (Campaign 0 0) (c .before .before .before .before .before .if1 .left) (simp (
       sym (c .before .before .before .before .byte .ensures) ∙ c .before .before .before .match .keys3,
       ne-eqb (getD l 6 0) 41 (λ p. c .before .match3 .rest .0 .1 (c .before .before .byte3 .ensures ∙ p)),
       ne-eqb (getD l 6 0) 100 (λ p. c .before .match3 .rest .1 (c .before .before .byte3 .ensures ∙ p)),
@@ -84,19 +83,19 @@ start : tie.Need-returns-8
 unfolding chosen heldOr template restOf numbersOf step made stripped
 start c =
     let l = c .before .before .before .before .before .before .args .s .now in
-    answers l Start (omega arith) (simp (sym (c .before .before .before .byte .ensures) ∙ c .before .before .match .keys4)) (c .ended3 .ensures ∙ rw place-start)
+    answers l Start (c .before .before .before .before .if1 .left) (simp (sym (c .before .before .before .byte .ensures) ∙ c .before .before .match .keys4)) (c .ended3 .ensures ∙ rw place-start)
 
 ok : tie.Need-returns-9
 unfolding chosen heldOr template restOf numbersOf step made stripped
 ok c =
     let l = c .before .before .before .before .before .before .args .s .now in
-    answers l Done (omega arith) (simp (sym (c .before .before .before .byte .ensures) ∙ c .before .before .match .keys5)) (c .ended4 .ensures ∙ rw place-start)
+    answers l Done (c .before .before .before .before .if1 .left) (simp (sym (c .before .before .before .byte .ensures) ∙ c .before .before .match .keys5)) (c .ended4 .ensures ∙ rw place-start)
 
 nobody : tie.Need-returns-10
 unfolding chosen heldOr template restOf numbersOf step made stripped
 nobody c =
     let l = c .before .before .before .before .before .before .args .s .now in
-    answers l Nobody (omega arith) (simp (sym (c .before .before .before .byte .ensures) ∙ c .before .before .match .keys6)) (c .ended5 .ensures ∙ rw place-start)
+    answers l Nobody (c .before .before .before .before .if1 .left) (simp (sym (c .before .before .before .byte .ensures) ∙ c .before .before .match .keys6)) (c .ended5 .ensures ∙ rw place-start)
 
 refused : tie.Need-returns-11
 unfolding chosen heldOr template restOf numbersOf step made stripped
@@ -104,13 +103,13 @@ refused c =
     let b = c .before .before .before .before in
     let l = b .before .before .before .before .args .s .now in
     let x = c .before .before .field2 .ensures in
-    answers l (Refused 0) (omega arith) (simp (sym (b .before .byte .ensures) ∙ b .match .keys7)) (rw (← place-start l, ← x .end, ← x .number) (c .ended6 .ensures))
+    answers l (Refused 0) (c .before .before .before .before .before .before .if1 .left) (simp (sym (b .before .byte .ensures) ∙ b .match .keys7)) (rw (← place-start l, ← x .end, ← x .number) (c .ended6 .ensures))
 
 tally : tie.Need-returns-12
 unfolding chosen
 tally c =
     let l = c .before .before .before .before .before .args .s .now in
-    answers l (Tally 0 0 0 0 0) (omega arith) (simp (
+    answers l (Tally 0 0 0 0 0) (c .before .before .before .if1 .left) (simp (
       ne-eqb (getD l 1 0) 118 (λ p. c .before .match .rest .0 .0 .0 .0 .0 .0 .1 (c .before .before .byte .ensures ∙ p)),
       ne-eqb (getD l 1 0) 112 (λ p. c .before .match .rest .0 .0 .0 .0 .0 .1 (c .before .before .byte .ensures ∙ p)),
       ne-eqb (getD l 1 0) 99 (λ p. c .before .match .rest .0 .0 .0 .0 .1 (c .before .before .byte .ensures ∙ p)),
@@ -126,29 +125,29 @@ read-line-spec =
     (tie.spec
     too-long
     (λ c κs. tt)
-    (λ c. search needs)
-    (λ c κs. (omega arith, omega arith))
-    (λ c. search needs)
-    (λ c κs. omega arith)
+    (λ c. refl)
+    (λ c κs. (c .before .before .before .if1 .left, lit≤ tt))
+    (λ c. refl)
+    (λ c κs. c .before .before .before .before .before .if1 .left)
     (λ c κs. tt)
-    (λ c κs. omega arith)
-    (λ c κs. omega arith)
+    (λ c κs. c .before .before .before .before .if1 .left)
+    (λ c κs. c .before .before .before .before .if1 .left)
     (λ c κs. tt)
-    (λ c. search needs)
-    (λ c κs. omega arith)
-    (λ c κs. omega arith)
-    (λ c κs. omega arith)
-    (λ c. search needs)
-    (λ c κs. omega arith)
-    (λ c. search needs)
-    (λ c κs. omega arith)
-    (λ c. search needs)
-    (λ c κs. omega arith)
-    (λ c. search needs)
-    (λ c κs. (omega arith, omega arith))
-    (λ c. search needs)
-    (λ c κs. omega arith)
-    (λ c κs. omega arith)
+    (λ c. refl)
+    (λ c κs. c .before .before .before .before .before .if1 .left)
+    (λ c κs. c .before .before .before .before .if1 .left)
+    (λ c κs. c .before .before .before .before .if1 .left)
+    (λ c. refl)
+    (λ c κs. c .before .before .before .if1 .left)
+    (λ c. refl)
+    (λ c κs. c .before .before .before .if1 .left)
+    (λ c. refl)
+    (λ c κs. c .before .before .before .if1 .left)
+    (λ c. refl)
+    (λ c κs. (c .before .before .before .if1 .left, lit≤ tt))
+    (λ c. refl)
+    (λ c κs. c .before .before .before .before .before .if1 .left)
+    (λ c κs. c .before .before .if1 .left)
     view
     plan
     play

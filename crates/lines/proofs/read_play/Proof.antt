@@ -1,4 +1,5 @@
-use borrow.Author.Needs.{needs}
+use mathlib.Core.Path.{refl}
+use lib.Dec.{lit≤}
 use Rattle.lines.specs.Form.{template}
 use Rattle.lines.specs.Reading.{step, restOf, numbersOf, made, heldOr}
 use Rattle.lines.specs.Place.{stripped}
@@ -11,12 +12,12 @@ unfolding heldOr template restOf numbersOf step made stripped
 read-play-spec =
     tie.close
     (tie.spec
-    (λ c. search needs)
-    (λ c κs. search needs)
-    (λ c. search needs)
-    (λ c κs. search needs)
-    (λ c. search needs)
-    (λ c κs. search needs)
+    (λ c. refl)
+    (λ c κs. (c .before .before .pre, lit≤ tt))
+    (λ c. refl)
+    (λ c κs. (c .before .before .before .before .pre, lit≤ tt))
+    (λ c. refl)
+    (λ c κs. c .before .before .before .before .before .before .pre)
     (λ c.
     let a = c .before .before .before .before .before .before .before .args in
     let x1 = c .before .before .before .before .field .ensures in

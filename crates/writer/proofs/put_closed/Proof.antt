@@ -1,41 +1,67 @@
-use mathlib.Core.Path.{sym, subst}
+use mathlib.Core.Path.{_≡_, refl, sym, subst}
+use Prim.Native.Nat.{ℕ, _+_, _≤_}
 use native.Mathlib.Omega.{arith}
-use borrow.Author.Needs.{needs}
-use Rattle.lines.specs.Form.{template, numbers, piece, after, filled}
+use lib.ListN.{length}
+use Rattle.lines.specs.Form.{slotText, template, numbers, piece, after, filled}
 use Rattle.lines.specs.declared.Record.the-variants.{Closed}
-use Rattle.writer.specs.Buffer.{Put}
-use Rattle.writer.proofs.Buffers.{before}
-use Rattle.writer.proofs.Lengths.{line-filled}
+use Rattle.print.specs.Buffer.{Put}
+use Rattle.print.proofs.Buffers.{Room, left, last, before}
+use Rattle.writer.specs.Writing.{line}
+use Rattle.writer.proofs.Lines.{field, left-field, line-filled, line-slots}
 use Rattle.writer.proofs.put_closed.Statement.{statement}
 use Rattle.writer.proofs.put_closed.Tie as tie
+
+sizes : (takings claim full : ℕ) → length (line (Closed takings claim full)) ≡ field "(closed (takings " 77 takings + field ") (claim " 77 claim + field ") (full " 77 full + 3
+unfolding template numbers piece after
+sizes takings claim full =
+    let e : length (line (Closed takings claim full)) ≡ length (slotText 77 takings) + (length (slotText 77 claim) + (length (slotText 77 full) + 37)) = line-slots (Closed takings claim full) in
+    omega (arith, e)
+
+room : (c : tie.Start) → let a = c .args in Room (length (a .out .now)) (a .to) (field "(closed (takings " 77 (a .takings) + field ") (claim " 77 (a .claim) + field ") (full " 77 (a .full) + 3)
+room c = let a = c .args in (subst (λ (x : ℕ). x ≤ a .to) (sizes (a .takings) (a .claim) (a .full)) (c .pre .0), c .pre .1)
 
 pub put-closed-spec : {M : Type 1} → statement M
 unfolding template numbers filled piece after
 put-closed-spec =
     tie.close
     (tie.spec
-    (λ c. search needs)
-    (λ c κs. omega arith)
-    (λ c κs. omega arith)
-    (λ c. search needs)
-    (λ c κs. omega arith)
-    (λ c κs. omega arith)
-    (λ c. search needs)
-    (λ c κs. omega arith)
-    (λ c κs. omega arith)
-    (λ c. search needs)
+    (λ c. refl)
     (λ c κs.
-    let s2 = c .before .before .before .before .before .before .before .before .before .before .before .before .before in
-    let p1 = s2 .before .before .before .before .before .before .before .before .before .before .before .before .before in
-    omega (arith, p1 .put .ensures .next, p1 .put .ensures .same, p1 .before .before .before .before .pre))
-    (λ c. search needs)
+    let s = c .before .before .before in
+    let a = s .args in
+    last (field "(closed (takings " 77 (a .takings) + field ") (claim " 77 (a .claim) + field ") (full " 77 (a .full)) 3 (room s))
+    (λ c. refl)
+    (λ c κs.
+    let p0 = c .before .before .before .before in
+    let s = p0 .before .before .before .before in
+    let a = s .args in
+    last (field "(closed (takings " 77 (a .takings) + field ") (claim " 77 (a .claim)) (field ") (full " 77 (a .full)) (left (field "(closed (takings " 77 (a .takings) + field ") (claim " 77 (a .claim) + field ") (full " 77 (a .full)) (p0 .put .ensures) (room s)))
+    (λ c. refl)
+    (λ c κs.
+    let p1 = c .before .before .before .before in
+    let p0 = p1 .before .before .before .before .before in
+    let s = p0 .before .before .before .before in
+    let a = s .args in
+    last (field "(closed (takings " 77 (a .takings)) (field ") (claim " 77 (a .claim)) (left-field (field "(closed (takings " 77 (a .takings) + field ") (claim " 77 (a .claim)) ") (full " 77 (a .full) (p1 .put-field .ensures) (left (field "(closed (takings " 77 (a .takings) + field ") (claim " 77 (a .claim) + field ") (full " 77 (a .full)) (p0 .put .ensures) (room s))))
+    (λ c. refl)
+    (λ c κs.
+    let p2 = c .before .before .before .before in
+    let p1 = p2 .before .before .before .before .before in
+    let p0 = p1 .before .before .before .before .before in
+    let s = p0 .before .before .before .before in
+    let a = s .args in
+    left-field (field "(closed (takings " 77 (a .takings)) ") (claim " 77 (a .claim) (p2 .put-field2 .ensures) (left-field (field "(closed (takings " 77 (a .takings) + field ") (claim " 77 (a .claim)) ") (full " 77 (a .full) (p1 .put-field .ensures) (left (field "(closed (takings " 77 (a .takings) + field ") (claim " 77 (a .claim) + field ") (full " 77 (a .full)) (p0 .put .ensures) (room s))))
     (λ c.
-    let p4 = c .before .before in
-    let s3 = p4 .before .before .before .before .before in
-    let p3 = s3 .before .before .before .before in
-    let s2 = p3 .before .before .before .before .before in
-    let p2 = s2 .before .before .before .before in
-    let s1 = p2 .before .before .before .before .before in
-    let p1 = s1 .before .before .before .before in
-    let a = p1 .before .before .before .before .args in
-    subst (Put (a .out .now) _ _ (a .to)) (sym (line-filled (Closed (a .takings) (a .claim) (a .full)))) (before (before (before (before (before (before (p1 .put .ensures) (s1 .put-slot .ensures)) (p2 .put2 .ensures)) (s2 .put-slot2 .ensures)) (p3 .put3 .ensures)) (s3 .put-slot3 .ensures)) (p4 .put4 .ensures))))
+    let p3 = c .before .before in
+    let p2 = p3 .before .before .before .before .before in
+    let p1 = p2 .before .before .before .before .before in
+    let p0 = p1 .before .before .before .before .before in
+    (before (before (before (p0 .put .ensures) (p1 .put-field .ensures)) (p2 .put-field2 .ensures)) (p3 .put-field3 .ensures)) .same)
+    (λ c.
+    let p3 = c .before .before in
+    let p2 = p3 .before .before .before .before .before in
+    let p1 = p2 .before .before .before .before .before in
+    let p0 = p1 .before .before .before .before .before in
+    let a = p0 .before .before .before .before .args in
+    subst (Put (a .out .now) _ _ (a .to)) (sym (line-filled (Closed (a .takings) (a .claim) (a .full))))
+    (before (before (before (p0 .put .ensures) (p1 .put-field .ensures)) (p2 .put-field2 .ensures)) (p3 .put-field3 .ensures))))

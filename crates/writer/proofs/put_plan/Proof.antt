@@ -1,33 +1,57 @@
-use mathlib.Core.Path.{sym, subst}
+use mathlib.Core.Path.{_≡_, refl, sym, subst}
+use Prim.Native.Nat.{ℕ, _+_, _≤_}
 use native.Mathlib.Omega.{arith}
-use borrow.Author.Needs.{needs}
-use Rattle.lines.specs.Form.{template, numbers, piece, after, filled}
+use lib.ListN.{length}
+use Rattle.lines.specs.Form.{slotText, template, numbers, piece, after, filled}
 use Rattle.lines.specs.declared.Record.the-variants.{Plan}
-use Rattle.writer.specs.Buffer.{Put}
-use Rattle.writer.proofs.Buffers.{before}
-use Rattle.writer.proofs.Lengths.{line-filled}
+use Rattle.print.specs.Buffer.{Put}
+use Rattle.print.proofs.Buffers.{Room, left, last, before}
+use Rattle.writer.specs.Writing.{line}
+use Rattle.writer.proofs.Lines.{field, left-field, line-filled, line-slots}
 use Rattle.writer.proofs.put_plan.Statement.{statement}
 use Rattle.writer.proofs.put_plan.Tie as tie
+
+sizes : (depth width : ℕ) → length (line (Plan depth width)) ≡ field "(plan (depth " 78 depth + field ") (width " 78 width + 3
+unfolding template numbers piece after
+sizes depth width =
+    let e : length (line (Plan depth width)) ≡ length (slotText 78 depth) + (length (slotText 78 width) + 25) = line-slots (Plan depth width) in
+    omega (arith, e)
+
+room : (c : tie.Start) → let a = c .args in Room (length (a .out .now)) (a .to) (field "(plan (depth " 78 (a .depth) + field ") (width " 78 (a .width) + 3)
+room c = let a = c .args in (subst (λ (x : ℕ). x ≤ a .to) (sizes (a .depth) (a .width)) (c .pre .0), c .pre .1)
 
 pub put-plan-spec : {M : Type 1} → statement M
 unfolding template numbers filled piece after
 put-plan-spec =
     tie.close
     (tie.spec
-    (λ c. search needs)
-    (λ c κs. omega arith)
-    (λ c κs. omega arith)
-    (λ c. search needs)
-    (λ c κs. omega arith)
-    (λ c κs. omega arith)
-    (λ c. search needs)
-    (λ c κs. omega arith)
-    (λ c. search needs)
+    (λ c. refl)
+    (λ c κs.
+    let s = c .before .before .before in
+    let a = s .args in
+    last (field "(plan (depth " 78 (a .depth) + field ") (width " 78 (a .width)) 3 (room s))
+    (λ c. refl)
+    (λ c κs.
+    let p0 = c .before .before .before .before in
+    let s = p0 .before .before .before .before in
+    let a = s .args in
+    last (field "(plan (depth " 78 (a .depth)) (field ") (width " 78 (a .width)) (left (field "(plan (depth " 78 (a .depth) + field ") (width " 78 (a .width)) (p0 .put .ensures) (room s)))
+    (λ c. refl)
+    (λ c κs.
+    let p1 = c .before .before .before .before in
+    let p0 = p1 .before .before .before .before .before in
+    let s = p0 .before .before .before .before in
+    let a = s .args in
+    left-field (field "(plan (depth " 78 (a .depth)) ") (width " 78 (a .width) (p1 .put-field .ensures) (left (field "(plan (depth " 78 (a .depth) + field ") (width " 78 (a .width)) (p0 .put .ensures) (room s)))
     (λ c.
-    let p3 = c .before .before in
-    let s2 = p3 .before .before .before .before .before in
-    let p2 = s2 .before .before .before .before in
-    let s1 = p2 .before .before .before .before .before in
-    let p1 = s1 .before .before .before .before in
-    let a = p1 .before .before .before .before .args in
-    subst (Put (a .out .now) _ _ (a .to)) (sym (line-filled (Plan (a .depth) (a .width)))) (before (before (before (before (p1 .put .ensures) (s1 .put-slot .ensures)) (p2 .put2 .ensures)) (s2 .put-slot2 .ensures)) (p3 .put3 .ensures))))
+    let p2 = c .before .before in
+    let p1 = p2 .before .before .before .before .before in
+    let p0 = p1 .before .before .before .before .before in
+    (before (before (p0 .put .ensures) (p1 .put-field .ensures)) (p2 .put-field2 .ensures)) .same)
+    (λ c.
+    let p2 = c .before .before in
+    let p1 = p2 .before .before .before .before .before in
+    let p0 = p1 .before .before .before .before .before in
+    let a = p0 .before .before .before .before .args in
+    subst (Put (a .out .now) _ _ (a .to)) (sym (line-filled (Plan (a .depth) (a .width))))
+    (before (before (p0 .put .ensures) (p1 .put-field .ensures)) (p2 .put-field2 .ensures))))

@@ -1,37 +1,90 @@
-use mathlib.Core.Path.{sym, subst}
-use mathlib.Core.List.{append-assoc}
+use mathlib.Core.Path.{_≡_, refl, sym, subst}
+use Prim.Native.Nat.{ℕ, _+_, _≤_}
 use native.Mathlib.Omega.{arith}
-use borrow.Author.Needs.{needs}
-use Rattle.lines.specs.Form.{template, numbers, piece, after, filled}
+use lib.ListN.{length}
+use Rattle.lines.specs.Form.{slotText, template, numbers, piece, after, filled}
 use Rattle.lines.specs.declared.Record.the-variants.{Tally}
-use Rattle.writer.specs.Buffer.{Put}
-use Rattle.writer.proofs.Buffers.{before}
-use Rattle.writer.proofs.Lengths.{line-filled}
+use Rattle.print.specs.Buffer.{Put}
+use Rattle.print.proofs.Buffers.{Room, left, last, before}
+use Rattle.writer.specs.Writing.{line}
+use Rattle.writer.proofs.Lines.{field, left-field, line-filled, line-slots}
 use Rattle.writer.proofs.put_tally.Statement.{statement}
 use Rattle.writer.proofs.put_tally.Tie as tie
+
+sizes : (campaign plays turns age named : ℕ) → length (line (Tally campaign plays turns age named)) ≡ field "(tally " 67 campaign + field " (plays " 78 plays + field ") (turns " 78 turns + field ") (age " 78 age + field ") (named " 78 named + 3
+unfolding template numbers piece after
+sizes campaign plays turns age named =
+    let e : length (line (Tally campaign plays turns age named)) ≡ length (slotText 67 campaign) + (length (slotText 78 plays) + (length (slotText 78 turns) + (length (slotText 78 age) + (length (slotText 78 named) + 43)))) = line-slots (Tally campaign plays turns age named) in
+    omega (arith, e)
+
+room : (c : tie.Start) → let a = c .args in Room (length (a .out .now)) (a .to) (field "(tally " 67 (a .campaign) + field " (plays " 78 (a .plays) + field ") (turns " 78 (a .turns) + field ") (age " 78 (a .age) + field ") (named " 78 (a .named) + 3)
+room c = let a = c .args in (subst (λ (x : ℕ). x ≤ a .to) (sizes (a .campaign) (a .plays) (a .turns) (a .age) (a .named)) (c .pre .0), c .pre .1)
 
 pub put-tally-spec : {M : Type 1} → statement M
 unfolding template numbers filled piece after
 put-tally-spec =
     tie.close
     (tie.spec
-    (λ c. search needs)
-    (λ c κs. omega arith)
-    (λ c κs. omega arith)
-    (λ c. search needs)
-    (λ c κs. omega arith)
-    (λ c κs. omega arith)
-    (λ c. search needs)
-    (λ c κs. omega arith)
-    (λ c κs. omega arith)
-    (λ c. search needs)
+    (λ c. refl)
+    (λ c κs.
+    let s = c .before .before .before in
+    let a = s .args in
+    last (field "(tally " 67 (a .campaign) + field " (plays " 78 (a .plays) + field ") (turns " 78 (a .turns) + field ") (age " 78 (a .age) + field ") (named " 78 (a .named)) 3 (room s))
+    (λ c. refl)
+    (λ c κs.
+    let p0 = c .before .before .before .before in
+    let s = p0 .before .before .before .before in
+    let a = s .args in
+    last (field "(tally " 67 (a .campaign) + field " (plays " 78 (a .plays) + field ") (turns " 78 (a .turns) + field ") (age " 78 (a .age)) (field ") (named " 78 (a .named)) (left (field "(tally " 67 (a .campaign) + field " (plays " 78 (a .plays) + field ") (turns " 78 (a .turns) + field ") (age " 78 (a .age) + field ") (named " 78 (a .named)) (p0 .put .ensures) (room s)))
+    (λ c. refl)
+    (λ c κs.
+    let p1 = c .before .before .before .before in
+    let p0 = p1 .before .before .before .before .before in
+    let s = p0 .before .before .before .before in
+    let a = s .args in
+    last (field "(tally " 67 (a .campaign) + field " (plays " 78 (a .plays) + field ") (turns " 78 (a .turns)) (field ") (age " 78 (a .age)) (left-field (field "(tally " 67 (a .campaign) + field " (plays " 78 (a .plays) + field ") (turns " 78 (a .turns) + field ") (age " 78 (a .age)) ") (named " 78 (a .named) (p1 .put-field .ensures) (left (field "(tally " 67 (a .campaign) + field " (plays " 78 (a .plays) + field ") (turns " 78 (a .turns) + field ") (age " 78 (a .age) + field ") (named " 78 (a .named)) (p0 .put .ensures) (room s))))
+    (λ c. refl)
+    (λ c κs.
+    let p2 = c .before .before .before .before in
+    let p1 = p2 .before .before .before .before .before in
+    let p0 = p1 .before .before .before .before .before in
+    let s = p0 .before .before .before .before in
+    let a = s .args in
+    last (field "(tally " 67 (a .campaign) + field " (plays " 78 (a .plays)) (field ") (turns " 78 (a .turns)) (left-field (field "(tally " 67 (a .campaign) + field " (plays " 78 (a .plays) + field ") (turns " 78 (a .turns)) ") (age " 78 (a .age) (p2 .put-field2 .ensures) (left-field (field "(tally " 67 (a .campaign) + field " (plays " 78 (a .plays) + field ") (turns " 78 (a .turns) + field ") (age " 78 (a .age)) ") (named " 78 (a .named) (p1 .put-field .ensures) (left (field "(tally " 67 (a .campaign) + field " (plays " 78 (a .plays) + field ") (turns " 78 (a .turns) + field ") (age " 78 (a .age) + field ") (named " 78 (a .named)) (p0 .put .ensures) (room s)))))
+    (λ c. refl)
+    (λ c κs.
+    let p3 = c .before .before .before .before in
+    let p2 = p3 .before .before .before .before .before in
+    let p1 = p2 .before .before .before .before .before in
+    let p0 = p1 .before .before .before .before .before in
+    let s = p0 .before .before .before .before in
+    let a = s .args in
+    last (field "(tally " 67 (a .campaign)) (field " (plays " 78 (a .plays)) (left-field (field "(tally " 67 (a .campaign) + field " (plays " 78 (a .plays)) ") (turns " 78 (a .turns) (p3 .put-field3 .ensures) (left-field (field "(tally " 67 (a .campaign) + field " (plays " 78 (a .plays) + field ") (turns " 78 (a .turns)) ") (age " 78 (a .age) (p2 .put-field2 .ensures) (left-field (field "(tally " 67 (a .campaign) + field " (plays " 78 (a .plays) + field ") (turns " 78 (a .turns) + field ") (age " 78 (a .age)) ") (named " 78 (a .named) (p1 .put-field .ensures) (left (field "(tally " 67 (a .campaign) + field " (plays " 78 (a .plays) + field ") (turns " 78 (a .turns) + field ") (age " 78 (a .age) + field ") (named " 78 (a .named)) (p0 .put .ensures) (room s))))))
+    (λ c. refl)
+    (λ c κs.
+    let p4 = c .before .before .before .before in
+    let p3 = p4 .before .before .before .before .before in
+    let p2 = p3 .before .before .before .before .before in
+    let p1 = p2 .before .before .before .before .before in
+    let p0 = p1 .before .before .before .before .before in
+    let s = p0 .before .before .before .before in
+    let a = s .args in
+    left-field (field "(tally " 67 (a .campaign)) " (plays " 78 (a .plays) (p4 .put-field4 .ensures) (left-field (field "(tally " 67 (a .campaign) + field " (plays " 78 (a .plays)) ") (turns " 78 (a .turns) (p3 .put-field3 .ensures) (left-field (field "(tally " 67 (a .campaign) + field " (plays " 78 (a .plays) + field ") (turns " 78 (a .turns)) ") (age " 78 (a .age) (p2 .put-field2 .ensures) (left-field (field "(tally " 67 (a .campaign) + field " (plays " 78 (a .plays) + field ") (turns " 78 (a .turns) + field ") (age " 78 (a .age)) ") (named " 78 (a .named) (p1 .put-field .ensures) (left (field "(tally " 67 (a .campaign) + field " (plays " 78 (a .plays) + field ") (turns " 78 (a .turns) + field ") (age " 78 (a .age) + field ") (named " 78 (a .named)) (p0 .put .ensures) (room s))))))
     (λ c.
-    let f = c .before .before in
-    let p3 = f .before .before .before .before in
-    let s2 = p3 .before .before .before .before .before in
-    let p2 = s2 .before .before .before .before in
-    let s1 = p2 .before .before .before .before .before in
-    let p1 = s1 .before .before .before .before in
-    let a = p1 .before .before .before .before .args in
-    subst (Put (a .out .now) _ _ (a .to)) (simp append-assoc (sym (line-filled (Tally (a .campaign) (a .plays) (a .turns) (a .age) (a .named)))))
-    (before (before (before (before (before (p1 .put .ensures) (s1 .put-slot .ensures)) (p2 .put2 .ensures)) (s2 .put-slot2 .ensures)) (p3 .put3 .ensures)) (f .put-tally-front .ensures))))
+    let p5 = c .before .before in
+    let p4 = p5 .before .before .before .before .before in
+    let p3 = p4 .before .before .before .before .before in
+    let p2 = p3 .before .before .before .before .before in
+    let p1 = p2 .before .before .before .before .before in
+    let p0 = p1 .before .before .before .before .before in
+    (before (before (before (before (before (p0 .put .ensures) (p1 .put-field .ensures)) (p2 .put-field2 .ensures)) (p3 .put-field3 .ensures)) (p4 .put-field4 .ensures)) (p5 .put-field5 .ensures)) .same)
+    (λ c.
+    let p5 = c .before .before in
+    let p4 = p5 .before .before .before .before .before in
+    let p3 = p4 .before .before .before .before .before in
+    let p2 = p3 .before .before .before .before .before in
+    let p1 = p2 .before .before .before .before .before in
+    let p0 = p1 .before .before .before .before .before in
+    let a = p0 .before .before .before .before .args in
+    subst (Put (a .out .now) _ _ (a .to)) (sym (line-filled (Tally (a .campaign) (a .plays) (a .turns) (a .age) (a .named))))
+    (before (before (before (before (before (p0 .put .ensures) (p1 .put-field .ensures)) (p2 .put-field2 .ensures)) (p3 .put-field3 .ensures)) (p4 .put-field4 .ensures)) (p5 .put-field5 .ensures))))

@@ -10,10 +10,11 @@ use borrow.Author.Tests.{le-leb, lt-leb, not-true, not-false}
 use Rattle.lines.specs.Form.{inRange}
 use Rattle.lines.specs.declared.Record.{Record}
 use Rattle.writer.specs.declared.Writing.the-variants.{Length, Refusal}
-use Rattle.writer.specs.declared.Size.{Size}
-use Rattle.writer.specs.Buffer.{over, Put, Sized}
+use Rattle.print.specs.declared.Size.{Size}
+use Rattle.print.specs.Buffer.{over, Put}
+use Rattle.writer.specs.Inner.{Sized}
 use Rattle.writer.specs.Writing.{line, question, writing, written}
-use Rattle.writer.proofs.Buffers.{over-front}
+use Rattle.print.proofs.Buffers.{over-front}
 use Rattle.writer.proofs.write_line.Statement.{statement}
 use Rattle.writer.proofs.write_line.Tie as tie
 

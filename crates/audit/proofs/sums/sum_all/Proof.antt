@@ -1,10 +1,9 @@
 use Rattle.campaigns.proofs.Laws.{plan-sized}
-use Rattle.audit.proofs.Totals.{Held, campaign-held, columns, columns-sound, sums-join}
+use Rattle.audit.proofs.Totals.{Held, campaign-held, columns-sound, sums-join}
 use Rattle.audit.specs.Inner.{summed}
 use Rattle.campaigns.specs.Campaign.{sound-campaign, campaign-at}
 use Rattle.campaigns.specs.declared.Campaign.{Campaign}
 use Rattle.audit.specs.declared.sums.Spent.{Spent}
-use Rattle.audit.specs.declared.sums.Sums.{Sums}
 use Rattle.finite.proofs.Tests.{every-at}
 use Rattle.finite.specs.Finite.{every}
 use borrow.Author.Tests.{not-true, not-false}

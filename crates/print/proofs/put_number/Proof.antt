@@ -3,10 +3,10 @@ use Prim.Native.Nat.{ℕ, _+_, _-_, _/_, _%_, _^_, _≤_, _<_}
 use native.Mathlib.Omega.{arith}
 use lib.ListN.{length, set, length-set}
 use Rattle.lines.specs.Numeral.{numeral}
-use Rattle.writer.specs.Buffer.{Put}
-use Rattle.writer.proofs.Buffers.{numeral-some, numeral-two, Tail, tail-start, tail-room, tail-step, tail-pair, tail-end}
-use Rattle.writer.proofs.put_number.Statement.{statement}
-use Rattle.writer.proofs.put_number.Tie as tie
+use Rattle.print.specs.Buffer.{Put}
+use Rattle.print.proofs.Buffers.{numeral-some, numeral-two, Tail, tail-start, tail-room, tail-step, tail-pair, tail-end}
+use Rattle.print.proofs.put_number.Statement.{statement}
+use Rattle.print.proofs.put_number.Tie as tie
 
 abbrev Inv-loop : tie.InvT-loop
 Inv-loop out₀ to n i₀ rest₀ out i rest =

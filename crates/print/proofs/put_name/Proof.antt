@@ -4,11 +4,11 @@ use Prim.Native.Nat.{ℕ, _+_, _/_, _%_, _≤_, _<_}
 use native.Mathlib.Omega.{arith}
 use lib.ListN.{length, set, length-set}
 use Rattle.lines.specs.Numeral.{numeral}
-use Rattle.writer.specs.Buffer.{over, Put}
-use Rattle.writer.proofs.Buffers.{over-set, over-snoc}
-use Rattle.writer.proofs.Lengths.{name-one, name-two, len-one, len-two}
-use Rattle.writer.proofs.put_name.Statement.{statement}
-use Rattle.writer.proofs.put_name.Tie as tie
+use Rattle.print.specs.Buffer.{over, Put}
+use Rattle.print.proofs.Buffers.{over-set, over-snoc}
+use Rattle.print.proofs.Lengths.{name-one, name-two, len-one, len-two}
+use Rattle.print.proofs.put_name.Statement.{statement}
+use Rattle.print.proofs.put_name.Tie as tie
 
 one : (d : List ℕ) (at n : ℕ) → n < 10 → Put d (set (set d at 32) (at + 1) (48 + n % 10)) at (at + 2) (32 ∷ numeral n)
 one d at n h =

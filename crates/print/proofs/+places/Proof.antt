@@ -1,16 +1,16 @@
 use native.Mathlib.Omega.{arith}
 use Prim.Native.Nat.{_/_, _+_}
 use mathlib.Core.Path.{sym, ap, _∙_}
-use Rattle.writer.proofs.Lengths.{len-one, len-two, len-three, len-four, len-skip}
+use Rattle.print.proofs.Lengths.{len-one, len-two, len-three, len-four, len-skip}
 use Rattle.lines.proofs.Numerals.{numeral-most}
 use Prim.Native.Nat.{ℕ, _<_}
 use borrow.Fn.Kinds.{In}
 use borrow.Fn.PlainCycle.{Measures, is, falls, and}
-use Rattle.writer.proofs.places.Reads as places
-use Rattle.writer.proofs.places.Kinds as places-kinds
-use Rattle.writer.proofs.+places.Lts-places as places-lts
-use Rattle.writer.proofs.+places.{statement}
-use Rattle.writer.proofs.+places.Tie.{close}
+use Rattle.print.proofs.places.Reads as places
+use Rattle.print.proofs.places.Kinds as places-kinds
+use Rattle.print.proofs.+places.Lts-places as places-lts
+use Rattle.print.proofs.+places.{statement}
+use Rattle.print.proofs.+places.Tie.{close}
 
 abbrev μ-places : Measures 0 places-kinds.ps ℕ
 μ-places κs a = a .0

@@ -1,7 +1,7 @@
--- How long numerals, names and lines are.
+-- How long numerals and names are.
 use mathlib.Core.Path.{_≡_, refl, sym, ap, _∙_}
 use mathlib.Core.Bool.{Bool, true, false, cond}
-use mathlib.Core.List.{List, [], _∷_, _++_, append-assoc}
+use mathlib.Core.List.{List, [], _∷_, _++_}
 use Prim.Native.Nat.{ℕ, zero, suc, _+_, _*_, _-_, _/_, _%_, _^_, _≤_, _<_}
 use native.Mathlib.Omega.{arith}
 use lib.Dec.{eqb}
@@ -13,11 +13,9 @@ use Rattle.finite.proofs.Sums.{sum-zero, sum-eq, count-suc, count-skip}
 use Rattle.sets.specs.Set.{member, size, next}
 use Rattle.sets.proofs.Walk.{next-is}
 use Rattle.lines.specs.Numeral.{numeral}
-use Rattle.lines.specs.Form.{names, slotText, template, numbers, piece, after, filled, text}
-use Rattle.lines.specs.declared.Record.{Record}
+use Rattle.lines.specs.Form.{names, slotText}
 use Rattle.lines.proofs.Numerals.{numeral-one, numeral-more}
 use Rattle.lines.proofs.NameSets.{above, names-skip}
-use Rattle.writer.specs.Writing.{line}
 
 -- Numerals.
 
@@ -143,28 +141,3 @@ text-names slot n e = simp (eq-eqb slot 83 e)
 pub text-number : (slot n : ℕ) → (slot ≡ 83 → ⊥) → slotText slot n ≡ numeral n
 unfolding slotText
 text-number slot n e = simp (ne-eqb slot 83 e)
-
--- Lines.
-
-filled-end : (t ns : List ℕ) → filled (t ++ (10 ∷ [])) ns ≡ filled t ns ++ (10 ∷ [])
-unfolding filled piece
-filled-end [] ns = refl
-filled-end (b ∷ t) ns = ap (λ (x : List ℕ). piece b ns ++ x) (filled-end t (after b ns)) ∙ sym (append-assoc (piece b ns) (filled t (after b ns)) (10 ∷ []))
-
--- a line is its form's template with a byte 10 behind it, filled
-pub line-filled : (r : Record) → line r ≡ filled (template r ++ (10 ∷ [])) (numbers r)
-unfolding line text
-line-filled r = sym (filled-end (template r) (numbers r))
-
--- the length of a filled template, piece by piece
-abbrev pub filledSize : List ℕ → List ℕ → ℕ
-filledSize [] ns = 0
-filledSize (b ∷ t) ns = length (piece b ns) + filledSize t (after b ns)
-
-pub filled-size : (t ns : List ℕ) → length (filled t ns) ≡ filledSize t ns
-unfolding filled
-filled-size [] ns = refl
-filled-size (b ∷ t) ns = length-append (piece b ns) (filled t (after b ns)) ∙ ap (λ (x : ℕ). length (piece b ns) + x) (filled-size t (after b ns))
-
-pub line-size : (r : Record) → length (line r) ≡ filledSize (template r ++ (10 ∷ [])) (numbers r)
-line-size r = ap length (line-filled r) ∙ filled-size (template r ++ (10 ∷ [])) (numbers r)

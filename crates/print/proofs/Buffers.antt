@@ -10,8 +10,8 @@ use lib.ListN.{length, drop, take, getD, set, length-set, length-append}
 use lib.Seq.{take-suc, length-take-le}
 use Rattle.lines.specs.Numeral.{numeralIn, numeral}
 use Rattle.lines.proofs.Numerals.{numeral-more}
-use Rattle.writer.specs.Buffer.{over, Put}
-use Rattle.writer.proofs.Lengths.{len-more, name-one}
+use Rattle.print.specs.Buffer.{over, Put}
+use Rattle.print.proofs.Lengths.{len-more, name-one}
 
 pub over-none : (d : List ℕ) (at : ℕ) → over d at [] ≡ d
 unfolding over
@@ -98,6 +98,17 @@ before {o} {m} {e} {at} {mid} {to} {w} {u} p q = record {
   here = q .here ∙ ap (λ (x : List ℕ). over x at u) (p .here) ∙ ap (λ (k : ℕ). over (over o k w) at u) (q .next) ∙ over-under o at u w;
   same = q .same ∙ p .same;
 }
+
+-- Room for k bytes before the place to, in a buffer of m. What is left of it before w:
+abbrev pub Room : ℕ → ℕ → ℕ → Type 0
+Room m to k = (k ≤ to) × (to ≤ m)
+
+pub left : (k : ℕ) {d e : List ℕ} {at to : ℕ} {w : List ℕ} → Put d e at to w → Room (length d) to (k + length w) → Room (length e) at k
+left k p h = (omega (arith, p .next, h .0), omega (arith, p .next, p .same, h .1))
+
+-- the room of what stands last
+pub last : (k j : ℕ) {m to : ℕ} → Room m to (k + j) → Room m to j
+last k j h = (omega (arith, h .0), h .1)
 
 -- one byte behind a word
 pub over-snoc : (d : List ℕ) (at : ℕ) (w : List ℕ) (b : ℕ) → set (over d at w) (at + length w) b ≡ over d at (w ++ (b ∷ []))

@@ -2,10 +2,10 @@ use mathlib.Core.Path.{ap, sym, subst}
 use native.Mathlib.Omega.{arith}
 use lib.ListN.{length}
 use borrow.Author.Needs.{needs}
-use Rattle.writer.specs.Buffer.{Put}
-use Rattle.writer.proofs.Lengths.{text-names, text-number}
-use Rattle.writer.proofs.put_slot.Statement.{statement}
-use Rattle.writer.proofs.put_slot.Tie as tie
+use Rattle.print.specs.Buffer.{Put}
+use Rattle.print.proofs.Lengths.{text-names, text-number}
+use Rattle.print.proofs.put_slot.Statement.{statement}
+use Rattle.print.proofs.put_slot.Tie as tie
 
 pub put-slot-spec : {M : Type 1} → statement M
 put-slot-spec =

@@ -1,12 +1,8 @@
--- How the contracts of the writer's inner functions speak of the buffer.
+-- How the contracts speak of the buffer.
 use Prim.Native.Nat.{ℕ, zero, suc, _+_}
 use mathlib.Core.Path.{_≡_}
 use mathlib.Core.List.{List, [], _∷_}
 use lib.ListN.{length}
-use Rattle.lines.specs.Form.{inRange}
-use Rattle.lines.specs.declared.Record.{Record}
-use Rattle.writer.specs.declared.Size.{Size}
-use Rattle.writer.specs.Writing.{line}
 
 -- d with the bytes w over its own from the place at on, as far as d goes
 unfoldable pub over : List ℕ → ℕ → List ℕ → List ℕ
@@ -20,8 +16,3 @@ pub record Put (d e : List ℕ) (at to : ℕ) (w : List ℕ) : Type 0 where
   pub next : to ≡ at + length w
   pub here : e ≡ over d at w
   pub same : length e ≡ length d
-
--- z is whether the numbers of r are in their ranges, and the length of its line
-pub record Sized (r : Record) (z : Size) : Type 0 where
-  pub ok : z .ok ≡ inRange r
-  pub len : z .len ≡ length (line r)

@@ -2,9 +2,9 @@ use mathlib.Core.Path.{ap, sym, _∙_}
 use native.Mathlib.Omega.{arith}
 use lib.ListN.{length}
 use Rattle.lines.proofs.Numerals.{numeral-most}
-use Rattle.writer.proofs.Lengths.{text-names, text-number}
-use Rattle.writer.proofs.slot_len.Statement.{statement}
-use Rattle.writer.proofs.slot_len.Tie as tie
+use Rattle.print.proofs.Lengths.{text-names, text-number}
+use Rattle.print.proofs.slot_len.Statement.{statement}
+use Rattle.print.proofs.slot_len.Tie as tie
 
 pub slot-len-spec : {M : Type 1} → statement M
 slot-len-spec =

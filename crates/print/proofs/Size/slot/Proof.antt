@@ -1,8 +1,8 @@
 use mathlib.Core.Path.{ap}
 use mathlib.Core.Bool.{Bool, _&&_}
 use native.Mathlib.Omega.{arith}
-use Rattle.writer.proofs.Size.slot.Statement.{statement}
-use Rattle.writer.proofs.Size.slot.Tie as tie
+use Rattle.print.proofs.Size.slot.Statement.{statement}
+use Rattle.print.proofs.Size.slot.Tie as tie
 
 pub slot-spec : {M : Type 1} → statement M
 slot-spec =

@@ -1,7 +1,7 @@
 use native.Mathlib.Omega.{arith}
-use Rattle.writer.proofs.Lengths.{names-size, size-most}
-use Rattle.writer.proofs.names_len.Statement.{statement}
-use Rattle.writer.proofs.names_len.Tie as tie
+use Rattle.print.proofs.Lengths.{names-size, size-most}
+use Rattle.print.proofs.names_len.Statement.{statement}
+use Rattle.print.proofs.names_len.Tie as tie
 
 pub names-len-spec : {M : Type 1} → statement M
 names-len-spec =

@@ -4,10 +4,10 @@ use Prim.Native.Nat.{ℕ, _+_, _-_, _≤_}
 use native.Mathlib.Omega.{arith}
 use lib.ListN.{length, take, getD, set, length-set}
 use lib.Seq.{take-length}
-use Rattle.writer.specs.Buffer.{over}
-use Rattle.writer.proofs.Buffers.{over-none, over-next}
-use Rattle.writer.proofs.put.Statement.{statement}
-use Rattle.writer.proofs.put.Tie as tie
+use Rattle.print.specs.Buffer.{over}
+use Rattle.print.proofs.Buffers.{over-none, over-next}
+use Rattle.print.proofs.put.Statement.{statement}
+use Rattle.print.proofs.put.Tie as tie
 
 abbrev Inv-loop : tie.InvT-loop
 Inv-loop out₀ to word at i₀ out i = (i ≤ length word) × (out ≡ over out₀ at (take i word)) × (length out ≡ length out₀)

@@ -10,11 +10,11 @@ use Rattle.sets.proofs.Walk.{next-is}
 use Rattle.lines.specs.Numeral.{numeral}
 use Rattle.lines.specs.Form.{names}
 use Rattle.lines.proofs.NameSets.{names-here}
-use Rattle.writer.specs.Buffer.{Put}
-use Rattle.writer.proofs.Buffers.{put-none, then}
-use Rattle.writer.proofs.Lengths.{names-next, names-less}
-use Rattle.writer.proofs.put_names.Statement.{statement}
-use Rattle.writer.proofs.put_names.Tie as tie
+use Rattle.print.specs.Buffer.{Put}
+use Rattle.print.proofs.Buffers.{put-none, then}
+use Rattle.print.proofs.Lengths.{names-next, names-less}
+use Rattle.print.proofs.put_names.Statement.{statement}
+use Rattle.print.proofs.put_names.Tie as tie
 
 -- the names of the members below `name` stand
 record Names (out₀ : List ℕ) (at set : ℕ) (out : List ℕ) (to name : ℕ) : Type 0 where

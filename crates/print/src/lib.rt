@@ -1,0 +1,161 @@
+// Words, numerals and names: how long they are, and putting them into a lent buffer.
+ghost use mathlib.Core.Path.{_≡_};
+ghost use mathlib.Core.Bool.{true, _&&_};
+ghost use mathlib.Core.List.{_∷_, _++_};
+ghost use Prim.Native.Nat.{_+_, _<_, _≤_};
+ghost use lib.ListN.{length};
+ghost use Rattle.lines.specs.Numeral.{numeral};
+ghost use Rattle.lines.specs.Form.{inSlot, names, slotText};
+ghost use Rattle.print.specs.Buffer.{Put};
+
+// Whether numbers are in the ranges of their slots, and the length of a line: as far as its slots are counted.
+pub struct Size {
+    pub ok: bool,
+    pub len: usize,
+}
+
+// How many digits the numeral of n has.
+fn places(n: u64) -> usize
+    ensures { λ r. ⌜ r ≡ length (numeral n) ⌝ }
+{
+    if n < 10 {
+        return 1;
+    }
+    if n < 100 {
+        return 2;
+    }
+    if n < 1000 {
+        return 3;
+    }
+    if n < 10000 {
+        return 4;
+    }
+    4 + places(n / 10000)
+}
+
+// How many bytes the names of a set take: 3 for each, and 2 for a name below 10.
+fn names_len(set: u64) -> usize
+    ensures { λ r. ⌜ (r ≡ length (names 64 set)) × (r ≤ 192) ⌝ }
+{
+    let all = sets::count(set);
+    let short = sets::count(set % 1024);
+    (3 * all - short) as usize
+}
+
+fn slot_len(slot: u8, n: u64) -> usize
+    ensures { λ r. ⌜ (r ≡ length (slotText slot n)) × (r ≤ 192) ⌝ }
+{
+    if slot == b'S' {
+        return names_len(n);
+    }
+    places(n)
+}
+
+impl Size {
+    // A line of a form's own bytes.
+    pub fn fixed(len: usize) -> Size
+        ensures { λ r. ⌜ (r .ok ≡ true) × (r .len ≡ len) ⌝ }
+    {
+        Size { ok: true, len }
+    }
+
+    // One slot more, in front of those that are counted.
+    pub fn slot(self, slot: u8, n: u64) -> Size
+        requires { ⌜ self .len ≤ 1000 ⌝ }
+        ensures { λ r. ⌜ (r .ok ≡ (inSlot slot n && self .ok)) × (r .len ≡ length (slotText slot n) + self .len) × (r .len ≤ self .len + 192) ⌝ }
+    {
+        Size {
+            ok: lines::in_slot(slot, n) & self.ok,
+            len: slot_len(slot, n) + self.len,
+        }
+    }
+}
+
+// A line is put from its last byte to its first: so come the digits of a numeral, and they need not be counted again. Each function is given the place where its bytes end, and gives the place where they begin.
+
+// The word that ends at the place to.
+pub fn put(out: &mut [u8], to: usize, word: &[u8]) -> usize
+    requires { ⌜ (length (now word) ≤ to) × (to ≤ length (now out)) ⌝ }
+    ensures { λ r. ⌜ Put (now (out .entry)) (now (out .exit)) r to (now (word .entry)) ⌝ }
+{
+    let at = to - word.len();
+    let mut i = 0;
+    while i < word.len() {
+        out[at + i] = word[i];
+        i += 1;
+    }
+    at
+}
+
+// The numeral of n that ends at the place to, two digits at a time.
+fn put_number(out: &mut [u8], to: usize, n: u64) -> usize
+    requires { ⌜ (length (numeral n) ≤ to) × (to ≤ length (now out)) ⌝ }
+    ensures { λ r. ⌜ Put (now (out .entry)) (now (out .exit)) r to (numeral n) ⌝ }
+{
+    let mut i = to;
+    let mut rest = n;
+    while rest > 99 {
+        i -= 2;
+        let pair = rest % 100;
+        out[i + 1] = (48 + pair % 10) as u8;
+        out[i] = (48 + pair / 10) as u8;
+        rest /= 100;
+    }
+    i -= 1;
+    out[i] = (48 + rest % 10) as u8;
+    if rest < 10 {
+        return i;
+    }
+    out[i - 1] = (48 + rest / 10) as u8;
+    i - 1
+}
+
+// A name of one or two digits at the place at, with a space before it.
+fn put_name(out: &mut [u8], at: usize, name: u64) -> usize
+    requires { ⌜ (name < 64) × (at + length (32 ∷ numeral name) ≤ length (now out)) ⌝ }
+    ensures { λ r. ⌜ Put (now (out .entry)) (now (out .exit)) at r (32 ∷ numeral name) ⌝ }
+{
+    out[at] = b' ';
+    if name < 10 {
+        out[at + 1] = (48 + name % 10) as u8;
+        return at + 2;
+    }
+    out[at + 1] = (48 + name / 10 % 10) as u8;
+    out[at + 2] = (48 + name % 10) as u8;
+    at + 3
+}
+
+// The names of a set at the place at: from its least member to the next.
+fn put_names(out: &mut [u8], at: usize, set: u64) -> usize
+    requires { ⌜ at + length (names 64 set) ≤ length (now out) ⌝ }
+    ensures { λ r. ⌜ Put (now (out .entry)) (now (out .exit)) at r (names 64 set) ⌝ }
+{
+    let mut to = at;
+    let mut name = sets::next_from(set, 0);
+    while name < 64 {
+        to = put_name(out, to, name);
+        name = sets::next_from(set, name + 1);
+    }
+    to
+}
+
+pub fn put_slot(out: &mut [u8], to: usize, slot: u8, n: u64) -> usize
+    requires { ⌜ (length (slotText slot n) ≤ to) × (to ≤ length (now out)) ⌝ }
+    ensures { λ r. ⌜ Put (now (out .entry)) (now (out .exit)) r to (slotText slot n) ⌝ }
+{
+    if slot == b'S' {
+        let at = to - names_len(n);
+        put_names(out, at, n);
+        return at;
+    }
+    put_number(out, to, n)
+}
+
+// A word and the slot behind it.
+pub fn put_field(out: &mut [u8], to: usize, word: &[u8], slot: u8, n: u64) -> usize
+    requires { ⌜ (length (now word) + length (slotText slot n) ≤ to) × (to ≤ length (now out)) ⌝ }
+    ensures { λ r. ⌜ Put (now (out .entry)) (now (out .exit)) r to (now (word .entry) ++ slotText slot n) ⌝ }
+{
+    let to = put_slot(out, to, slot, n);
+    put(out, to, word)
+}
