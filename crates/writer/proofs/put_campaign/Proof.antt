@@ -11,13 +11,17 @@ use Rattle.writer.proofs.Lines.{field, left-field, line-filled, line-sl
 use Rattle.writer.proofs.put_campaign.Statement.{statement}
 use Rattle.writer.proofs.put_campaign.Tie as tie
 
-sizes : (price budget : ℕ) → length (line (Campaign price budget)) ≡ field "(campaign (price " 78 price + field ") (budget " 78 budget + 3
+-- the length of the line, field by field
+sizes : (price budget : ℕ)
+    → length (line (Campaign price budget)) ≡ field "(campaign (price " 78 price + field ") (budget " 78 budget + 3
 unfolding template numbers piece after
 sizes price budget =
-    let e : length (line (Campaign price budget)) ≡ length (slotText 78 price) + (length (slotText 78 budget) + 30) = line-slots (Campaign price budget) in
+    let e : length (line (Campaign price budget)) ≡ length (slotText 78 price) + (length (slotText 78 budget) + 30) =
+    line-slots (Campaign price budget) in
     omega (arith, e)
 
-room : (c : tie.Start) → let a = c .args in Room (length (a .out .now)) (a .to) (field "(campaign (price " 78 (a .price) + field ") (budget " 78 (a .budget) + 3)
+room : (c : tie.Start) → let a = c .args in
+    Room (length (a .out .now)) (a .to) (field "(campaign (price " 78 (a .price) + field ") (budget " 78 (a .budget) + 3)
 room c = let a = c .args in (subst (λ (x : ℕ). x ≤ a .to) (sizes (a .price) (a .budget)) (c .pre .0), c .pre .1)
 
 pub put-campaign-spec : {M : Type 1} → statement M
@@ -28,21 +32,19 @@ put-campaign-spec =
     (λ c. refl)
     (λ c κs.
     let s = c .before .before .before in
-    let a = s .args in
-    last (field "(campaign (price " 78 (a .price) + field ") (budget " 78 (a .budget)) 3 (room s))
+    last _ _ (room s))
     (λ c. refl)
     (λ c κs.
     let p0 = c .before .before .before .before in
     let s = p0 .before .before .before .before in
-    let a = s .args in
-    last (field "(campaign (price " 78 (a .price)) (field ") (budget " 78 (a .budget)) (left (field "(campaign (price " 78 (a .price) + field ") (budget " 78 (a .budget)) (p0 .put .ensures) (room s)))
+    last _ _ (left _ (p0 .put .ensures) (room s)))
     (λ c. refl)
     (λ c κs.
     let p1 = c .before .before .before .before in
     let p0 = p1 .before .before .before .before .before in
     let s = p0 .before .before .before .before in
-    let a = s .args in
-    left-field (field "(campaign (price " 78 (a .price)) ") (budget " 78 (a .budget) (p1 .put-field .ensures) (left (field "(campaign (price " 78 (a .price) + field ") (budget " 78 (a .budget)) (p0 .put .ensures) (room s)))
+    let r0 = left _ (p0 .put .ensures) (room s) in
+    left-field _ ") (budget " 78 (s .args .budget) (p1 .put-field .ensures) r0)
     (λ c.
     let p2 = c .before .before in
     let p1 = p2 .before .before .before .before .before in

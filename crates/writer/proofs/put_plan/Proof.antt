@@ -11,13 +11,17 @@ use Rattle.writer.proofs.Lines.{field, left-field, line-filled, line-sl
 use Rattle.writer.proofs.put_plan.Statement.{statement}
 use Rattle.writer.proofs.put_plan.Tie as tie
 
-sizes : (depth width : ℕ) → length (line (Plan depth width)) ≡ field "(plan (depth " 78 depth + field ") (width " 78 width + 3
+-- the length of the line, field by field
+sizes : (depth width : ℕ)
+    → length (line (Plan depth width)) ≡ field "(plan (depth " 78 depth + field ") (width " 78 width + 3
 unfolding template numbers piece after
 sizes depth width =
-    let e : length (line (Plan depth width)) ≡ length (slotText 78 depth) + (length (slotText 78 width) + 25) = line-slots (Plan depth width) in
+    let e : length (line (Plan depth width)) ≡ length (slotText 78 depth) + (length (slotText 78 width) + 25) =
+    line-slots (Plan depth width) in
     omega (arith, e)
 
-room : (c : tie.Start) → let a = c .args in Room (length (a .out .now)) (a .to) (field "(plan (depth " 78 (a .depth) + field ") (width " 78 (a .width) + 3)
+room : (c : tie.Start) → let a = c .args in
+    Room (length (a .out .now)) (a .to) (field "(plan (depth " 78 (a .depth) + field ") (width " 78 (a .width) + 3)
 room c = let a = c .args in (subst (λ (x : ℕ). x ≤ a .to) (sizes (a .depth) (a .width)) (c .pre .0), c .pre .1)
 
 pub put-plan-spec : {M : Type 1} → statement M
@@ -28,21 +32,19 @@ put-plan-spec =
     (λ c. refl)
     (λ c κs.
     let s = c .before .before .before in
-    let a = s .args in
-    last (field "(plan (depth " 78 (a .depth) + field ") (width " 78 (a .width)) 3 (room s))
+    last _ _ (room s))
     (λ c. refl)
     (λ c κs.
     let p0 = c .before .before .before .before in
     let s = p0 .before .before .before .before in
-    let a = s .args in
-    last (field "(plan (depth " 78 (a .depth)) (field ") (width " 78 (a .width)) (left (field "(plan (depth " 78 (a .depth) + field ") (width " 78 (a .width)) (p0 .put .ensures) (room s)))
+    last _ _ (left _ (p0 .put .ensures) (room s)))
     (λ c. refl)
     (λ c κs.
     let p1 = c .before .before .before .before in
     let p0 = p1 .before .before .before .before .before in
     let s = p0 .before .before .before .before in
-    let a = s .args in
-    left-field (field "(plan (depth " 78 (a .depth)) ") (width " 78 (a .width) (p1 .put-field .ensures) (left (field "(plan (depth " 78 (a .depth) + field ") (width " 78 (a .width)) (p0 .put .ensures) (room s)))
+    let r0 = left _ (p0 .put .ensures) (room s) in
+    left-field _ ") (width " 78 (s .args .width) (p1 .put-field .ensures) r0)
     (λ c.
     let p2 = c .before .before in
     let p1 = p2 .before .before .before .before .before in

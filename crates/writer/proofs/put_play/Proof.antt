@@ -11,13 +11,17 @@ use Rattle.writer.proofs.Lines.{field, left-field, line-filled, line-sl
 use Rattle.writer.proofs.put_play.Statement.{statement}
 use Rattle.writer.proofs.put_play.Tie as tie
 
-sizes : (campaign paid : ℕ) → length (line (Play campaign paid)) ≡ field "(play " 67 campaign + field " (paid " 78 paid + 3
+-- the length of the line, field by field
+sizes : (campaign paid : ℕ)
+    → length (line (Play campaign paid)) ≡ field "(play " 67 campaign + field " (paid " 78 paid + 3
 unfolding template numbers piece after
 sizes campaign paid =
-    let e : length (line (Play campaign paid)) ≡ length (slotText 67 campaign) + (length (slotText 78 paid) + 16) = line-slots (Play campaign paid) in
+    let e : length (line (Play campaign paid)) ≡ length (slotText 67 campaign) + (length (slotText 78 paid) + 16) =
+    line-slots (Play campaign paid) in
     omega (arith, e)
 
-room : (c : tie.Start) → let a = c .args in Room (length (a .out .now)) (a .to) (field "(play " 67 (a .campaign) + field " (paid " 78 (a .paid) + 3)
+room : (c : tie.Start) → let a = c .args in
+    Room (length (a .out .now)) (a .to) (field "(play " 67 (a .campaign) + field " (paid " 78 (a .paid) + 3)
 room c = let a = c .args in (subst (λ (x : ℕ). x ≤ a .to) (sizes (a .campaign) (a .paid)) (c .pre .0), c .pre .1)
 
 pub put-play-spec : {M : Type 1} → statement M
@@ -28,21 +32,19 @@ put-play-spec =
     (λ c. refl)
     (λ c κs.
     let s = c .before .before .before in
-    let a = s .args in
-    last (field "(play " 67 (a .campaign) + field " (paid " 78 (a .paid)) 3 (room s))
+    last _ _ (room s))
     (λ c. refl)
     (λ c κs.
     let p0 = c .before .before .before .before in
     let s = p0 .before .before .before .before in
-    let a = s .args in
-    last (field "(play " 67 (a .campaign)) (field " (paid " 78 (a .paid)) (left (field "(play " 67 (a .campaign) + field " (paid " 78 (a .paid)) (p0 .put .ensures) (room s)))
+    last _ _ (left _ (p0 .put .ensures) (room s)))
     (λ c. refl)
     (λ c κs.
     let p1 = c .before .before .before .before in
     let p0 = p1 .before .before .before .before .before in
     let s = p0 .before .before .before .before in
-    let a = s .args in
-    left-field (field "(play " 67 (a .campaign)) " (paid " 78 (a .paid) (p1 .put-field .ensures) (left (field "(play " 67 (a .campaign) + field " (paid " 78 (a .paid)) (p0 .put .ensures) (room s)))
+    let r0 = left _ (p0 .put .ensures) (room s) in
+    left-field _ " (paid " 78 (s .args .paid) (p1 .put-field .ensures) r0)
     (λ c.
     let p2 = c .before .before in
     let p1 = p2 .before .before .before .before .before in

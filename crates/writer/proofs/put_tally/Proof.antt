@@ -11,13 +11,17 @@ use Rattle.writer.proofs.Lines.{field, left-field, line-filled, line-sl
 use Rattle.writer.proofs.put_tally.Statement.{statement}
 use Rattle.writer.proofs.put_tally.Tie as tie
 
-sizes : (campaign plays turns age named : ℕ) → length (line (Tally campaign plays turns age named)) ≡ field "(tally " 67 campaign + field " (plays " 78 plays + field ") (turns " 78 turns + field ") (age " 78 age + field ") (named " 78 named + 3
+-- the length of the line, field by field
+sizes : (campaign plays turns age named : ℕ)
+    → length (line (Tally campaign plays turns age named)) ≡ field "(tally " 67 campaign + field " (plays " 78 plays + field ") (turns " 78 turns + field ") (age " 78 age + field ") (named " 78 named + 3
 unfolding template numbers piece after
 sizes campaign plays turns age named =
-    let e : length (line (Tally campaign plays turns age named)) ≡ length (slotText 67 campaign) + (length (slotText 78 plays) + (length (slotText 78 turns) + (length (slotText 78 age) + (length (slotText 78 named) + 43)))) = line-slots (Tally campaign plays turns age named) in
+    let e : length (line (Tally campaign plays turns age named)) ≡ length (slotText 67 campaign) + (length (slotText 78 plays) + (length (slotText 78 turns) + (length (slotText 78 age) + (length (slotText 78 named) + 43)))) =
+    line-slots (Tally campaign plays turns age named) in
     omega (arith, e)
 
-room : (c : tie.Start) → let a = c .args in Room (length (a .out .now)) (a .to) (field "(tally " 67 (a .campaign) + field " (plays " 78 (a .plays) + field ") (turns " 78 (a .turns) + field ") (age " 78 (a .age) + field ") (named " 78 (a .named) + 3)
+room : (c : tie.Start) → let a = c .args in
+    Room (length (a .out .now)) (a .to) (field "(tally " 67 (a .campaign) + field " (plays " 78 (a .plays) + field ") (turns " 78 (a .turns) + field ") (age " 78 (a .age) + field ") (named " 78 (a .named) + 3)
 room c = let a = c .args in (subst (λ (x : ℕ). x ≤ a .to) (sizes (a .campaign) (a .plays) (a .turns) (a .age) (a .named)) (c .pre .0), c .pre .1)
 
 pub put-tally-spec : {M : Type 1} → statement M
@@ -28,29 +32,28 @@ put-tally-spec =
     (λ c. refl)
     (λ c κs.
     let s = c .before .before .before in
-    let a = s .args in
-    last (field "(tally " 67 (a .campaign) + field " (plays " 78 (a .plays) + field ") (turns " 78 (a .turns) + field ") (age " 78 (a .age) + field ") (named " 78 (a .named)) 3 (room s))
+    last _ _ (room s))
     (λ c. refl)
     (λ c κs.
     let p0 = c .before .before .before .before in
     let s = p0 .before .before .before .before in
-    let a = s .args in
-    last (field "(tally " 67 (a .campaign) + field " (plays " 78 (a .plays) + field ") (turns " 78 (a .turns) + field ") (age " 78 (a .age)) (field ") (named " 78 (a .named)) (left (field "(tally " 67 (a .campaign) + field " (plays " 78 (a .plays) + field ") (turns " 78 (a .turns) + field ") (age " 78 (a .age) + field ") (named " 78 (a .named)) (p0 .put .ensures) (room s)))
+    last _ _ (left _ (p0 .put .ensures) (room s)))
     (λ c. refl)
     (λ c κs.
     let p1 = c .before .before .before .before in
     let p0 = p1 .before .before .before .before .before in
     let s = p0 .before .before .before .before in
-    let a = s .args in
-    last (field "(tally " 67 (a .campaign) + field " (plays " 78 (a .plays) + field ") (turns " 78 (a .turns)) (field ") (age " 78 (a .age)) (left-field (field "(tally " 67 (a .campaign) + field " (plays " 78 (a .plays) + field ") (turns " 78 (a .turns) + field ") (age " 78 (a .age)) ") (named " 78 (a .named) (p1 .put-field .ensures) (left (field "(tally " 67 (a .campaign) + field " (plays " 78 (a .plays) + field ") (turns " 78 (a .turns) + field ") (age " 78 (a .age) + field ") (named " 78 (a .named)) (p0 .put .ensures) (room s))))
+    let r0 = left _ (p0 .put .ensures) (room s) in
+    last _ _ (left-field _ ") (named " 78 (s .args .named) (p1 .put-field .ensures) r0))
     (λ c. refl)
     (λ c κs.
     let p2 = c .before .before .before .before in
     let p1 = p2 .before .before .before .before .before in
     let p0 = p1 .before .before .before .before .before in
     let s = p0 .before .before .before .before in
-    let a = s .args in
-    last (field "(tally " 67 (a .campaign) + field " (plays " 78 (a .plays)) (field ") (turns " 78 (a .turns)) (left-field (field "(tally " 67 (a .campaign) + field " (plays " 78 (a .plays) + field ") (turns " 78 (a .turns)) ") (age " 78 (a .age) (p2 .put-field2 .ensures) (left-field (field "(tally " 67 (a .campaign) + field " (plays " 78 (a .plays) + field ") (turns " 78 (a .turns) + field ") (age " 78 (a .age)) ") (named " 78 (a .named) (p1 .put-field .ensures) (left (field "(tally " 67 (a .campaign) + field " (plays " 78 (a .plays) + field ") (turns " 78 (a .turns) + field ") (age " 78 (a .age) + field ") (named " 78 (a .named)) (p0 .put .ensures) (room s)))))
+    let r0 = left _ (p0 .put .ensures) (room s) in
+    let r1 = left-field _ ") (named " 78 (s .args .named) (p1 .put-field .ensures) r0 in
+    last _ _ (left-field _ ") (age " 78 (s .args .age) (p2 .put-field2 .ensures) r1))
     (λ c. refl)
     (λ c κs.
     let p3 = c .before .before .before .before in
@@ -58,8 +61,10 @@ put-tally-spec =
     let p1 = p2 .before .before .before .before .before in
     let p0 = p1 .before .before .before .before .before in
     let s = p0 .before .before .before .before in
-    let a = s .args in
-    last (field "(tally " 67 (a .campaign)) (field " (plays " 78 (a .plays)) (left-field (field "(tally " 67 (a .campaign) + field " (plays " 78 (a .plays)) ") (turns " 78 (a .turns) (p3 .put-field3 .ensures) (left-field (field "(tally " 67 (a .campaign) + field " (plays " 78 (a .plays) + field ") (turns " 78 (a .turns)) ") (age " 78 (a .age) (p2 .put-field2 .ensures) (left-field (field "(tally " 67 (a .campaign) + field " (plays " 78 (a .plays) + field ") (turns " 78 (a .turns) + field ") (age " 78 (a .age)) ") (named " 78 (a .named) (p1 .put-field .ensures) (left (field "(tally " 67 (a .campaign) + field " (plays " 78 (a .plays) + field ") (turns " 78 (a .turns) + field ") (age " 78 (a .age) + field ") (named " 78 (a .named)) (p0 .put .ensures) (room s))))))
+    let r0 = left _ (p0 .put .ensures) (room s) in
+    let r1 = left-field _ ") (named " 78 (s .args .named) (p1 .put-field .ensures) r0 in
+    let r2 = left-field _ ") (age " 78 (s .args .age) (p2 .put-field2 .ensures) r1 in
+    last _ _ (left-field _ ") (turns " 78 (s .args .turns) (p3 .put-field3 .ensures) r2))
     (λ c. refl)
     (λ c κs.
     let p4 = c .before .before .before .before in
@@ -68,8 +73,11 @@ put-tally-spec =
     let p1 = p2 .before .before .before .before .before in
     let p0 = p1 .before .before .before .before .before in
     let s = p0 .before .before .before .before in
-    let a = s .args in
-    left-field (field "(tally " 67 (a .campaign)) " (plays " 78 (a .plays) (p4 .put-field4 .ensures) (left-field (field "(tally " 67 (a .campaign) + field " (plays " 78 (a .plays)) ") (turns " 78 (a .turns) (p3 .put-field3 .ensures) (left-field (field "(tally " 67 (a .campaign) + field " (plays " 78 (a .plays) + field ") (turns " 78 (a .turns)) ") (age " 78 (a .age) (p2 .put-field2 .ensures) (left-field (field "(tally " 67 (a .campaign) + field " (plays " 78 (a .plays) + field ") (turns " 78 (a .turns) + field ") (age " 78 (a .age)) ") (named " 78 (a .named) (p1 .put-field .ensures) (left (field "(tally " 67 (a .campaign) + field " (plays " 78 (a .plays) + field ") (turns " 78 (a .turns) + field ") (age " 78 (a .age) + field ") (named " 78 (a .named)) (p0 .put .ensures) (room s))))))
+    let r0 = left _ (p0 .put .ensures) (room s) in
+    let r1 = left-field _ ") (named " 78 (s .args .named) (p1 .put-field .ensures) r0 in
+    let r2 = left-field _ ") (age " 78 (s .args .age) (p2 .put-field2 .ensures) r1 in
+    let r3 = left-field _ ") (turns " 78 (s .args .turns) (p3 .put-field3 .ensures) r2 in
+    left-field _ " (plays " 78 (s .args .plays) (p4 .put-field4 .ensures) r3)
     (λ c.
     let p5 = c .before .before in
     let p4 = p5 .before .before .before .before .before in
