@@ -23,31 +23,24 @@ le-of c = ltb-false (c .before .before .before .args .room) 16384 (tests c .0)
 ne-of : (c : tie.Else1) → c .before .line-end .result ≡ length (c .before .before .before .args .input .now) → ⊥
 ne-of c = eqb-false (c .before .line-end .result) (length (c .before .before .before .args .input .now)) (tests c .1)
 
--- src/stretch.rt:101:9
 line-end-requires : tie.Need-line-end-requires
 line-end-requires c κs = search needs
 
--- src/stretch.rt:103:9
 returns : tie.Need-returns
 returns c = record { end-is = c .before .line-end .ensures .0; end-most = c .before .line-end .ensures .1; roomy = λ h. absurd (never true h refl); ends = λ h. absurd (never true h refl); steps = λ h. absurd (never true h refl) }
 
--- src/stretch.rt:109:25
 sub-read-step : tie.Need-sub-read-step
 sub-read-step c = search needs
 
--- src/stretch.rt:109:25
 part-read-step-start : tie.Need-part-read-step-start
 part-read-step-start c = search needs
 
--- src/stretch.rt:109:25
 part-read-step-end : tie.Need-part-read-step-end
 part-read-step-end c = search needs
 
--- src/stretch.rt:109:15
 read-step-requires : tie.Need-read-step-requires
 read-step-requires c κs = search needs
 
--- src/stretch.rt:97:1
 returns-2 : tie.Need-returns-2
 returns-2 c = record { end-is = c .before .before .before .line-end .ensures .0; end-most = c .before .before .before .line-end .ensures .1; roomy = λ h. le-of (c .before .before); ends = λ h e. ne-of (c .before .before) e; steps = λ h. c .read-step .ensures }
 

@@ -22,35 +22,27 @@ sure c = tests c .0
 idle : (c : tie.Else1) → c .before .before .before .before .args .t .kept ≡ 0
 idle c = eqb-true (c .before .before .before .before .args .t .kept) 0 (not-false (eqb (c .before .before .before .before .args .t .kept) 0) (tests c .1))
 
--- src/stretch.rt:223:9
 returns : tie.Need-returns
 returns c = search needs
 
--- src/stretch.rt:225:37
 sub-look : tie.Need-sub-look
 sub-look c = search needs
 
--- src/stretch.rt:225:9
 look-requires : tie.Need-look-requires
 look-requires c κs = search needs
 
--- src/stretch.rt:226:8
 stops-requires : tie.Need-stops-requires
 stops-requires c κs = search needs
 
--- src/stretch.rt:227:9
 returns-2 : tie.Need-returns-2
 returns-2 c = search needs
 
--- src/stretch.rt:229:5
 run-stretch-requires : tie.Need-run-stretch-requires
 run-stretch-requires c κs = (idle (c .before .before .before .before .before .before), c .before .before .before .before .before .before .before .before .before .before .pre .1 (sure (c .before .before .before .before .before .before)), c .before .before .before .before .before .before .before .before .before .before .pre .0 .0, c .before .before .before .before .before .before .before .before .before .before .pre .0 .1, c .before .before .before .look .ensures)
 
--- src/stretch.rt:217:1
 same-length : tie.Need-same-length
 same-length c = search needs
 
--- src/stretch.rt:217:1
 returns-3 : tie.Need-returns-3
 returns-3 c = (
   λ x d h k. subst (λ (b : Bool). Stands x (c .before .before .before .before .before .before .before .before .before .before .before .before .before .args .input .now) d b (c .before .before .run-stretch .result) h (c .before .before .run-stretch .last .1 .1 .1 .0)) (sym (sure (c .before .before .before .before .before .before .before .before .before)))

@@ -79,51 +79,39 @@ room c = answer-room (c .before .before .before .before .before .before .before 
 ahead : (c : tie.After-obey-in-place Inv-loop μ-loop) → c .before .before .before .before .before .before .before .before .before .before .loop .next .end < length (c .before .before .before .before .before .before .before .before .before .before .before .before .before .before .before .before .before .before .before .before .before .before .args .input .now)
 ahead c = end-inside (c .before .before .before .before .before .before .before .before .before .before .before .before .before .before .before .before .before .before .before .before .before .before .args .input .now) (first (c .before .before .before .before .before .before .before .before .before .before .before .before .before .before .before .before .before .before .before .before .before .before)) (c .before .before .before .before .before .before .before .before .before .before .before .before .before .before .before .before .before .before .before .before .before .before .args .out .now) (here c) (c .before .before .before .before .before .before .before .before .before .before .loop .out) (c .before .before .before .before .before .before .before .before .before .before .loop .next) (c .before .before .before .before .before .before .before .before .before .before .loop .inv .0) (on (c .before .before .before .before .before .before .before .before)) (c .obey-in-place .result) _ _ _ _ (c .obey-in-place .ensures)
 
--- src/stretch.rt:165:19
 weights-requires : tie.Need-weights-requires Inv-loop μ-loop
 weights-requires c κs = sound-facts (c .before .before .before .before .args .t .day) (c .before .before .before .before .pre .1) .plan-sound
 
--- src/stretch.rt:176:5
 loop-holds : tie.Need-loop-holds Inv-loop μ-loop
 loop-holds c = (begun (c .before .before .before .before .before .before .before .before .before .before .before), c .before .before .before .before .before .before .weights .ensures)
 
--- src/stretch.rt:176:12
 stops-requires : tie.Need-stops-requires Inv-loop μ-loop
 stops-requires c κs = search needs
 
--- src/stretch.rt:178:13
 obey-in-place-requires : tie.Need-obey-in-place-requires Inv-loop μ-loop
 obey-in-place-requires c κs = let g = c .before .before .before .before .before .before .before .before .before .loop .inv .0 in (c .before .before .before .before .before .before .before .before .before .loop .inv .1, (g .entries, ((g .prices-length, g .budgets-length), g .sure)))
 
--- src/stretch.rt:192:31
 counts-requires : tie.Need-counts-requires Inv-loop μ-loop
 counts-requires c κs = search needs
 
--- src/stretch.rt:192:20
 add-accepted : tie.Need-add-accepted Inv-loop μ-loop
 add-accepted c = record { fits = omega (arith, c .counts .ensures, c .before .obey-in-place .ensures .room (c .before .before .before .before .before .before .before .before .before .before .before .loop .inv .0 .below)) }
 
--- src/stretch.rt:193:9
 say-requires : tie.Need-say-requires Inv-loop μ-loop
 say-requires c κs = (ranged (c .before .before), omega (arith, room (c .before .before)))
 
--- src/stretch.rt:194:16
 add-from : tie.Need-add-from Inv-loop μ-loop
 add-from c = omega (arith, ahead (c .before .before .before .before .before .before), bounded (c .before .before .before .before .before .before .before .before .before .before .before .before .before .before .before .before .before .before .before .before .before .before .before .before .before .before .before))
 
--- src/stretch.rt:195:34
 sub-look : tie.Need-sub-look Inv-loop μ-loop
 sub-look c = omega (arith, c .before .before .before .say .ensures .1, c .before .before .before .say .ensures .0 .same, room (c .before .before .before .before .before .before))
 
--- src/stretch.rt:195:9
 look-requires : tie.Need-look-requires Inv-loop μ-loop
 look-requires c κs = omega (arith, ahead (c .before .before .before .before .before .before))
 
--- src/stretch.rt:176:5
 loop-less : tie.Need-loop-less Inv-loop μ-loop
 loop-less c = omega (arith, ahead (c .before .before .before .before .before .before .before), c .before .before .before .before .before .before .before .before .before .before .before .before .before .before .before .before .before .loop .inv .0 .looks .end-is)
 
--- src/stretch.rt:176:5
 loop-again : tie.Need-loop-again Inv-loop μ-loop
 loop-again c = (
   going-next (c .before .before .before .before .before .before .before .before .before .before .before .before .before .before .before .before .before .before .before .before .before .before .before .before .before .before .before .before .before .args .input .now) (first (c .before .before .before .before .before .before .before .before .before .before .before .before .before .before .before .before .before .before .before .before .before .before .before .before .before .before .before .before .before)) (c .before .before .before .before .before .before .before .before .before .before .before .before .before .before .before .before .before .before .before .before .before .before .before .before .before .before .before .before .before .args .out .now) (here (c .before .before .before .before .before .before .before)) (c .before .before .before .before .before .before .before .before .before .before .before .before .before .before .before .before .before .loop .out) (c .before .before .before .before .before .before .before .before .before .before .before .before .before .before .before .before .before .loop .next) (c .before .before .before .before .before .before .before .before .before .before .before .before .before .before .before .before .before .loop .inv .0) (on (c .before .before .before .before .before .before .before .before .before .before .before .before .before .before .before)) (c .before .before .before .before .before .before .before .obey-in-place .result) _ _ _ _ (c .before .before .before .before .before .before .before .obey-in-place .ensures)
@@ -131,11 +119,9 @@ loop-again c = (
   c .before .before .before .before .before .before .before .before .before .before .before .before .before .before .before .before .before .loop .inv .1,
 )
 
--- src/stretch.rt:157:1
 same-length : tie.Need-same-length Inv-loop μ-loop
 same-length c = c .before .before .loop .inv .0 .same
 
--- src/stretch.rt:157:1
 returns : tie.Need-returns Inv-loop μ-loop
 returns c =
     let s = c .before .before .before .before .before .before .before .before .before .before .before .before .before .before in

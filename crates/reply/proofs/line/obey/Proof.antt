@@ -11,135 +11,102 @@ use Rattle.reply.proofs.line.obey.Tie as tie
 made : (s : Day) {r t : Record} {o : Outcome} → r ≡ t → o ≡ obeyed s (request t) → o ≡ obeyed s (request r)
 made s {r} {t} {o} e p = subst (λ (x : Record). o ≡ obeyed s (request x)) (sym e) p
 
--- src/line.rt:50:24
 enum-known-input : tie.Need-enum-known-input
 enum-known-input c = search needs
 
--- src/line.rt:50:42
 open-requires : tie.Need-open-requires
 open-requires c κs = search needs
 
--- src/line.rt:51:28
 enum-known-input-2 : tie.Need-enum-known-input-2
 enum-known-input-2 c = search needs
 
--- src/line.rt:51:47
 add-requires : tie.Need-add-requires
 add-requires c κs = search needs
 
--- src/line.rt:52:26
 enum-told : tie.Need-enum-told
 enum-told c = search needs
 
--- src/line.rt:52:26
 start-requires : tie.Need-start-requires
 start-requires c κs = search needs
 
--- src/line.rt:53:22
 enum-known-input-3 : tie.Need-enum-known-input-3
 enum-known-input-3 c = search needs
 
--- src/line.rt:53:30
 view-checked-requires : tie.Need-view-checked-requires
 view-checked-requires c κs = search needs
 
--- src/line.rt:54:26
 enum-told-2 : tie.Need-enum-told-2
 enum-told-2 c = search needs
 
--- src/line.rt:54:26
 close-requires : tie.Need-close-requires
 close-requires c κs = search needs
 
--- src/line.rt:55:25
 enum-told-3 : tie.Need-enum-told-3
 enum-told-3 c = search needs
 
--- src/line.rt:55:25
 refuse-requires : tie.Need-refuse-requires
 refuse-requires c κs = search needs
 
--- src/line.rt:59:14
 enum-told-4 : tie.Need-enum-told-4
 enum-told-4 c = search needs
 
--- src/line.rt:59:14
 refuse-requires-2 : tie.Need-refuse-requires-2
 refuse-requires-2 c κs = search needs
 
--- src/line.rt:60:27
 enum-told-5 : tie.Need-enum-told-5
 enum-told-5 c = search needs
 
--- src/line.rt:60:27
 refuse-requires-3 : tie.Need-refuse-requires-3
 refuse-requires-3 c κs = search needs
 
--- src/line.rt:61:31
 enum-told-6 : tie.Need-enum-told-6
 enum-told-6 c = search needs
 
--- src/line.rt:61:31
 refuse-requires-4 : tie.Need-refuse-requires-4
 refuse-requires-4 c κs = search needs
 
--- src/line.rt:66:14
 enum-told-7 : tie.Need-enum-told-7
 enum-told-7 c = search needs
 
--- src/line.rt:66:14
 refuse-requires-5 : tie.Need-refuse-requires-5
 refuse-requires-5 c κs = search needs
 
--- src/line.rt:73:14
 enum-told-8 : tie.Need-enum-told-8
 enum-told-8 c = search needs
 
--- src/line.rt:73:14
 refuse-requires-6 : tie.Need-refuse-requires-6
 refuse-requires-6 c κs = search needs
 
--- src/line.rt:45:1
 returns : tie.Need-returns
 returns c = made (c .before .before .before .before .args .day) (c .before .before .input .given .1) (c .«open» .ensures)
 
--- src/line.rt:45:1
 returns-2 : tie.Need-returns-2
 returns-2 c = made (c .before .before .before .before .args .day) (c .before .before .input2 .given .1) (c .add .ensures)
 
--- src/line.rt:45:1
 returns-3 : tie.Need-returns-3
 returns-3 c = made (c .before .before .before .args .day) (c .before .enum-told .given .1) (c .start .ensures)
 
--- src/line.rt:45:1
 returns-4 : tie.Need-returns-4
 returns-4 c = made (c .before .before .before .before .args .day) (c .before .before .input3 .given .1) (c .view-checked .ensures)
 
--- src/line.rt:45:1
 returns-5 : tie.Need-returns-5
 returns-5 c = made (c .before .before .before .args .day) (c .before .enum-told2 .given .1) (c .close .ensures)
 
--- src/line.rt:45:1
 returns-6 : tie.Need-returns-6
 returns-6 c = made (c .before .before .before .args .day) (c .before .enum-told3 .given .1) (c .refuse .ensures)
 
--- src/line.rt:45:1
 returns-7 : tie.Need-returns-7
 returns-7 c = made (c .before .before .before .args .day) (c .before .enum-told4 .given .1) (c .refuse2 .ensures)
 
--- src/line.rt:45:1
 returns-8 : tie.Need-returns-8
 returns-8 c = made (c .before .before .before .args .day) (c .before .enum-told5 .given .1) (c .refuse3 .ensures)
 
--- src/line.rt:45:1
 returns-9 : tie.Need-returns-9
 returns-9 c = made (c .before .before .before .args .day) (c .before .enum-told6 .given .1) (c .refuse4 .ensures)
 
--- src/line.rt:45:1
 returns-10 : tie.Need-returns-10
 returns-10 c = made (c .before .before .before .args .day) (c .before .enum-told7 .given .1) (c .refuse5 .ensures)
 
--- src/line.rt:45:1
 returns-11 : tie.Need-returns-11
 returns-11 c = made (c .before .before .before .args .day) (c .before .enum-told8 .given .1) (c .refuse6 .ensures)
 

@@ -6,27 +6,21 @@ use borrow.Author.Needs.{needs}
 use Rattle.stretch.proofs.step.read_step.Statement.{statement}
 use Rattle.stretch.proofs.step.read_step.Tie as tie
 
--- src/stretch.rt:90:11
 read-line-requires : tie.Need-read-line-requires
 read-line-requires c κs = search needs
 
--- src/stretch.rt:91:22
 enum-known-input : tie.Need-enum-known-input
 enum-known-input c = search needs
 
--- src/stretch.rt:91:32
 step-of-requires : tie.Need-step-of-requires
 step-of-requires c κs = search needs
 
--- src/stretch.rt:92:26
 enum-known-question : tie.Need-enum-known-question
 enum-known-question c = search needs
 
--- src/stretch.rt:87:1
 returns : tie.Need-returns
 returns c = c .step-of .ensures ∙ ap (λ (r : Reading). step-of (c .before .before .before .before .before .before .args .phase) (request-of r)) (sym (c .before .before .input .given .1) ∙ c .before .before .before .before .read-line .ensures)
 
--- src/stretch.rt:87:1
 returns-2 : tie.Need-returns-2
 returns-2 c = ap (λ (r : Reading). step-of (c .before .before .before .before .before .args .phase) (request-of r)) (sym (c .before .question .given .1) ∙ c .before .before .before .read-line .ensures)
 

@@ -5,123 +5,93 @@ use borrow.Author.Needs.{needs}
 use Rattle.stretch.proofs.step.step_of.Statement.{statement}
 use Rattle.stretch.proofs.step.step_of.Tie as tie
 
--- src/stretch.rt:72:55
 enum-told : tie.Need-enum-told
 enum-told c = search needs
 
--- src/stretch.rt:72:55
 closed-requires : tie.Need-closed-requires
 closed-requires c κs = search needs
 
--- src/stretch.rt:72:48
 unless-requires : tie.Need-unless-requires
 unless-requires c κs = search needs
 
--- src/stretch.rt:76:21
 enum-told-2 : tie.Need-enum-told-2
 enum-told-2 c = search needs
 
--- src/stretch.rt:76:21
 filling-requires : tie.Need-filling-requires
 filling-requires c κs = search needs
 
--- src/stretch.rt:76:14
 unless-requires-2 : tie.Need-unless-requires-2
 unless-requires-2 c κs = search needs
 
--- src/stretch.rt:77:33
 enum-told-3 : tie.Need-enum-told-3
 enum-told-3 c = search needs
 
--- src/stretch.rt:77:33
 filling-requires-2 : tie.Need-filling-requires-2
 filling-requires-2 c κs = search needs
 
--- src/stretch.rt:77:26
 unless-requires-3 : tie.Need-unless-requires-3
 unless-requires-3 c κs = search needs
 
--- src/stretch.rt:78:22
 enum-known-input : tie.Need-enum-known-input
 enum-known-input c = search needs
 
--- src/stretch.rt:79:33
 enum-told-4 : tie.Need-enum-told-4
 enum-told-4 c = search needs
 
--- src/stretch.rt:79:33
 running-requires : tie.Need-running-requires
 running-requires c κs = search needs
 
--- src/stretch.rt:79:26
 unless-requires-4 : tie.Need-unless-requires-4
 unless-requires-4 c κs = search needs
 
--- src/stretch.rt:80:25
 enum-told-5 : tie.Need-enum-told-5
 enum-told-5 c = search needs
 
--- src/stretch.rt:84:14
 enum-told-6 : tie.Need-enum-told-6
 enum-told-6 c = search needs
 
--- src/stretch.rt:85:27
 enum-told-7 : tie.Need-enum-told-7
 enum-told-7 c = search needs
 
--- src/stretch.rt:86:31
 enum-told-8 : tie.Need-enum-told-8
 enum-told-8 c = search needs
 
--- src/stretch.rt:91:14
 enum-told-9 : tie.Need-enum-told-9
 enum-told-9 c = search needs
 
--- src/stretch.rt:98:14
 enum-told-10 : tie.Need-enum-told-10
 enum-told-10 c = search needs
 
--- src/stretch.rt:68:1
 returns : tie.Need-returns
 returns c = rw (c .before .before .enum-told .given .1) (c .unless .ensures ∙ ap (λ (b : Bool). unless b 2) (c .before .closed .ensures))
 
--- src/stretch.rt:68:1
 returns-2 : tie.Need-returns-2
 returns-2 c = rw (c .before .before .enum-told2 .given .1) (c .unless2 .ensures ∙ ap (λ (b : Bool). unless b 6) (c .before .filling .ensures))
 
--- src/stretch.rt:68:1
 returns-3 : tie.Need-returns-3
 returns-3 c = rw (c .before .before .enum-told3 .given .1) (c .unless3 .ensures ∙ ap (λ (b : Bool). unless b 6) (c .before .filling2 .ensures))
 
--- src/stretch.rt:68:1
 returns-4 : tie.Need-returns-4
 returns-4 c = rw (c .before .input .given .1)
 
--- src/stretch.rt:68:1
 returns-5 : tie.Need-returns-5
 returns-5 c = rw (c .before .before .enum-told4 .given .1) (c .unless4 .ensures ∙ ap (λ (b : Bool). unless b 11) (c .before .running .ensures))
 
--- src/stretch.rt:68:1
 returns-6 : tie.Need-returns-6
 returns-6 c = search needs
 
--- src/stretch.rt:68:1
 returns-7 : tie.Need-returns-7
 returns-7 c = search needs
 
--- src/stretch.rt:68:1
 returns-8 : tie.Need-returns-8
 returns-8 c = search needs
 
--- src/stretch.rt:68:1
 returns-9 : tie.Need-returns-9
 returns-9 c = search needs
 
--- src/stretch.rt:68:1
 returns-10 : tie.Need-returns-10
 returns-10 c = search needs
 
--- src/stretch.rt:68:1
 returns-11 : tie.Need-returns-11
 returns-11 c = search needs
 

@@ -1,11 +1,9 @@
 use Rattle.stretch.proofs.step.unless.Statement.{statement}
 use Rattle.stretch.proofs.step.unless.Tie as tie
 
--- src/stretch.rt:62:9
 returns : tie.Need-returns
 returns c = rw (c .if1 .taken)
 
--- src/stretch.rt:58:1
 returns-2 : tie.Need-returns-2
 returns-2 c = rw (c .if1 .left)
 
