@@ -16,17 +16,20 @@ use Rattle.lines.specs.Reading.{Rest, none, some, isDigit, restOf, numbe
 use Rattle.lines.proofs.Digits.{apart}
 use Rattle.lines.proofs.Templates.{fair, taken, most, sound, complete, filled-most}
 
--- the form that the bytes at 1, 4 and 6 leave
-unfoldable pub chosen : List ℕ → Record
-chosen l =
-    cond (eqb (getD l 1 0) 118) (View 0)
-    (cond (eqb (getD l 1 0) 112) (cond (eqb (getD l 4 0) 110) (Plan 0 0) (Play 0 0))
-    (cond (eqb (getD l 1 0) 99) (cond (eqb (getD l 6 0) 41) Close (cond (eqb (getD l 6 0) 100) (Closed 0 0 0) (Campaign 0 0)))
-    (cond (eqb (getD l 1 0) 115) Start
-    (cond (eqb (getD l 1 0) 111) Done
-    (cond (eqb (getD l 1 0) 110) Nobody
-    (cond (eqb (getD l 1 0) 114) (Refused 0)
+-- the form that the bytes b, d and e leave, where they stand at 1, 4 and 6
+abbrev pub leaves : ℕ → ℕ → ℕ → Record
+leaves b d e =
+    cond (eqb b 118) (View 0)
+    (cond (eqb b 112) (cond (eqb d 110) (Plan 0 0) (Play 0 0))
+    (cond (eqb b 99) (cond (eqb e 41) Close (cond (eqb e 100) (Closed 0 0 0) (Campaign 0 0)))
+    (cond (eqb b 115) Start
+    (cond (eqb b 111) Done
+    (cond (eqb b 110) Nobody
+    (cond (eqb b 114) (Refused 0)
     (Tally 0 0 0 0 0)))))))
+
+unfoldable pub chosen : List ℕ → Record
+chosen l = leaves (getD l 1 0) (getD l 4 0) (getD l 6 0)
 
 -- What a form of the list is, and what a record is to its form: a new form is a row in each of the two tables.
 
