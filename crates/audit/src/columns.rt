@@ -11,7 +11,7 @@ const MAX_PRICE: u32 = 1_000_000;
 
 const MAX_BUDGET: u32 = 2_000_000_000;
 
-// They hold of the first n campaigns, of which `sum_all` was told that there are at most 64.
+// The first n campaigns keep these limits; `sum_all` was told that there are at most 64.
 pub fn priced_all<'a>(n: usize, prices: &'a [u32; 64], budgets: &'a [u32; 64]) -> bool
     requires { ⌜ n ≤ 64 ⌝ }
     ensures { λ r. ⌜ r ≡ priced-columns n (now (prices .entry)) (now (budgets .entry)) ⌝ }

@@ -1,5 +1,5 @@
 // A plan, its phases and its campaigns: the rules for one campaign. Campaigns stand in parallel arrays of small integers,
-// which the passes over all of them are lent.
+// which the passes over all of them, in `audit` and `views`, are lent.
 pub mod entry;
 pub mod rules;
 pub mod weights;

@@ -21,7 +21,7 @@ use Rattle.audit.proofs.Settling.{held, examined-is, examined-not}
 use Rattle.day.specs.declared.Day.{Day}
 use Rattle.day.specs.Day.{campaign, taken, claimed, budgeted}
 use Rattle.day.specs.Sound.{sound}
-use Rattle.day.specs.Inner.{audited}
+use Rattle.day.specs.Parts.{audited}
 
 -- soundness in the order of the code
 regroup : (a b c x y e f g : Bool) → (a && (b && (c && ((x && y) && (e && (f && (g && true))))))) ≡ ((a && b && c) && ((x && y && e && f) && g))

@@ -18,7 +18,7 @@ use Rattle.audit.specs.declared.Audit.{Audit}
 use Rattle.day.specs.Sound.{sound}
 use Rattle.day.specs.Calls.{Question, first-no, Call, questions, result, refused, answered, call}
 use Rattle.audit.specs.Inner.{not-sound}
-use Rattle.day.specs.Inner.{figures, audited}
+use Rattle.day.specs.Parts.{figures, audited}
 use Rattle.day.specs.Calls.Call.{open-plan, add-campaign, start-day, show-view, ask-tally, close-day}
 
 -- every question is answered yes

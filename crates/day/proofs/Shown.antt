@@ -31,7 +31,8 @@ use Rattle.day.specs.Day.{campaign}
 use Rattle.campaigns.specs.Phase.{is-running}
 use Rattle.day.specs.Calls.{questions, player, offers, shown, told, result, refused, call}
 use Rattle.day.specs.Calls.Call.{show-view}
-use Rattle.day.specs.Inner.{state-of, answer-of, counts, Shows}
+use Rattle.day.specs.Parts.{state-of, counts, Shows}
+use Rattle.day.specs.Inner.{answer-of}
 use Rattle.day.proofs.State.{Sound, sound-facts, held-at, array-is}
 use Rattle.day.proofs.Questions.{Yes, call-elim, call-yes}
 

@@ -23,9 +23,8 @@ use Rattle.day.specs.declared.Day.{Day}
 use Rattle.day.specs.Calls.{joined}
 use Rattle.day.specs.Day.{campaign, holding, taken, claimed, budgeted}
 use Rattle.campaigns.specs.View.{full}
-use Rattle.campaigns.specs.Phase.{is-filling}
+use Rattle.campaigns.specs.Phase.{is-filling, phase-holds}
 use Rattle.day.specs.Sound.{sound, sound-tests, sound-entry}
-use Rattle.campaigns.specs.Phase.{phase-holds}
 
 pub record Sound (s : Day) : Type 0 where
   pub plan-sound : sound-plan (s .plan) ≡ true

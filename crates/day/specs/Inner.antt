@@ -2,7 +2,7 @@
 use mathlib.Core.Bool.{true, cond, _&&_}
 use mathlib.Core.List.{List, [], _∷_}
 use mathlib.Core.Path.{_≡_}
-use Prim.Native.Nat.{ℕ, _+_, _<_}
+use Prim.Native.Nat.{ℕ, _<_}
 use lib.Dec.{leb, ltb}
 use Rattle.sets.specs.Set.{size, within}
 use Rattle.campaigns.specs.declared.Phase.{Phase}
@@ -12,27 +12,11 @@ use Rattle.campaigns.specs.declared.View.{View}
 use Rattle.views.specs.declared.Leader.{Leader}
 use Rattle.campaigns.specs.Campaign.{depth-fits, width-fits, power-fits}
 use Rattle.day.specs.declared.Answer.{Answer}
-use Rattle.day.specs.declared.Answer.the-variants.{Refused, Done, Played, Nobody, Tallied, Closing}
+use Rattle.day.specs.declared.Answer.the-variants.{Played, Nobody}
 use Rattle.day.specs.declared.Day.{Day}
-use Rattle.audit.specs.declared.Audit.{Audit}
-use Rattle.audit.specs.Inner.{not-sound}
-use Rattle.campaigns.specs.View.{full}
-use Rattle.day.specs.Day.{taken, claimed, budgeted}
 use Rattle.campaigns.specs.Phase.{is-filling, is-running}
 use Rattle.day.specs.Sound.{sound}
-use Rattle.day.specs.Calls.{Question, question, call}
-use Rattle.day.specs.Calls.Call.{show-view}
-
--- a state by its parts
-abbrev pub state-of : Phase → Plan → (count accepted : ℕ) → (prices budgets plays turns ages named : List ℕ) → Day
-state-of p pl n a x b l t g m = record { phase = p; plan = pl; count = n; accepted = a; prices = x; budgets = b; plays = l; turns = t; ages = g; named = m }
-
--- the audit of a state
-abbrev pub figures : Day → Audit
-figures s = record { sound = true; budgets = budgeted s; takings = taken s; claim = claimed s; full = full (s .plan) (taken s) }
-
-unfoldable pub audited : Day → Audit
-audited s = cond (sound s) (figures s) not-sound
+use Rattle.day.specs.Calls.{Question, question}
 
 -- questions 3 to 5 of an opening
 abbrev pub plan-questions : Plan → List Question
@@ -47,24 +31,6 @@ view-questions p pl n a w =
 -- the answer that names leader l
 abbrev pub answer-of : Leader → Answer
 answer-of l = cond (l .found) (Played (l .campaign) (l .paid)) Nobody
-
--- one for an accepted view
-abbrev pub counts : Answer → ℕ
-counts (Refused q) = 0
-counts Done = 1
-counts (Played i p) = 1
-counts Nobody = 1
-counts (Tallied p t a n) = 1
-counts (Closing t c f) = 1
-
--- the answer to a view, the accepted views and the counts after it are those of the call
-pub record Shows (s : Day) (w : View) (r : Answer) (l t g m : List ℕ) : Type 0 where
-  pub answer-is : r ≡ call s (show-view w) .answer
-  pub accepted-is : s .accepted + counts r ≡ call s (show-view w) .day .accepted
-  pub plays-are : l ≡ call s (show-view w) .day .plays
-  pub turns-are : t ≡ call s (show-view w) .day .turns
-  pub ages-are : g ≡ call s (show-view w) .day .ages
-  pub named-are : m ≡ call s (show-view w) .day .named
 
 -- there is room for one campaign more, whose terms fit the arrays
 pub record Joinable (s : Day) (t : Terms) : Type 0 where

@@ -51,7 +51,7 @@ pub struct Outcome {
 }
 
 impl Day {
-    // The limits.
+    // The limits, for callers; they are those of `Plan` and `Terms`.
     pub const MAX_CAMPAIGNS: u64 = Plan::MAX_CAMPAIGNS;
 
     pub const MAX_VIEWS: u64 = Plan::MAX_VIEWS;
@@ -90,7 +90,7 @@ impl Day {
     }
 
     // The unchanged state and the number of the question that failed.
-    fn refused(self, question: u64) -> Outcome
+    pub fn refused(self, question: u64) -> Outcome
         ensures { λ r. ⌜ r ≡ refused self question ⌝ }
     {
         Outcome {

@@ -11,7 +11,8 @@ ghost use Prim.Native.Nat.{_+_};
 ghost use Rattle.day.specs.Day.{in-phase};
 ghost use Rattle.day.specs.Calls.{first-no, questions, result, call};
 ghost use Rattle.day.specs.Calls.Call.{open-plan, add-campaign, start-day, ask-tally, close-day};
-ghost use Rattle.day.specs.Inner.{audited, plan-questions, Joinable};
+ghost use Rattle.day.specs.Parts.{audited};
+ghost use Rattle.day.specs.Inner.{plan-questions, Joinable};
 
 // The number of the first of questions 3 to 5 that a plan fails, or 0; the last is looked up in the table.
 fn plan_question(plan: Plan) -> u64
@@ -30,6 +31,7 @@ fn plan_question(plan: Plan) -> u64
 }
 
 impl Day {
+    // Whether the state is sound and, if so, its sums.
     pub fn audit(self) -> Audit
         ensures { λ r. ⌜ r ≡ audited self ⌝ }
     {
@@ -79,6 +81,7 @@ impl Day {
         }
     }
 
+    // The number of the first question that an opening fails, or 0.
     fn open_question(self, plan: Plan) -> u64
         ensures { λ r. ⌜ r ≡ first-no (questions self (open-plan plan)) ⌝ }
     {
@@ -93,6 +96,7 @@ impl Day {
         plan_question(plan)
     }
 
+    // A new plan with no campaigns, in Filling.
     pub fn open(self, plan: Plan) -> Outcome
         ensures { λ r. ⌜ r ≡ call self (open-plan plan) ⌝ }
     {
@@ -107,6 +111,7 @@ impl Day {
         }
     }
 
+    // The number of the first question that an adding fails, or 0.
     fn add_question(self, terms: Terms) -> u64
         ensures { λ r. ⌜ r ≡ first-no (questions self (add-campaign terms)) ⌝ }
     {
@@ -145,6 +150,7 @@ impl Day {
         self
     }
 
+    // One campaign more, with zero counts.
     pub fn add(self, terms: Terms) -> Outcome
         ensures { λ r. ⌜ r ≡ call self (add-campaign terms) ⌝ }
     {
@@ -159,6 +165,7 @@ impl Day {
         }
     }
 
+    // The day starts: no campaign is added from now on.
     pub fn start(self) -> Outcome
         ensures { λ r. ⌜ r ≡ call self start-day ⌝ }
     {
@@ -177,6 +184,7 @@ impl Day {
         }
     }
 
+    // The four counts of a campaign; the state stays.
     pub fn tally(self, campaign: u64) -> Outcome
         ensures { λ r. ⌜ r ≡ call self (ask-tally campaign) ⌝ }
     {
@@ -208,6 +216,7 @@ impl Day {
         }
     }
 
+    // The day closes with its takings, total claim and full.
     pub fn close(self) -> Outcome
         ensures { λ r. ⌜ r ≡ call self close-day ⌝ }
     {

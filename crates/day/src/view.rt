@@ -17,7 +17,8 @@ ghost use Rattle.views.specs.Inner.{Entries};
 ghost use Rattle.day.specs.Sound.{sound};
 ghost use Rattle.day.specs.Calls.{first-no, call};
 ghost use Rattle.day.specs.Calls.Call.{show-view};
-ghost use Rattle.day.specs.Inner.{state-of, view-questions, answer-of, counts, Shows};
+ghost use Rattle.day.specs.Parts.{state-of, counts, Shows};
+ghost use Rattle.day.specs.Inner.{view-questions, answer-of};
 
 // The number of the first of questions 11 to 14 that a view fails, or 0.
 fn view_question(phase: Phase, plan: Plan, count: u64, accepted: u64, view: View) -> u64
@@ -79,8 +80,8 @@ pub fn counts(answer: Answer) -> u64
     }
 }
 
-// The view of a sound state, whose counts are changed where they stand: `show` has tested the state, and a stretch of the
-// desk keeps the one that it tested.
+// The view of a sound state, whose counts are changed where they stand: `show` has tested the state, and
+// `stretch::run_stretch` keeps the one that `pass` has tested.
 pub fn show_sound<'a>(
     phase: Phase,
     plan: Plan,
@@ -173,6 +174,7 @@ pub fn show<'a>(
 }
 
 impl Day {
+    // The play of a view, or nobody; copies of the counts are lent to `show`.
     pub fn view(mut self, view: View) -> Outcome
         ensures { λ r. ⌜ r ≡ call self (show-view view) ⌝ }
     {

@@ -1,13 +1,14 @@
 -- What a desk holds after a run over a block, and at the end of input.
-use mathlib.Core.Path.{_≡_, refl, sym, ap, _∙_, subst}
-use mathlib.Core.Bool.{Bool, true, false}
+use mathlib.Core.Path.{_≡_, refl, sym, ap, _∙_, subst, subst⁻¹}
+use mathlib.Core.Bool.{Bool, true, false, cond, _||_}
 use mathlib.Core.List.{List, [], _∷_, _++_}
 use Prim.Native.Nat.{ℕ, min, _≤_, _<_}
 use native.Mathlib.Omega.{arith}
-use lib.Dec.{leb}
+use lib.Dec.{leb, ltb, eqb}
 use lib.ListN.{length, take, drop, length-take}
-use lib.Seq.{take-all}
-use borrow.Author.Tests.{le-leb, lt-leb, leb-true, leb-false}
+use lib.Seq.{take-all, length-take-le}
+use borrow.Author.Tests.{le-leb, leb-true, leb-false, le-ltb, ltb-false, eqb-true, eqb-false}
+use Rattle.finite.proofs.Tests.{never}
 use Rattle.print.specs.Buffer.{Put}
 use Rattle.print.proofs.Buffers.{over-front}
 use Rattle.reply.specs.declared.line.Served.{Served}
@@ -31,17 +32,25 @@ take-least h k e = go (leb k 201) refl
 session-is : (k : Desk) (n : ℕ) → n ≡ min (k .kept) 201 → length (k .held) ≡ 201 → session (k .day) (k .held) n ≡ session-of k
 session-is k n q e = ap (λ (h : List ℕ). record { day = k .day; held = h; said = [] }) (ap (λ (i : ℕ). take i (k .held)) q ∙ take-least (k .held) (k .kept) e)
 
+pub neither : (a b : Bool) → (a || b) ≡ false → (a ≡ false) × (b ≡ false)
+neither false b e = (refl, e)
+neither true b e = absurd (never true e refl)
+
 -- what is put at the front of d
 front-is : {d e w : List ℕ} {to : ℕ} → Put d e 0 to w → to ≤ length d → e ≡ w ++ drop (length w) d
 front-is {d} {e} {w} p h = p .here ∙ over-front d w (omega (arith, p .next))
+
+-- as many bytes are held as are kept
+kept-length : (n : ℕ) (h w : List ℕ) → n ≤ 201 → length h ≡ 201 → take n h ≡ w → n ≡ length w
+kept-length n h w few e q = sym (ap (λ (l : List ℕ). length l) (sym q) ∙ length-take-le n h (omega arith))
 
 module _ (k : Desk) (l d e : List ℕ) (n : ℕ) (t : Cursor) (g : List ℕ) where
   held-run : (x : Session) → session (k .day) (k .held) n ≡ x → Runs (session (k .day) (k .held) n) l d e t g → Runs x l d e t g
   held-run x q r = subst (λ (y : Session). Runs y l d e t g) q r
 
-  pub feeds : n ≡ min (k .kept) 201 → length (k .held) ≡ 201 → Runs (session (k .day) (k .held) n) l d e t g
+  pub feeds : n ≡ min (k .kept) 201 → length (k .held) ≡ 201 → length g ≡ 201 → Runs (session (k .day) (k .held) n) l d e t g
       → Feeds k l d e (record { desk = record { day = t .day; held = g; kept = t .kept }; consumed = t .from; written = t .at })
-  feeds q h p =
+  feeds q h w p =
       let r = held-run (session-of k) (session-is k n q h) p in
       record {
         consumed = r .from;
@@ -49,15 +58,12 @@ module _ (k : Desk) (l d e : List ℕ) (n : ℕ) (t : Cursor) (g : List ℕ) whe
         holds = record {
           day = r .day;
           held = r .held;
+          kept-is = kept-length (t .kept) g _ (r .few) w (r .held);
           length-is = omega (arith, r .put .next);
           front = front-is (r .put) (r .fits);
           fits = omega (arith, r .fits, r .put .same);
         };
       }
-
--- nothing is done
-unchanged : (k : Desk) (d : List ℕ) → Holds (session-of k) d d k 0
-unchanged k d = record { day = refl; held = refl; length-is = refl; front = refl; fits = omega arith }
 
 finished-none : (x : Session) → x .held ≡ [] → finished x ≡ x
 unfolding finished
@@ -71,28 +77,49 @@ finished-some x h = go (x .held) h
     go [] k = absurd (omega arith)
     go (b ∷ l) k = refl
 
-module _ (k : Desk) (d : List ℕ) (n : ℕ) (q : n ≡ min (k .kept) 201) where
-  pub finishes-small : length d < 16384 → Finishes k d d (record { desk = k; consumed = 0; written = 0 })
-  finishes-small h = record { consumed = refl; holds = rw (lt-leb 16384 (length d) h) (unchanged k d) }
+module _ (k : Desk) (d : List ℕ) (n : ℕ) (q : n ≡ min (k .kept) 201) (w : length (k .held) ≡ 201) where
+  abbrev idle : Desk
+  idle = record { day = k .day; held = k .held; kept = n }
 
-  pub finishes-none : 16384 ≤ length d → n ≡ 0 → Finishes k d d (record { desk = k; consumed = 0; written = 0 })
-  finishes-none h z =
-      let y : k .kept ≡ 0 = omega (arith, q) in
-      let f : finished (session-of k) ≡ session-of k = finished-none (session-of k) (ap (λ (i : ℕ). take i (k .held)) y) in
-      record { consumed = refl; holds = rw (le-leb 16384 (length d) h) (subst (λ (x : Session). Holds x d d k 0) (sym f) (unchanged k d)) }
+  kept-line : take n (k .held) ≡ take (k .kept) (k .held)
+  kept-line = ap (λ (i : ℕ). take i (k .held)) q ∙ take-least (k .held) (k .kept) w
 
-  pub finishes-line : {e : List ℕ} (r : Served) → 16384 ≤ length d → (n ≡ 0 → ⊥) → length (k .held) ≡ 201 → Serves (k .day) (take n (k .held)) d e 0 r
+  -- nothing is done
+  unchanged : Holds (session-of k) d d idle 0
+  unchanged = record {
+    day = refl;
+    held = kept-line;
+    kept-is = kept-length n (k .held) (take (k .kept) (k .held)) (omega (arith, q)) w kept-line;
+    length-is = refl;
+    front = refl;
+    fits = omega arith;
+  }
+
+  -- without the room, or with no byte held
+  pub finishes-idle : (ltb (length d) 16384 || eqb n 0) ≡ true → Finishes k d d (record { desk = idle; consumed = 0; written = 0 })
+  finishes-idle t = record { consumed = refl; holds = go (leb 16384 (length d)) refl }
+    where
+      none : ltb (length d) 16384 ≡ false → take (k .kept) (k .held) ≡ []
+      none f = sym kept-line ∙ ap (λ (i : ℕ). take i (k .held)) (eqb-true n 0 (ap (λ (b : Bool). b || eqb n 0) (sym f) ∙ t))
+
+      go : (b : Bool) → leb 16384 (length d) ≡ b → Holds (cond b (finished (session-of k)) (session-of k)) d d idle 0
+      go true e = subst⁻¹ (λ (x : Session). Holds x d d idle 0) (finished-none (session-of k) (none (le-ltb (length d) 16384 (leb-true 16384 (length d) e)))) unchanged
+      go false e = unchanged
+
+  pub finishes-line : {e : List ℕ} (r : Served) → (ltb (length d) 16384 || eqb n 0) ≡ false → Serves (k .day) (take n (k .held)) d e 0 r
       → Finishes k d e (record { desk = record { day = r .day; held = k .held; kept = 0 }; consumed = 0; written = r .at })
-  finishes-line {e} r h z w p =
-      let m : take n (k .held) ≡ take (k .kept) (k .held) = ap (λ (i : ℕ). take i (k .held)) q ∙ take-least (k .held) (k .kept) w in
-      let some : 0 < length (take (k .kept) (k .held)) = omega (arith, length-take (k .kept) (k .held), z) in
+  finishes-line {e} r t p =
+      let none = neither (ltb (length d) 16384) (eqb n 0) t in
+      let room : 16384 ≤ length d = ltb-false (length d) 16384 (none .0) in
+      let some : 0 < length (take (k .kept) (k .held)) = omega (arith, length-take (k .kept) (k .held), eqb-false n 0 (none .1)) in
       let f : finished (session-of k) ≡ ended (session-of k) = finished-some (session-of k) some in
-      let u : Put d e 0 (r .at) (reply (k .day) (take (k .kept) (k .held))) = subst (λ (l : List ℕ). Put d e 0 (r .at) (reply (k .day) l)) m (p .put) in
+      let u : Put d e 0 (r .at) (reply (k .day) (take (k .kept) (k .held))) = subst (λ (l : List ℕ). Put d e 0 (r .at) (reply (k .day) l)) kept-line (p .put) in
       let y : Holds (ended (session-of k)) d e (record { day = r .day; held = k .held; kept = 0 }) (r .at) = record {
-        day = p .day ∙ ap (next (k .day)) m;
+        day = p .day ∙ ap (next (k .day)) kept-line;
         held = refl;
+        kept-is = refl;
         length-is = omega (arith, u .next);
         front = front-is u (omega (arith, p .fits));
         fits = omega (arith, p .fits, u .same);
       } in
-      record { consumed = refl; holds = rw (le-leb 16384 (length d) h) (subst (λ (x : Session). Holds x d e (record { day = r .day; held = k .held; kept = 0 }) (r .at)) (sym f) y) }
+      record { consumed = refl; holds = rw (le-leb 16384 (length d) room) (subst (λ (x : Session). Holds x d e (record { day = r .day; held = k .held; kept = 0 }) (r .at)) (sym f) y) }

@@ -1,19 +1,27 @@
--- Feeding an input in any pieces gives the answers to its lines, and the same state.
-use mathlib.Core.Path.{_≡_, refl, sym, ap, ap₂, _∙_}
-use mathlib.Core.Bool.{Bool, true, false}
+-- A desk that is handed an input in any blocks writes the answers to its lines.
+use mathlib.Core.Path.{_≡_, refl, sym, ap, ap₂, _∙_, subst, subst⁻¹}
+use mathlib.Core.Bool.{Bool, true, false, cond}
 use mathlib.Core.List.{List, [], _∷_, _++_, append-assoc, append-nil}
-use Prim.Native.Nat.{ℕ, suc}
+use Prim.Native.Nat.{ℕ, suc, _≤_}
 use native.Mathlib.Omega.{arith}
 use lib.Dec.{eqb}
-use lib.ListN.{take}
-use borrow.Author.Tests.{eqb-true}
+use lib.ListN.{length, take, drop, take-append-drop}
+use lib.Seq.{take-append-seam}
+use borrow.Author.Tests.{eqb-true, le-leb}
 use Rattle.day.specs.declared.Day.{Day}
+use Rattle.day.specs.Day.{blank}
 use Rattle.reply.specs.Reply.{reply, next}
 use Rattle.stretch.specs.Session.{Session, longer, ended, after-byte, fed, upto}
 use Rattle.stretch.proofs.Sessions.{cut-reply, cut-next, fed-append, byte-plain, byte-end}
-use Rattle.desk.specs.Desk.{finished, session}
-use Rattle.desk.specs.Pieces.{joined, Plain, All-plain, after-lines, replies, Split, silent, said-in, after-pieces, concat, last-reply, Any-pieces}
+use Rattle.desk.specs.declared.feed.Desk.{Desk}
+use Rattle.desk.specs.declared.feed.Fed.{Fed}
+use Rattle.desk.specs.Desk.{finished, session, new-desk, session-of, Holds, Finishes}
+use Rattle.desk.specs.Pieces.{joined, Plain, All-plain, after-lines, replies, Split, Feeding, Takes, desk-after, written, last-reply, Any-pieces}
 use Rattle.desk.proofs.Rests.{rest-fed}
+
+-- the session with its answers handed over
+abbrev silent : Session → Session
+silent x = record { day = x .day; held = x .held; said = [] }
 
 abbrev with-said : Session → List ℕ → Session
 with-said x w = record { day = x .day; held = x .held; said = w }
@@ -40,23 +48,38 @@ fed-said x (b ∷ l) = go (eqb b 10) refl (fed-said (ended x) l) (fed-said (ende
         ∙ r
         ∙ sym (ap (λ (y : Session). with-said (fed y l) (x .said ++ fed y l .said)) (byte-plain (silent x) b e))
 
--- In pieces.
+-- In blocks.
 
--- all answers to the pieces are those to the whole input
-pub said-pieces : (x : Session) (ps : List (List ℕ)) → said-in x ps ≡ fed (silent x) (concat ps) .said
-unfolding said-in concat fed
-said-pieces x [] = refl
-said-pieces x (p ∷ ps) =
-    ap (λ (w : List ℕ). fed (silent x) p .said ++ w) (said-pieces (fed (silent x) p) ps)
-    ∙ sym (ap (λ (y : Session). y .said) (fed-append (silent x) p (concat ps) ∙ fed-said (fed (silent x) p) (concat ps)))
+-- what is put at the front is what was said
+front-said : {y : Session} {d e : List ℕ} {k : Desk} {n : ℕ} → Holds y d e k n → take n e ≡ y .said
+front-said {y} {d} {e} {k} {n} h = ap₂ (λ (i : ℕ) (l : List ℕ). take i l) (h .length-is) (h .front) ∙ take-append-seam (y .said) (drop (length (y .said)) d)
 
--- and the session in the end is the same
-pub after-whole : (x : Session) (ps : List (List ℕ)) → after-pieces x ps ≡ silent (fed (silent x) (concat ps))
-unfolding after-pieces concat fed
-after-whole x [] = refl
-after-whole x (p ∷ ps) =
-    after-whole (fed (silent x) p) ps
-    ∙ sym (ap silent (fed-append (silent x) p (concat ps) ∙ fed-said (fed (silent x) p) (concat ps)))
+-- the next block begins with the session that the last one left, its answers handed over
+session-next : {y : Session} {d e : List ℕ} {k : Desk} {n : ℕ} → Holds y d e k n → session-of k ≡ silent y
+session-next h = ap₂ (λ (s : Day) (l : List ℕ). record { day = s; held = l; said = [] }) (h .day) (h .held)
+
+-- all that is written, with the end of input, is what the whole input says
+module _ (d e : List ℕ) (r : Fed) (room : 16384 ≤ length d) where
+  all-written : (k : Desk) (l : List ℕ) (fs : List Feeding) → Takes k l fs → Finishes (desk-after k fs) d e r
+      → written fs ++ take (r .written) e ≡ fed (session-of k) l .said ++ finished (silent (fed (session-of k) l)) .said
+  unfolding fed
+  all-written k l [] t h =
+      front-said (subst (λ (b : Bool). Holds (cond b (finished (session-of k)) (session-of k)) d e (r .desk) (r .written)) (le-leb 16384 (length d) room) (h .holds))
+      ∙ ap (λ (m : List ℕ). fed (session-of k) m .said ++ finished (silent (fed (session-of k) m)) .said) (sym t)
+  all-written k l (f ∷ fs) t h =
+      let x = session-of k in
+      let n = f .back .consumed in
+      let y = fed x (take n (f .block)) in
+      let m = drop n (f .block) ++ f .later in
+      let o : Holds y (f .before) (f .after) (f .back .desk) (f .back .written) = subst⁻¹ (λ (i : ℕ). Holds (fed x (take i (f .block))) (f .before) (f .after) (f .back .desk) (f .back .written)) (t .1 .consumed) (t .1 .holds) in
+      let z : fed x l ≡ with-said (fed (silent y) m) (y .said ++ fed (silent y) m .said) =
+      ap (fed x) (t .0 ∙ ap (λ (w : List ℕ). w ++ f .later) (sym (take-append-drop n (f .block))) ∙ append-assoc (take n (f .block)) (drop n (f .block)) (f .later))
+      ∙ fed-append x (take n (f .block)) m
+      ∙ fed-said y m in
+      append-assoc (take (f .back .written) (f .after)) (written fs) (take (r .written) e)
+      ∙ ap₂ _++_ (front-said o) (all-written (f .back .desk) m fs (t .2) h ∙ ap (λ (s : Session). fed s m .said ++ finished (silent (fed s m)) .said) (session-next o))
+      ∙ sym (append-assoc (y .said) (fed (silent y) m .said) (finished (silent (fed (silent y) m)) .said))
+      ∙ sym (ap (λ (s : Session). s .said ++ finished (silent s) .said) z)
 
 -- As lines.
 
@@ -91,12 +114,11 @@ last-said s [] = refl
 last-said s (b ∷ l) = cut-reply s (b ∷ l)
 
 pub any-pieces : Any-pieces
-any-pieces s ps ls rest a e w =
-    let x : Session = session s [] 0 in
-    let f : fed x (concat ps) ≡ record { day = after-lines s ls; held = take 201 rest; said = replies s ls } = ap (fed x) w ∙ fed-lines s [] ls rest a e in
-    ap₂ _++_
-    (said-pieces x ps ∙ ap (λ (y : Session). y .said) f)
-    (ap (λ (y : Session). finished y .said) (after-whole x ps ∙ ap silent f) ∙ last-said (after-lines s ls) rest)
+any-pieces input fs t d e r room h ls rest a p w =
+    let f : fed (session blank [] 0) input ≡ record { day = after-lines blank ls; held = take 201 rest; said = replies blank ls } = ap (fed (session blank [] 0)) (sym w) ∙ fed-lines blank [] ls rest a p in
+    all-written d e r room new-desk input fs t h
+    ∙ ap (λ (y : Session). y .said ++ finished (silent y) .said) f
+    ∙ ap (λ (m : List ℕ). replies blank ls ++ m) (last-said (after-lines blank ls) rest)
 
 -- and every input is lines and a rest
 plain-cons : (b : ℕ) (l : List ℕ) → eqb b 10 ≡ false → Plain l → Plain (b ∷ l)

@@ -38,6 +38,7 @@ session-of k = session (k .day) (k .held) (k .kept)
 pub record Holds (y : Session) (d e : List ℕ) (k : Desk) (written : ℕ) : Type 0 where
   pub day : k .day ≡ y .day
   pub held : take (k .kept) (k .held) ≡ y .held
+  pub kept-is : k .kept ≡ length (y .held)
   pub length-is : written ≡ length (y .said)
   pub front : e ≡ y .said ++ drop (length (y .said)) d
   pub fits : written ≤ length e

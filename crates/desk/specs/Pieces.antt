@@ -1,12 +1,15 @@
--- A whole input, as lines and a rest, and an input fed in pieces.
+-- A whole input, as lines and a rest, and a desk that is handed it in blocks.
 use mathlib.Core.Path.{_≡_}
 use mathlib.Core.List.{List, [], _∷_, _++_}
-use Prim.Native.Nat.{ℕ}
-use lib.ListN.{length}
+use Prim.Native.Nat.{ℕ, _≤_}
+use lib.ListN.{length, take, drop}
 use Rattle.day.specs.declared.Day.{Day}
+use Rattle.day.specs.Day.{blank}
 use Rattle.reply.specs.Reply.{reply, next}
-use Rattle.stretch.specs.Session.{Session, fed, upto}
-use Rattle.desk.specs.Desk.{finished, session}
+use Rattle.stretch.specs.Session.{upto}
+use Rattle.desk.specs.declared.feed.Desk.{Desk}
+use Rattle.desk.specs.declared.feed.Fed.{Fed}
+use Rattle.desk.specs.Desk.{new-desk, Feeds, Finishes}
 
 -- the input that has these lines, each ended by byte 10, and a rest
 unfoldable pub joined : List (List ℕ) → List ℕ → List ℕ
@@ -38,30 +41,37 @@ pub record Split (input : List ℕ) : Type 0 where
   pub rest-plain : Plain rest
   pub whole : joined lines rest ≡ input
 
--- the session with its answers handed over
-abbrev pub silent : Session → Session
-silent x = record { day = x .day; held = x .held; said = [] }
+-- one call of `feed`: the bytes handed in, those of the input behind them, the buffer before and after, and what came back
+pub record Feeding : Type 0 where
+  pub block : List ℕ
+  pub later : List ℕ
+  pub before : List ℕ
+  pub after : List ℕ
+  pub back : Fed
 
--- pieces fed one after the other, each with the answers so far handed over: all answers, and the session in the end
-unfoldable pub said-in : Session → List (List ℕ) → List ℕ
-said-in x [] = []
-said-in x (p ∷ ps) = fed (silent x) p .said ++ said-in (fed (silent x) p) ps
+-- the desk k is handed the whole input l in these blocks, each beginning at the first byte that was not taken
+abbrev pub Takes : Desk → List ℕ → List Feeding → Type 0
+Takes k l [] = l ≡ []
+Takes k l (f ∷ fs) = (l ≡ f .block ++ f .later) × Feeds k (f .block) (f .before) (f .after) (f .back) × Takes (f .back .desk) (drop (f .back .consumed) (f .block) ++ f .later) fs
 
-unfoldable pub after-pieces : Session → List (List ℕ) → Session
-after-pieces x [] = silent x
-after-pieces x (p ∷ ps) = after-pieces (fed (silent x) p) ps
+-- the desk after them, and what they wrote
+abbrev pub desk-after : Desk → List Feeding → Desk
+desk-after k [] = k
+desk-after k (f ∷ fs) = desk-after (f .back .desk) fs
 
-unfoldable pub concat : List (List ℕ) → List ℕ
-concat [] = []
-concat (p ∷ ps) = p ++ concat ps
+abbrev pub written : List Feeding → List ℕ
+written [] = []
+written (f ∷ fs) = take (f .back .written) (f .after) ++ written fs
 
 -- the answer to what is left at the end of input: a line without byte 10 counts if it has bytes
 abbrev pub last-reply : Day → List ℕ → List ℕ
 last-reply s [] = []
 last-reply s (b ∷ l) = reply s (b ∷ l)
 
--- an input fed in any pieces, and then its end, gives the answers to its lines and to the rest, and no others
+-- a new desk that is handed an input in any blocks, with any room, and then its end, writes the answers to the lines of the input and to its rest, from the blank state on, and nothing else
 abbrev pub Any-pieces : Type 0
 Any-pieces =
-    (s : Day) (pieces lines : List (List ℕ)) (rest : List ℕ) → All-plain lines → Plain rest → concat pieces ≡ joined lines rest
-    → said-in (session s [] 0) pieces ++ finished (after-pieces (session s [] 0) pieces) .said ≡ replies s lines ++ last-reply (after-lines s lines) rest
+    (input : List ℕ) (fs : List Feeding) → Takes new-desk input fs
+    → (d e : List ℕ) (r : Fed) → 16384 ≤ length d → Finishes (desk-after new-desk fs) d e r
+    → (lines : List (List ℕ)) (rest : List ℕ) → All-plain lines → Plain rest → joined lines rest ≡ input
+    → written fs ++ take (r .written) e ≡ replies blank lines ++ last-reply (after-lines blank lines) rest

@@ -164,23 +164,20 @@ impl Desk {
     pub fn finish(self, out: &mut [u8]) -> Fed
         ensures { λ r. ⌜ Finishes self (now (out .entry)) (now (out .exit)) r ⌝ }
     {
-        let len = at_most_201(self.kept);
-        if out.len() < ROOM {
-            return Fed {
-                desk: self,
-                consumed: 0,
-                written: 0,
-            };
-        }
-        if len == 0 {
-            return Fed {
-                desk: self,
-                consumed: 0,
-                written: 0,
-            };
-        }
         let day = self.day;
         let held = self.held;
+        let len = at_most_201(self.kept);
+        if (out.len() < ROOM) | (len == 0) {
+            return Fed {
+                desk: Desk {
+                    day: day,
+                    held: held,
+                    kept: len,
+                },
+                consumed: 0,
+                written: 0,
+            };
+        }
         let served = serve_held(day, &held, len, out);
         let next = served.day;
         Fed {

@@ -10,10 +10,9 @@ use Rattle.powers.specs.Power.{share}
 use Rattle.campaigns.specs.declared.Phase.the-variants.{Closed}
 use Rattle.campaigns.specs.declared.Terms.{Terms}
 use Rattle.campaigns.specs.Campaign.{whole, fresh}
-use Rattle.campaigns.specs.View.{names}
+use Rattle.campaigns.specs.View.{names, full}
 use Rattle.day.specs.declared.Day.{Day}
 use Rattle.day.specs.Day.{no-terms, taken}
-use Rattle.campaigns.specs.View.{full}
 use Rattle.day.specs.Calls.{Call}
 use Rattle.laws.specs.Transcript.{transcript, final}
 use Rattle.floor.specs.History.{History, Starts, history}

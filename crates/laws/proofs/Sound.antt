@@ -20,12 +20,11 @@ use Rattle.campaigns.specs.declared.Terms.{Terms}
 use Rattle.campaigns.specs.declared.View.{View}
 use Rattle.campaigns.specs.Choice.{is, role-of}
 use Rattle.campaigns.specs.Campaign.{spending, aged, after, fresh, depth-fits, width-fits, power-fits, sound-plan, uncounted, empty, untouched, sound-campaign}
-use Rattle.campaigns.specs.View.{names, pays, becomes, able, takings, claims}
+use Rattle.campaigns.specs.View.{names, pays, becomes, able, takings, claims, full}
 use Rattle.campaigns.proofs.Laws.{Sized, plan-sized}
 use Rattle.day.specs.declared.Day.{Day}
 use Rattle.day.specs.declared.Outcome.{Outcome}
 use Rattle.day.specs.Day.{campaign, holding, in-phase, no-terms, planned, blank-plan, blank, taken, claimed, budgeted}
-use Rattle.campaigns.specs.View.{full}
 use Rattle.day.specs.Sound.{sound-entry, sound-tests, sound}
 use Rattle.campaigns.specs.Phase.{phase-holds}
 use Rattle.day.specs.Calls.{number, Call, width-holds, questions, result, joined, player, shown, call}

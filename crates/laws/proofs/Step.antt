@@ -14,9 +14,8 @@ use Rattle.campaigns.specs.declared.View.{View}
 use Rattle.campaigns.specs.Choice.{Choice, is, paid}
 use Rattle.campaigns.specs.Choice.Choice.{nobody, plays}
 use Rattle.campaigns.specs.Campaign.{spending}
-use Rattle.campaigns.specs.View.{names, pays, offer, figure, able, chosen-of, role-in, viewed, takings, claims}
+use Rattle.campaigns.specs.View.{names, pays, offer, figure, able, chosen-of, role-in, viewed, takings, claims, full}
 use Rattle.campaigns.proofs.Laws.{Sized}
-use Rattle.campaigns.specs.View.{full}
 use Rattle.laws.specs.Choice.{Right}
 use Rattle.laws.proofs.Choice.{choice-right}
 use Rattle.laws.proofs.Potential.{gains, takes}

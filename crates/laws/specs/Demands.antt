@@ -7,10 +7,9 @@ use Prim.Native.Nat.{ℕ}
 use Rattle.campaigns.specs.declared.View.{View}
 use Rattle.campaigns.specs.Choice.{Choice}
 use Rattle.campaigns.specs.Choice.Choice.{nobody, plays}
-use Rattle.campaigns.specs.View.{able, figure}
+use Rattle.campaigns.specs.View.{able, figure, full}
 use Rattle.day.specs.declared.Day.{Day}
 use Rattle.day.specs.Day.{campaign, taken, claimed}
-use Rattle.campaigns.specs.View.{full}
 use Rattle.day.specs.Sound.{sound}
 use Rattle.day.specs.Calls.{number, values, first-no, Call, questions, player, offers, call}
 use Rattle.day.specs.Calls.Call.{open-plan, add-campaign, start-day, show-view, ask-tally, close-day}

@@ -15,6 +15,7 @@ use Rattle.lines.specs.OneText.{Is}
 use Rattle.lines.specs.Reading.{Rest, none, some, isDigit, restOf, numbersOf, made, isEnd, endedOr, heldOr, forms, firstOf}
 use Rattle.lines.proofs.Digits.{apart}
 use Rattle.lines.proofs.Templates.{fair, taken, most, sound, complete, filled-most}
+use Rattle.lines.proofs.Plain.{plain, plain-at, filled-plain}
 
 -- the form that the bytes b, d and e leave, where they stand at 1, 4 and 6
 abbrev pub leaves : ℕ → ℕ → ℕ → Record
@@ -59,30 +60,35 @@ all-forms =
     (form (λ _. refl, λ _. refl, λ _. refl)
     (form (λ _. refl, λ _. refl, λ _. refl) done)))))))))))
 
--- each slot of r's template can be told from what follows, no text of it is over 200 bytes, and r is made from its form and its numbers; the bytes of its text choose its form
+-- each slot of r's template can be told from what follows, no text of it is over 200 bytes, and r is made from its form and its numbers; the bytes of its text choose its form; no byte of its template is 10
 abbrev Known : Record → Type 0
 Known r =
     (fair (template r) ≡ true) × (most (template r) ≤ 200) × (template (made r []) ≡ template r)
-    × (made (made r []) (taken (template r) (numbers r)) ≡ r) × (chosen (text r) ≡ made r [])
+    × (made (made r []) (taken (template r) (numbers r)) ≡ r) × (chosen (text r) ≡ made r []) × (plain (template r) ≡ true)
 
 known : (r : Record) → Known r
 unfolding template numbers made text filled piece after isDigit chosen
-known (Plan _ _) = (refl, lit≤ tt, refl, refl, refl)
-known (Campaign _ _) = (refl, lit≤ tt, refl, refl, refl)
-known Start = (refl, lit≤ tt, refl, refl, refl)
-known (View _) = (refl, lit≤ tt, refl, refl, refl)
-known Close = (refl, lit≤ tt, refl, refl, refl)
-known Done = (refl, lit≤ tt, refl, refl, refl)
-known (Play _ _) = (refl, lit≤ tt, refl, refl, refl)
-known Nobody = (refl, lit≤ tt, refl, refl, refl)
-known (Refused _) = (refl, lit≤ tt, refl, refl, refl)
-known (Closed _ _ _) = (refl, lit≤ tt, refl, refl, refl)
-known (Tally _ _ _ _ _) = (refl, lit≤ tt, refl, refl, refl)
+known (Plan _ _) = (refl, lit≤ tt, refl, refl, refl, refl)
+known (Campaign _ _) = (refl, lit≤ tt, refl, refl, refl, refl)
+known Start = (refl, lit≤ tt, refl, refl, refl, refl)
+known (View _) = (refl, lit≤ tt, refl, refl, refl, refl)
+known Close = (refl, lit≤ tt, refl, refl, refl, refl)
+known Done = (refl, lit≤ tt, refl, refl, refl, refl)
+known (Play _ _) = (refl, lit≤ tt, refl, refl, refl, refl)
+known Nobody = (refl, lit≤ tt, refl, refl, refl, refl)
+known (Refused _) = (refl, lit≤ tt, refl, refl, refl, refl)
+known (Closed _ _ _) = (refl, lit≤ tt, refl, refl, refl, refl)
+known (Tally _ _ _ _ _) = (refl, lit≤ tt, refl, refl, refl, refl)
 
 -- the text of a record has at most 200 bytes
 pub text-most : (r : Record) → length (text r) ≤ 200
 unfolding text
 text-most r = le-trans (filled-most (template r) (numbers r)) (known r .1)
+
+-- the text of a record has no byte 10
+pub text-plain : (r : Record) (i : ℕ) → getD (text r) i 0 ≡ 10 → ⊥
+unfolding text
+text-plain r i e = plain-at (text r) i (filled-plain (template r) (numbers r) (known r .5)) e
 
 -- One form.
 

@@ -15,7 +15,7 @@ use Rattle.lines.specs.Form.{text, inRange}
 use Rattle.lines.specs.Reading.{forms, firstOf, reading}
 use Rattle.lines.specs.OneText.{number, values, Is, Says, One-text}
 use Rattle.lines.specs.OneText.Says.{a-text, too-long, no-text}
-use Rattle.lines.proofs.Choice.{text-most, held-is, held-text, held-number}
+use Rattle.lines.proofs.Choice.{text-most, text-plain, held-is, held-text, held-number}
 
 pub reading-short : (l : List ℕ) → length l ≤ 200 → reading l ≡ firstOf forms l
 unfolding reading
@@ -69,4 +69,4 @@ says l = go (reading l) refl
     go (Refusal n) e = by n (refused l n e)
 
 pub one-text : One-text
-one-text = record { most = text-most; reads = text-reads; is-read = read-text; text-once = text-once; record-once = record-once; says = says }
+one-text = record { most = text-most; plain = text-plain; reads = text-reads; is-read = read-text; text-once = text-once; record-once = record-once; says = says }

@@ -3,7 +3,7 @@ use Prim.Native.Nat.{ℕ, _≤_, _<_}
 use mathlib.Core.Path.{_≡_}
 use mathlib.Core.Bool.{true}
 use mathlib.Core.List.{List, [], _∷_}
-use lib.ListN.{length}
+use lib.ListN.{getD, length}
 use Rattle.lines.specs.Form.{numbers, text, inRange}
 use Rattle.lines.specs.Reading.{reading}
 use Rattle.lines.specs.declared.Record.{Record}
@@ -32,6 +32,8 @@ pub data Says (l : List ℕ) : ℕ → List ℕ → Type 0 where
 
 pub record One-text : Type 0 where
   pub most : (r : Record) → length (text r) ≤ 200
+  -- no byte of a text is 10, the byte that ends a line
+  pub plain : (r : Record) (i : ℕ) → getD (text r) i 0 ≡ 10 → ⊥
   pub reads : (r : Record) → inRange r ≡ true → reading (text r) ≡ Got r
   pub is-read : (l : List ℕ) (r : Record) → reading l ≡ Got r → Is l r
   pub text-once : (r s : Record) → inRange r ≡ true → inRange s ≡ true → text r ≡ text s → r ≡ s

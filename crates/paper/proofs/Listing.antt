@@ -13,9 +13,8 @@ use Rattle.campaigns.specs.declared.Terms.{Terms}
 use Rattle.campaigns.specs.declared.View.{View}
 use Rattle.campaigns.specs.Choice.{best, choice}
 use Rattle.campaigns.specs.Choice.Choice.{nobody, plays}
-use Rattle.campaigns.specs.Campaign.{whole, claim}
+use Rattle.campaigns.specs.Campaign.{whole, claim, sound-plan, sound-campaign, priced, counted, uncounted, empty}
 use Rattle.day.specs.Day.{no-terms, blank, taken, claimed, budgeted}
-use Rattle.campaigns.specs.Campaign.{sound-plan, sound-campaign, priced, counted, uncounted, empty}
 use Rattle.day.specs.Sound.{sound}
 use Rattle.day.specs.Calls.{Call, first-no, width-holds, call}
 use Rattle.day.specs.Calls.Call.{open-plan, add-campaign, start-day, show-view, close-day}

@@ -1,5 +1,5 @@
 // The table: a power, or 0 where it is above 4,294,967,296.
-pub const POWERS_OF_1: [u64; 33] = [
+const POWERS_OF_1: [u64; 33] = [
     1,
     1,
     1,
@@ -35,7 +35,7 @@ pub const POWERS_OF_1: [u64; 33] = [
     1,
 ];
 
-pub const POWERS_OF_2: [u64; 33] = [
+const POWERS_OF_2: [u64; 33] = [
     1,
     2,
     4,
@@ -71,7 +71,7 @@ pub const POWERS_OF_2: [u64; 33] = [
     4294967296,
 ];
 
-pub const POWERS_OF_3: [u64; 33] = [
+const POWERS_OF_3: [u64; 33] = [
     1,
     3,
     9,
@@ -107,7 +107,7 @@ pub const POWERS_OF_3: [u64; 33] = [
     0,
 ];
 
-pub const POWERS_OF_4: [u64; 33] = [
+const POWERS_OF_4: [u64; 33] = [
     1,
     4,
     16,
@@ -143,7 +143,7 @@ pub const POWERS_OF_4: [u64; 33] = [
     0,
 ];
 
-pub const POWERS_OF_5: [u64; 33] = [
+const POWERS_OF_5: [u64; 33] = [
     1,
     5,
     25,
@@ -179,7 +179,7 @@ pub const POWERS_OF_5: [u64; 33] = [
     0,
 ];
 
-pub const POWERS_OF_6: [u64; 33] = [
+const POWERS_OF_6: [u64; 33] = [
     1,
     6,
     36,
@@ -215,7 +215,7 @@ pub const POWERS_OF_6: [u64; 33] = [
     0,
 ];
 
-pub const POWERS_OF_7: [u64; 33] = [
+const POWERS_OF_7: [u64; 33] = [
     1,
     7,
     49,
@@ -251,7 +251,7 @@ pub const POWERS_OF_7: [u64; 33] = [
     0,
 ];
 
-pub const POWERS_OF_8: [u64; 33] = [
+const POWERS_OF_8: [u64; 33] = [
     1,
     8,
     64,
@@ -287,7 +287,7 @@ pub const POWERS_OF_8: [u64; 33] = [
     0,
 ];
 
-pub const POWERS_OF_9: [u64; 33] = [
+const POWERS_OF_9: [u64; 33] = [
     1,
     9,
     81,
@@ -323,7 +323,7 @@ pub const POWERS_OF_9: [u64; 33] = [
     0,
 ];
 
-pub const POWERS_OF_10: [u64; 33] = [
+const POWERS_OF_10: [u64; 33] = [
     1,
     10,
     100,
@@ -359,7 +359,7 @@ pub const POWERS_OF_10: [u64; 33] = [
     0,
 ];
 
-pub const POWERS_OF_11: [u64; 33] = [
+const POWERS_OF_11: [u64; 33] = [
     1,
     11,
     121,
@@ -395,7 +395,7 @@ pub const POWERS_OF_11: [u64; 33] = [
     0,
 ];
 
-pub const POWERS_OF_12: [u64; 33] = [
+const POWERS_OF_12: [u64; 33] = [
     1,
     12,
     144,
@@ -431,7 +431,7 @@ pub const POWERS_OF_12: [u64; 33] = [
     0,
 ];
 
-pub const POWERS_OF_13: [u64; 33] = [
+const POWERS_OF_13: [u64; 33] = [
     1,
     13,
     169,
@@ -467,7 +467,7 @@ pub const POWERS_OF_13: [u64; 33] = [
     0,
 ];
 
-pub const POWERS_OF_14: [u64; 33] = [
+const POWERS_OF_14: [u64; 33] = [
     1,
     14,
     196,
@@ -503,7 +503,7 @@ pub const POWERS_OF_14: [u64; 33] = [
     0,
 ];
 
-pub const POWERS_OF_15: [u64; 33] = [
+const POWERS_OF_15: [u64; 33] = [
     1,
     15,
     225,
@@ -539,7 +539,7 @@ pub const POWERS_OF_15: [u64; 33] = [
     0,
 ];
 
-pub const POWERS_OF_16: [u64; 33] = [
+const POWERS_OF_16: [u64; 33] = [
     1,
     16,
     256,

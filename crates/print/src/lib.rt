@@ -139,6 +139,7 @@ fn put_names(out: &mut [u8], at: usize, set: u64) -> usize
     to
 }
 
+// The number n as its slot reads, ending at the place to.
 pub fn put_slot(out: &mut [u8], to: usize, slot: u8, n: u64) -> usize
     requires { ⌜ (length (slotText slot n) ≤ to) × (to ≤ length (now out)) ⌝ }
     ensures { λ r. ⌜ Put (now (out .entry)) (now (out .exit)) r to (slotText slot n) ⌝ }

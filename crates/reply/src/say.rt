@@ -55,6 +55,7 @@ pub fn say(answer: Answer, out: &mut [u8], at: usize) -> usize
     }
 }
 
+// After such an answer come the tallies.
 pub fn closes(answer: Answer) -> bool
     ensures { λ r. ⌜ r ≡ is-closing answer ⌝ }
 {

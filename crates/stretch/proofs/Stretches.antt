@@ -19,7 +19,7 @@ use Rattle.day.specs.declared.Outcome.{Outcome}
 use Rattle.campaigns.specs.Phase.{is-filling, is-running, is-closed}
 use Rattle.day.specs.Calls.{Call, first-no, told, offers, player, refused, call}
 use Rattle.day.specs.Calls.Call.{open-plan, add-campaign, start-day, show-view, ask-tally, close-day}
-use Rattle.day.specs.Inner.{state-of, counts, Shows}
+use Rattle.day.specs.Parts.{state-of, counts, Shows}
 use Rattle.day.specs.Sound.{sound}
 use Rattle.day.proofs.Questions.{call-elim}
 use Rattle.day.proofs.Shown.{shows-call, shows-room, shows-entries}

@@ -14,7 +14,7 @@ use Rattle.day.specs.declared.Outcome.{Outcome}
 use Rattle.day.specs.Calls.{call, refused}
 use Rattle.day.specs.Calls.Call.{open-plan, add-campaign, start-day, show-view, ask-tally, close-day}
 use Rattle.campaigns.specs.Phase.{is-filling, is-running, is-closed}
-use Rattle.day.specs.Inner.{state-of, counts}
+use Rattle.day.specs.Parts.{state-of, counts}
 use Rattle.reply.specs.Reply.{Request, request-of, reply, next}
 use Rattle.reply.specs.Reply.Request.{makes, fails}
 use Rattle.stretch.specs.declared.Cursor.{Cursor}

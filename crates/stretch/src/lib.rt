@@ -23,7 +23,7 @@ ghost use Prim.Native.Nat.{ℕ, _+_, _-_, _≤_};
 ghost use lib.ListN.{length, drop};
 ghost use Rattle.campaigns.specs.Inner.{Weights};
 ghost use Rattle.views.specs.Inner.{Entries};
-ghost use Rattle.day.specs.Inner.{state-of};
+ghost use Rattle.day.specs.Parts.{state-of};
 ghost use Rattle.day.specs.Sound.{sound};
 ghost use Rattle.stretch.specs.Session.{Session, upto};
 ghost use Rattle.stretch.specs.Stretch.{Stands, stepped, Obeys, Looks};

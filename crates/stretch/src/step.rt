@@ -76,6 +76,7 @@ fn step_of(phase: Phase, input: Record) -> Step
     }
 }
 
+// The step of a line as it reads.
 pub fn read_step(phase: Phase, line: &[u8]) -> Step
     ensures { λ r. ⌜ r ≡ step-of phase (request-of (reading (now (line .entry)))) ⌝ }
 {

@@ -3,6 +3,8 @@
 // kind of its answer and four values.
 use campaigns::Phase;
 use campaigns::Plan;
+use campaigns::entry::wide16;
+use campaigns::entry::wide32;
 use day::Answer;
 use day::Day;
 use day::Outcome;
@@ -102,18 +104,6 @@ pub fn read_day(s: &[u64]) -> Day
         ages: ages,
         named: named,
     }
-}
-
-fn wide32(x: u32) -> u64
-    ensures { λ r. ⌜ r ≡ x ⌝ }
-{
-    x as u64
-}
-
-fn wide16(x: u16) -> u64
-    ensures { λ r. ⌜ r ≡ x ⌝ }
-{
-    x as u64
 }
 
 // Words, and the columns of each width, stored from a place on.

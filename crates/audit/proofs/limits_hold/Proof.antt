@@ -19,7 +19,7 @@ returns : tie.Need-returns
 returns c = let a = c .before .before .before .before .args in
     let r = c .before .deepest in
     ap (λ (x : Bool). x && leb (a .count) 64 && leb (a .accepted) 4_096)
-    (ap₂ (λ (x y : Bool). x && y && leb (a .plan .depth) (r .result)) (c .before .before .before .depth-fits .ensures) (c .before .before .width-fits .ensures) ∙ plan-tells (a .plan) (r .result) (r .ensures))
+    (ap₂ (λ (x y : Bool). x && y && leb (a .plan .depth) (r .result)) (c .before .before .before .depth-fits .ensures) (c .before .before .width-fits .ensures) ∙ plan-tells (a .plan) (r .result) (r .ensures .0))
 
 pub limits-hold-spec : {M : Type 1} → statement M
 limits-hold-spec =

@@ -25,67 +25,67 @@ row w r e q = subst (λ x. Deepest x r) (sym q) (λ k h. same-is (leb k r) (leb 
 
 returns : tie.Need-returns
 unfolding every
-returns c h = row 0 32 refl (c .match .keys1)
+returns c = (λ h. row 0 32 refl (c .match .keys1), omega arith)
 
 returns-2 : tie.Need-returns-2
 unfolding every
-returns-2 c h = row 1 32 refl (c .match .keys2)
+returns-2 c = (λ h. row 1 32 refl (c .match .keys2), omega arith)
 
 returns-3 : tie.Need-returns-3
 unfolding every
-returns-3 c h = row 2 32 refl (c .match .keys3)
+returns-3 c = (λ h. row 2 32 refl (c .match .keys3), omega arith)
 
 returns-4 : tie.Need-returns-4
 unfolding every
-returns-4 c h = row 3 20 refl (c .match .keys4)
+returns-4 c = (λ h. row 3 20 refl (c .match .keys4), omega arith)
 
 returns-5 : tie.Need-returns-5
 unfolding every
-returns-5 c h = row 4 16 refl (c .match .keys5)
+returns-5 c = (λ h. row 4 16 refl (c .match .keys5), omega arith)
 
 returns-6 : tie.Need-returns-6
 unfolding every
-returns-6 c h = row 5 13 refl (c .match .keys6)
+returns-6 c = (λ h. row 5 13 refl (c .match .keys6), omega arith)
 
 returns-7 : tie.Need-returns-7
 unfolding every
-returns-7 c h = row 6 12 refl (c .match .keys7)
+returns-7 c = (λ h. row 6 12 refl (c .match .keys7), omega arith)
 
 returns-8 : tie.Need-returns-8
 unfolding every
-returns-8 c h = row 7 11 refl (c .match .keys8)
+returns-8 c = (λ h. row 7 11 refl (c .match .keys8), omega arith)
 
 returns-9 : tie.Need-returns-9
 unfolding every
-returns-9 c h = row 8 10 refl (c .match .keys9)
+returns-9 c = (λ h. row 8 10 refl (c .match .keys9), omega arith)
 
 returns-10 : tie.Need-returns-10
 unfolding every
-returns-10 c h = row 9 10 refl (c .match .keys10)
+returns-10 c = (λ h. row 9 10 refl (c .match .keys10), omega arith)
 
 returns-11 : tie.Need-returns-11
 unfolding every
-returns-11 c h = row 10 9 refl (c .match .keys11)
+returns-11 c = (λ h. row 10 9 refl (c .match .keys11), omega arith)
 
 returns-12 : tie.Need-returns-12
 unfolding every
-returns-12 c h = row 11 9 refl (c .match .keys12)
+returns-12 c = (λ h. row 11 9 refl (c .match .keys12), omega arith)
 
 returns-13 : tie.Need-returns-13
 unfolding every
-returns-13 c h = row 12 8 refl (c .match .keys13)
+returns-13 c = (λ h. row 12 8 refl (c .match .keys13), omega arith)
 
 returns-14 : tie.Need-returns-14
 unfolding every
-returns-14 c h = row 13 8 refl (c .match .keys14)
+returns-14 c = (λ h. row 13 8 refl (c .match .keys14), omega arith)
 
 returns-15 : tie.Need-returns-15
 unfolding every
-returns-15 c h = row 14 8 refl (c .match .keys15)
+returns-15 c = (λ h. row 14 8 refl (c .match .keys15), omega arith)
 
 returns-16 : tie.Need-returns-16
 unfolding every
-returns-16 c h = row 15 8 refl (c .match .keys16)
+returns-16 c = (λ h. row 15 8 refl (c .match .keys16), omega arith)
 
 -- a width that is none of the first n numbers is at least n
 abbrev None-of : ℕ → ℕ → Type 0
@@ -98,9 +98,9 @@ none-above (suc n) b h = omega (arith, none-above n b (h .0), h .1)
 
 returns-17 : tie.Need-returns-17
 unfolding every
-returns-17 c h =
+returns-17 c =
     let l : 16 ≤ c .before .args .width = none-above 16 (c .before .args .width) (c .match .rest) in
-    row 16 8 refl (omega arith)
+    (λ h. row 16 8 refl (omega arith), omega arith)
 
 pub deepest-spec : {M : Type 1} → statement M
 deepest-spec =

@@ -1,9 +1,8 @@
 use native.Mathlib.Omega.{arith}
-use Prim.Native.Nat.{_/_, _+_}
+use Prim.Native.Nat.{_/_, _+_, ℕ, _<_}
 use mathlib.Core.Path.{sym, ap, _∙_}
 use Rattle.print.proofs.Lengths.{len-one, len-two, len-three, len-four, len-skip}
 use Rattle.lines.proofs.Numerals.{numeral-most}
-use Prim.Native.Nat.{ℕ, _<_}
 use borrow.Fn.Kinds.{In}
 use borrow.Fn.PlainCycle.{Measures, is, falls, and}
 use Rattle.print.proofs.places.Reads as places

@@ -1,6 +1,6 @@
 use mathlib.Core.Path.{ap}
 use Rattle.day.specs.declared.Day.{Day}
-use Rattle.day.specs.Inner.{state-of}
+use Rattle.day.specs.Parts.{state-of}
 use Rattle.stretch.specs.Stretch.{stepped}
 use Rattle.stretch.proofs.Stretches.{obeys-refused, obeys-shown}
 use borrow.Author.Needs.{needs}

@@ -3,7 +3,7 @@ use Rattle.stretch.proofs.Stretches.{Going, answer-ranged, answer-room,
 use Rattle.stretch.specs.Stretch.{Stands, stops}
 use Rattle.stretch.specs.declared.Cursor.{Cursor}
 use Rattle.day.specs.declared.Day.{Day}
-use Rattle.day.specs.Inner.{state-of}
+use Rattle.day.specs.Parts.{state-of}
 use Rattle.day.proofs.State.{sound-facts}
 use Rattle.views.specs.Inner.{Entries}
 use Rattle.campaigns.specs.Inner.{Weights}

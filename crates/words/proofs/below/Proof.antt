@@ -4,8 +4,7 @@ use lib.Dec.{ltb}
 use lib.ListN.{getD}
 use native.Mathlib.Nat.{le-refl}
 use borrow.Author.Tests.{lt-ltb}
-use Rattle.finite.proofs.Tests.{from-start, from-next}
-use Rattle.finite.proofs.Tests.{both-join}
+use Rattle.finite.proofs.Tests.{from-start, from-next, both-join}
 use borrow.Author.Needs.{needs}
 use native.Mathlib.Omega.{arith}
 use mathlib.Core.Bool.{true}

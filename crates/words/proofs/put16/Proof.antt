@@ -51,7 +51,7 @@ loop-again c = let a = c .before .before .before .before .args in
     let l = c .before .before .loop in (
       omega arith,
       length-set (l .out) (a .at + l .i) (c .wide16 .result) ∙ l .inv .1,
-      copy-next (a .out .now) (a .at) (a .t3) (l .out) (l .i) (c .wide16 .result) (omega arith) (omega (arith, column-length (c .before .before .before .before))) (l .inv .2) (c .wide16 .ensures),
+      copy-next (a .out .now) (a .at) (a .t3) (l .out) (l .i) (c .wide16 .result) (omega arith) (omega (arith, column-length (c .before .before .before .before))) (l .inv .2) (c .wide16 .ensures .0),
     )
 
 same-length : tie.Need-same-length Inv-loop μ-loop

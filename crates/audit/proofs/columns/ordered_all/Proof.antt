@@ -1,12 +1,11 @@
 use Rattle.finite.proofs.Tests.{every-next}
 use lib.Dec.{leb, ltb}
 use lib.ListN.{getD}
-use mathlib.Core.Bool.{_&&_}
+use mathlib.Core.Bool.{_&&_, and-assoc}
 use Rattle.audit.specs.Inner.{ordered-columns}
 use Rattle.finite.specs.Finite.{every}
 use native.Mathlib.Omega.{arith}
 use Prim.Native.Nat.{ℕ, _-_, _≤_}
-use mathlib.Core.Bool.{and-assoc}
 use mathlib.Core.Path.{_≡_, refl, ap, _∙_}
 use Rattle.audit.proofs.columns.ordered_all.Statement.{statement}
 use Rattle.audit.proofs.columns.ordered_all.Tie as tie

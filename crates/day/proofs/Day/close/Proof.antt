@@ -1,6 +1,6 @@
 use Rattle.campaigns.specs.declared.Phase.the-variants.{Closed}
 use Rattle.day.specs.declared.Answer.the-variants.{Closing}
-use mathlib.Core.Path.{refl, ap₂}
+use mathlib.Core.Path.{refl, ap₂, _≡_, ap, sym, _∙_}
 use Rattle.day.proofs.Questions.{refused-is, accepted-is, all-yes, audit-sound, audit-figures}
 use Rattle.day.specs.Calls.Call.{close-day}
 use Rattle.day.specs.Calls.{first-no, questions}
@@ -13,7 +13,6 @@ use Rattle.day.specs.declared.Day.{Day}
 use borrow.Author.Tests.{not-true, not-false}
 use native.Mathlib.Omega.{arith}
 use mathlib.Core.Bool.{true}
-use mathlib.Core.Path.{_≡_, ap, sym, _∙_}
 use borrow.Author.Needs.{needs}
 use Rattle.day.proofs.Day.close.Statement.{statement}
 use Rattle.day.proofs.Day.close.Tie as tie

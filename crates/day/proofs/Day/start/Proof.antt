@@ -1,4 +1,4 @@
-use mathlib.Core.Path.{refl}
+use mathlib.Core.Path.{refl, _≡_, ap, sym, _∙_}
 use Rattle.day.specs.declared.Answer.the-variants.{Done}
 use Rattle.day.proofs.Questions.{refused-is, accepted-is, all-yes, audit-sound}
 use Rattle.day.specs.Calls.Call.{start-day}
@@ -11,7 +11,6 @@ use Rattle.day.specs.declared.Day.{Day}
 use borrow.Author.Tests.{not-true, not-false}
 use native.Mathlib.Omega.{arith}
 use mathlib.Core.Bool.{true}
-use mathlib.Core.Path.{_≡_, ap, sym, _∙_}
 use borrow.Author.Needs.{needs}
 use Rattle.day.proofs.Day.start.Statement.{statement}
 use Rattle.day.proofs.Day.start.Tie as tie

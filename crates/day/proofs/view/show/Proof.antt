@@ -2,7 +2,7 @@ use Rattle.day.proofs.Audits.{plan-part, first-part, audit-rest, few-of
 use Rattle.day.proofs.Shown.{refused-shows}
 use Rattle.day.proofs.Questions.{audit-sound, unsound-refused}
 use Rattle.day.specs.Calls.Call.{show-view}
-use Rattle.day.specs.Inner.{state-of}
+use Rattle.day.specs.Parts.{state-of}
 use Rattle.day.specs.declared.Day.{Day}
 use Rattle.day.specs.Sound.{sound}
 use borrow.Author.Tests.{not-true, not-false}

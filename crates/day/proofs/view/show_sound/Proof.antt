@@ -5,7 +5,7 @@ use Rattle.day.proofs.State.{sound-facts}
 use Rattle.day.proofs.Questions.{Yes, refused-is, asked-yes}
 use Rattle.day.specs.Calls.Call.{show-view}
 use Rattle.day.specs.Calls.{first-no, questions, width-holds}
-use Rattle.day.specs.Inner.{state-of}
+use Rattle.day.specs.Parts.{state-of}
 use Rattle.day.specs.declared.Day.{Day}
 use mathlib.Core.Path.{_≡_}
 use borrow.Author.Needs.{needs}

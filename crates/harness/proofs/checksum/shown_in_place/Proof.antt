@@ -1,12 +1,11 @@
 use Rattle.campaigns.specs.declared.View.{View}
-use lib.ListN.{getD}
+use lib.ListN.{getD, length}
 use Rattle.day.proofs.Shown.{shows-room, shows-entries}
-use Rattle.day.specs.Inner.{state-of}
+use Rattle.day.specs.Parts.{state-of}
 use Rattle.day.specs.declared.Day.{Day}
 use Rattle.views.specs.Inner.{Entries}
 use borrow.Author.Needs.{needs}
 use native.Mathlib.Omega.{arith}
-use lib.ListN.{length}
 use Prim.Native.Nat.{_+_, _-_, _≤_, _<_}
 use mathlib.Core.Path.{_≡_}
 use Rattle.harness.proofs.checksum.shown_in_place.Statement.{statement}

@@ -18,7 +18,7 @@ returns c =
     let a = s .args in
     let m = c .before .before .before .before .before .before .before .at-most-201 in
     let r = c .before .before .before .before .run in
-    feeds (a .self) (a .input .now) (a .out .now) (r .last .1 .1 .1 .1 .0) (m .result) (r .result) (r .last .1 .0) (m .ensures) (held-length s) (r .ensures .0)
+    feeds (a .self) (a .input .now) (a .out .now) (r .last .1 .1 .1 .1 .0) (m .result) (r .result) (r .last .1 .0) (m .ensures) (held-length s) (r .ensures .1) (r .ensures .0)
 
 pub feed-spec : {M : Type 1} → statement M
 feed-spec =
