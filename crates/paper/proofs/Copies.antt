@@ -11,7 +11,7 @@ use Rattle.powers.specs.Power.{weight, share}
 use Rattle.powers.proofs.Weight.{slope, weight-zero, share-weight, weight-slope, weight-up, weight-next, weight-most}
 use Rattle.paper.specs.Fraction.{Fraction, integer, _⊗_, _≈_}
 use Rattle.paper.specs.Algorithm4.{Instance, Variables, C, part, quantity, displaces, grown}
-use Rattle.paper.specs.Standing.{copy, compared-quantity}
+use Rattle.paper.specs.Standing.{copy, compared-quantity, Scores-order}
 
 pub ltb-scale : (p x y : ℕ) → 0 < p → ltb (x * p) (y * p) ≡ ltb x y
 ltb-scale p x y pos = go (ltb x y) refl
@@ -175,3 +175,14 @@ module _ (I : Instance) (deep : 0 < I .k) (wide : 1 < I .d) (v : Variables) wher
         right = mul-pos S (one-le-pow a (I .d - 1) (omega arith));
         cross = quantity-cross (v .zᶜ i .numerator) (v .zᶜ i .denominator) (I .b i) (I .B i) (C I .denominator) (C I .numerator) (weight (I .k) (I .d) a) (I .d ^ a) ((I .d - 1) ^ a) (h .value) (weight-split I deep wide a l);
       }
+
+module _ (I : Instance) (deep : 0 < I .k) (wide : 1 < I .d) where
+  compared-scaled : (i a e : ℕ) → a ≤ I .k → C I .numerator * I .b i * I .d ^ a * (C I .denominator * 1 * e) ≡ I .b i * weight (I .k) (I .d) a * (C I .denominator * (I .d - 1) ^ a * e)
+  compared-scaled i a e l = omega (arith, ap (λ x. I .b i * C I .denominator * e * x) (weight-split I deep wide a l))
+
+  pub scores-order : Scores-order I
+  scores-order m i a a′ l l′ =
+      let s : ℕ = C I .denominator * (I .d - 1) ^ a * (I .d - 1) ^ a′ in
+      ap₂ ltb (compared-scaled m a ((I .d - 1) ^ a′) l) (compared-scaled i a′ ((I .d - 1) ^ a) l′ ∙ omega arith)
+      ∙ ltb-scale s (I .b m * weight (I .k) (I .d) a) (I .b i * weight (I .k) (I .d) a′)
+      (mul-pos (mul-pos (C-positive I deep wide) (one-le-pow a (I .d - 1) (omega arith))) (one-le-pow a′ (I .d - 1) (omega arith)))

@@ -4,8 +4,10 @@ use mathlib.Core.Path.{_≡_}
 use mathlib.Core.Bool.{true, false}
 use mathlib.Core.List.{List, [], _∷_, map}
 use Prim.Native.Nat.{ℕ, _-_, _*_, _/_, _≤_, _<_}
+use lib.Dec.{ltb}
 use lib.ListN.{length}
 use Rattle.finite.specs.Finite.{sum}
+use Rattle.powers.specs.Power.{weight}
 use Rattle.campaigns.specs.declared.Campaign.{Campaign}
 use Rattle.campaigns.specs.declared.Plan.{Plan}
 use Rattle.campaigns.specs.declared.Terms.{Terms}
@@ -42,6 +44,11 @@ copy I i degree = C I ⊗ part I i ⊗ (power (I .d ÷ (I .d - 1)) degree ⊖ in
 -- "its compared quantity is C × price × (d/(d−1))^age when d > 1" (document 01)
 abbrev pub compared-quantity : Instance → ℕ → (age : ℕ) → Fraction
 compared-quantity I i age = C I ⊗ integer (I .b i) ⊗ power (I .d ÷ (I .d - 1)) age
+
+-- document 01's score, price × W(age), orders campaigns of any prices and ages as that quantity does
+abbrev pub Scores-order : Instance → Type 0
+Scores-order I =
+    (m i a a′ : ℕ) → a ≤ I .k → a′ ≤ I .k → less (compared-quantity I m a) (compared-quantity I i a′) ≡ ltb (I .b m * weight (I .k) (I .d) a) (I .b i * weight (I .k) (I .d) a′)
 
 -- a campaign's counts stand for the variables of advertiser i before slot j: its age is the degree of the current copy; each of its turns is
 -- a finished copy, which has added b_i/B_i to z_i; its plays are the slots matched to i
