@@ -13,6 +13,14 @@ pub type Results = BTreeMap<String, (String, String)>;
 const WORDS: [&str; 7] =
     ["refused", "refused by its shape", "SURVIVED", "the same code", "not compiled", "no answer in time", "unclear"];
 
+/// Survivors that mean the same: the item, the change, and why.
+const SAME: [(&str, &str, &str); 1] = [("at_most_201", "if n > 201 { → if n >= 201 {", "at 201 both give 201")];
+
+fn why_same(m: &Mutant) -> &'static str {
+    let found = SAME.iter().find(|(item, change, _)| m.item == *item && m.diff() == *change);
+    found.map_or("NOT EXPLAINED", |(_, _, why)| why)
+}
+
 pub fn read(file: &Path) -> Results {
     let text = fs::read_to_string(file).unwrap_or_default();
     let fields = |line: &str| -> Option<(String, (String, String))> {
@@ -57,7 +65,8 @@ pub fn text(all: &[Mutant], results: &Results, each: usize) -> String {
         `target/mutants`, or in the folder that MUTANTS names; `rt ci` removes the former.\n\n\
         *Refused*: a fact fails. *Refused by its shape*: the errors say only that the proof no longer fits the steps. \
         *SURVIVED*: `rt check` proves the crate with the change; each is to be explained or its contract made \
-        stronger. *The same code* and *not compiled* count for nothing.\n\n",
+        stronger. *The same code* (a constant that only crates above \
+        use) and *not compiled* count for nothing.\n\n",
         today()
     );
     let row = |name: &str| {
@@ -73,10 +82,11 @@ pub fn text(all: &[Mutant], results: &Results, each: usize) -> String {
         if count("", w) > 0 {
             let rows = all.iter().filter(|m| word(m) == w);
             let row = |m: &Mutant| {
-                format!("| {} | {}:{} | {} | {} |\n", m.id, m.file.display(), m.line, m.item, cell(&m.diff()))
+                let why = if w == "SURVIVED" { why_same(m) } else { "" };
+                format!("| {} | {}:{} | {} | {} | {why} |\n", m.id, m.file.display(), m.line, m.item, cell(&m.diff()))
             };
             let _ = writeln!(out, "## {title}\n");
-            table(&mut out, "| id | line | in | change |", rows.map(row));
+            table(&mut out, "| id | line | in | change | means the same, since |", rows.map(row));
         }
     }
     out.push_str("## All that were run\n\n");
