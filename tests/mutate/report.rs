@@ -66,7 +66,7 @@ pub fn text(all: &[Mutant], results: &Results, each: usize) -> String {
         *Refused*: a fact fails. *Refused by its shape*: the errors say only that the proof no longer fits the steps. \
         *SURVIVED*: `rt check` proves the crate with the change; each is to be explained or its contract made \
         stronger. *The same code* (a constant that only crates above \
-        use) and *not compiled* count for nothing.\n\n",
+        use, a pattern that an earlier arm has) and *not compiled* count for nothing.\n\n",
         today()
     );
     let row = |name: &str| {
