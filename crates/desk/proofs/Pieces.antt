@@ -19,7 +19,7 @@ use Rattle.desk.specs.Desk.{finished, session, new-desk, session-of, Hol
 use Rattle.desk.specs.Pieces.{joined, Plain, All-plain, after-lines, replies, Split, Feeding, Takes, desk-after, written, last-reply, Any-pieces}
 use Rattle.desk.proofs.Rests.{rest-fed}
 
--- the session with its answers handed over
+-- x with its answers handed over
 abbrev silent : Session → Session
 silent x = record { day = x .day; held = x .held; said = [] }
 
@@ -54,7 +54,7 @@ fed-said x (b ∷ l) = go (eqb b 10) refl (fed-said (ended x) l) (fed-said (ende
 front-said : {y : Session} {d e : List ℕ} {k : Desk} {n : ℕ} → Holds y d e k n → take n e ≡ y .said
 front-said {y} {d} {e} {k} {n} h = ap₂ (λ (i : ℕ) (l : List ℕ). take i l) (h .length-is) (h .front) ∙ take-append-seam (y .said) (drop (length (y .said)) d)
 
--- the next block begins with the session that the last one left, its answers handed over
+-- the next block begins where the last one left off, its answers handed over
 session-next : {y : Session} {d e : List ℕ} {k : Desk} {n : ℕ} → Holds y d e k n → session-of k ≡ silent y
 session-next h = ap₂ (λ (s : Day) (l : List ℕ). record { day = s; held = l; said = [] }) (h .day) (h .held)
 

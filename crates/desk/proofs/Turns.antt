@@ -1,4 +1,4 @@
--- A turn keeps the session standing, and where no turn is left it has taken what there is room for.
+-- A turn keeps `Stands`, and where no turn is left it has taken what there is room for.
 use mathlib.Core.Path.{_≡_, refl, sym, ap, _∙_, subst}
 use mathlib.Core.Bool.{Bool, true, false}
 use mathlib.Core.List.{List, []}

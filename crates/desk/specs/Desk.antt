@@ -23,7 +23,7 @@ ended-if (b ∷ l) x = ended x
 unfoldable pub finished : Session → Session
 finished x = ended-if (x .held) x
 
--- the session that a desk begins with
+-- what a desk begins with: its state, the bytes that it has kept, and no answers yet
 abbrev pub session : Day → (bytes : List ℕ) → (kept : ℕ) → Session
 session s l n = record { day = s; held = take n l; said = [] }
 
@@ -34,7 +34,7 @@ new-desk = record { day = blank; held = table 201 (λ i. 0); kept = 0 }
 abbrev pub session-of : Desk → Session
 session-of k = session (k .day) (k .held) (k .kept)
 
--- r holds the session y, whose answers stand at the front of the buffer d, which became e
+-- the desk k holds y, whose answers stand at the front of the buffer d, which became e
 pub record Holds (y : Session) (d e : List ℕ) (k : Desk) (written : ℕ) : Type 0 where
   pub day : k .day ≡ y .day
   pub held : take (k .kept) (k .held) ≡ y .held

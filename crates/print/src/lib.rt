@@ -59,7 +59,7 @@ impl Size {
         Size { ok: true, len }
     }
 
-    // One slot more, in front of those that are counted.
+    // One slot more, in front of those that are counted. `writer::size_of` counts at most five.
     pub fn slot(self, slot: u8, n: u64) -> Size
         requires { ⌜ self .len ≤ 1000 ⌝ }
         ensures { λ r. ⌜ (r .ok ≡ (inSlot slot n && self .ok)) × (r .len ≡ length (slotText slot n) + self .len) × (r .len ≤ self .len + 192) ⌝ }
@@ -73,7 +73,7 @@ impl Size {
 
 // A line is put from its last byte to its first: so come the digits of a numeral, and they need not be counted again. Each function is given the place where its bytes end, and gives the place where they begin.
 
-// The word that ends at the place to.
+// The word that ends at the place to. The forms of `writer` have measured the line and know the room, and so below.
 pub fn put(out: &mut [u8], to: usize, word: &[u8]) -> usize
     requires { ⌜ (length (now word) ≤ to) × (to ≤ length (now out)) ⌝ }
     ensures { λ r. ⌜ Put (now (out .entry)) (now (out .exit)) r to (now (word .entry)) ⌝ }
@@ -139,7 +139,7 @@ fn put_names(out: &mut [u8], at: usize, set: u64) -> usize
     to
 }
 
-// The number n as its slot reads, ending at the place to.
+// The number n as its slot reads, ending at the place to; the forms of `writer` know the room.
 pub fn put_slot(out: &mut [u8], to: usize, slot: u8, n: u64) -> usize
     requires { ⌜ (length (slotText slot n) ≤ to) × (to ≤ length (now out)) ⌝ }
     ensures { λ r. ⌜ Put (now (out .entry)) (now (out .exit)) r to (slotText slot n) ⌝ }
@@ -152,7 +152,7 @@ pub fn put_slot(out: &mut [u8], to: usize, slot: u8, n: u64) -> usize
     put_number(out, to, n)
 }
 
-// A word and the slot behind it.
+// A word and the slot behind it; the forms of `writer` know the room.
 pub fn put_field(out: &mut [u8], to: usize, word: &[u8], slot: u8, n: u64) -> usize
     requires { ⌜ (length (now word) + length (slotText slot n) ≤ to) × (to ≤ length (now out)) ⌝ }
     ensures { λ r. ⌜ Put (now (out .entry)) (now (out .exit)) r to (now (word .entry) ++ slotText slot n) ⌝ }

@@ -1,4 +1,4 @@
--- A stretch: each line of it is a turn of the session.
+-- A stretch: each line of it is a turn.
 use mathlib.Core.Path.{_≡_, refl, sym, ap, _∙_, subst}
 use mathlib.Core.Bool.{Bool, true, false}
 use mathlib.Core.List.{List}

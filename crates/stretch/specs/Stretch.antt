@@ -1,4 +1,4 @@
--- Names for the contracts of inner functions: a turn of the session, and a stretch of lines that change no more than the day's counts.
+-- Names for the contracts of inner functions: a turn, and a stretch of lines that change no more than the day's counts.
 use mathlib.Core.Path.{_≡_}
 use mathlib.Core.Bool.{Bool, true, false}
 use mathlib.Core.List.{List, _++_}
@@ -35,7 +35,7 @@ pub record Line (t : Cursor) (h l d e : List ℕ) (r : Cursor) : Type 0 where
   pub put : Put d e (t .at) (r .at) (reply (t .day) (line-of h (t .kept) (take (upto l) l)))
   pub fits : r .at ≤ t .at + 16384
 
--- the session x after the first bytes of l: t says its state and places, h what the line buffer has, and e the answers
+-- x after the first bytes of l: t says its state and places, h what the line buffer has, and e the answers
 pub record Stands (x : Session) (l d : List ℕ) (t : Cursor) (h e : List ℕ) : Type 0 where
   pub day : t .day ≡ fed x (take (t .from) l) .day
   pub held : take (t .kept) h ≡ fed x (take (t .from) l) .held
