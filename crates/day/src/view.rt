@@ -175,7 +175,7 @@ pub fn show<'a>(
 
 impl Day {
     // The play of a view, or nobody; copies of the counts are lent to `show`.
-    pub fn view(mut self, view: View) -> Outcome
+    pub fn view(self, view: View) -> Outcome
         ensures { λ r. ⌜ r ≡ call self (show-view view) ⌝ }
     {
         let phase = self.phase;
@@ -197,13 +197,19 @@ impl Day {
             &mut ages,
             &mut named,
         );
-        self.plays = plays;
-        self.turns = turns;
-        self.ages = ages;
-        self.named = named;
-        self.accepted = self.accepted + counts(answer);
         Outcome {
-            day: self,
+            day: Self {
+                phase: phase,
+                plan: plan,
+                count: self.count,
+                accepted: self.accepted + counts(answer),
+                prices: self.prices,
+                budgets: self.budgets,
+                plays: plays,
+                turns: turns,
+                ages: ages,
+                named: named,
+            },
             answer: answer,
         }
     }
