@@ -1,8 +1,10 @@
--- Names for the contracts of the inner functions: the widths of the arrays, and the weights of a plan.
+-- Names for the contracts of the inner functions: the widths of the arrays, a play that corrects a mark, and the weights of a
+-- plan.
 use mathlib.Core.Path.{_≡_}
-use mathlib.Core.Bool.{true}
+use mathlib.Core.Bool.{true, cond}
 use mathlib.Core.List.{List}
-use Prim.Native.Nat.{ℕ, _-_, _^_, _≤_, _<_}
+use Prim.Native.Nat.{ℕ, _+_, _-_, _^_, _≤_, _<_}
+use lib.Dec.{eqb}
 use lib.ListN.{getD, length}
 use Rattle.powers.specs.Power.{weight}
 use Rattle.campaigns.specs.declared.Campaign.{Campaign}
@@ -17,6 +19,11 @@ pub record Narrow (c : Campaign) : Type 0 where
   pub turns-narrow : c .turns < 65_536
   pub age-narrow : c .age < 65_536
   pub named-narrow : c .named < 65_536
+
+-- the play of a campaign that is marked as passed over: one turn more, unless an age that reached the depth has brought it
+abbrev pub played : Campaign → Campaign
+played c =
+    record { price = c .price; budget = c .budget; plays = c .plays + 1; turns = cond (eqb (c .age) 0) (c .turns) (c .turns + 1); age = 0; named = c .named }
 
 -- 33 numbers, (d − 1)^(k − a) at each age a up to the depth
 pub record Falling (pl : Plan) (l : List ℕ) : Type 0 where

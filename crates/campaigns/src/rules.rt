@@ -4,12 +4,12 @@ use crate::Phase;
 use crate::Plan;
 use crate::Terms;
 ghost use mathlib.Core.Path.{_≡_};
-ghost use mathlib.Core.Bool.{true};
+ghost use mathlib.Core.Bool.{true, false};
 ghost use Prim.Native.Nat.{_+_, _*_, _≤_};
 ghost use Rattle.campaigns.specs.Campaign.{can-pay, named-again, after, depth-fits, width-fits, price-fits, budget-fits};
 ghost use Rattle.campaigns.specs.Phase.{is-filling, is-running, is-closed};
 ghost use Rattle.campaigns.specs.Choice.{role-of};
-ghost use Rattle.campaigns.specs.Inner.{Narrow};
+ghost use Rattle.campaigns.specs.Inner.{Narrow, played};
 
 impl Plan {
     // The limits of questions 3, 4, 7 and 12.
@@ -86,8 +86,8 @@ impl Terms {
 }
 
 impl Campaign {
-    // plays < whole plays is price × (plays + 1) ≤ budget. `views::challenge` and `viewed` know
-    // the campaign to be priced.
+    // plays < whole plays is price × (plays + 1) ≤ budget. `views::challenge` and `passed_over` know the campaign to be
+    // priced.
     pub fn can_pay(self) -> bool
         requires { ⌜ Narrow self ⌝ }
         requires { ⌜ 1 ≤ self .price ⌝ }
@@ -111,21 +111,38 @@ impl Campaign {
         }
     }
 
-    // What a view that names the campaign makes of it. `views::mark` knows it to be priced.
-    pub fn viewed(self, depth: u64, plays: bool) -> Campaign
+    // What a view that names the campaign and does not play it makes of it. `views::walk` knows it to be priced.
+    pub fn passed_over(self, depth: u64) -> Campaign
         requires { ⌜ Narrow self ⌝ }
         requires { ⌜ 1 ≤ self .price ⌝ }
-        ensures { λ r. ⌜ r ≡ after depth (role-of true (can-pay self) plays) self ⌝ }
+        ensures { λ r. ⌜ r ≡ after depth (role-of true (can-pay self) false) self ⌝ }
     {
         if !self.can_pay() {
             return self.named_again(self.plays, self.turns, self.age);
-        }
-        if plays {
-            return self.named_again(self.plays + 1, self.turns + 1, 0);
         }
         if self.age + 1 == depth {
             return self.named_again(self.plays, self.turns + 1, 0);
         }
         self.named_again(self.plays, self.turns, self.age + 1)
+    }
+
+    // What its play makes of a campaign that was marked as passed over: an age of 0 tells that its turn is counted. `views::play`
+    // reads the campaign out of the arrays.
+    pub fn played(self) -> Campaign
+        requires { ⌜ Narrow self ⌝ }
+        ensures { λ r. ⌜ r ≡ played self ⌝ }
+    {
+        let mut turns = self.turns;
+        if self.age != 0 {
+            turns += 1;
+        }
+        Campaign {
+            price: self.price,
+            budget: self.budget,
+            plays: self.plays + 1,
+            turns: turns,
+            age: 0,
+            named: self.named,
+        }
     }
 }

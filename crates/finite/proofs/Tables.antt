@@ -1,14 +1,11 @@
 -- Laws of tables and of sums over lists.
 use mathlib.Core.Path.{_≡_, refl, ap, ap₂, sym, _∙_}
-use mathlib.Core.Bool.{Bool, true, false, cond}
 use mathlib.Core.List.{List, [], _∷_, _++_}
 use Prim.Native.Nat.{ℕ, zero, suc, _+_, _≤_, _<_}
 use native.Mathlib.Nat.{le-of-suc-le-suc, not-suc-le-zero}
 use native.Mathlib.Omega.{arith}
-use lib.Dec.{eqb}
-use lib.ListN.{getD, length, set, length-set}
-use lib.Seq.{ext-getD, getD-set-same, getD-set-other}
-use borrow.Author.Tests.{eqb-true, eqb-false}
+use lib.ListN.{getD, length}
+use lib.Seq.{ext-getD}
 use Rattle.finite.specs.Finite.{table, total}
 
 pub getD-table {ℓ} : {A : Type ℓ} (n : ℕ) (f : ℕ → A) (o : A) (i : ℕ) → i < n → getD (table n f) i o ≡ f i
@@ -46,16 +43,3 @@ table-eq (suc n) f g h = ap₂ _∷_ (h 0 (omega arith)) (table-eq n (λ i. f (s
 -- a list is the table of its entries
 pub list-table : (n : ℕ) (l : List ℕ) → length l ≡ n → l ≡ table n (λ i. getD l i 0)
 list-table n l e = ext-getD 0 l (table n (λ i. getD l i 0)) (e ∙ sym (length-table n (λ i. getD l i 0))) (λ i h. sym (getD-table n (λ j. getD l j 0) 0 i (omega arith)))
-
--- a store into a table
-pub set-table : (n : ℕ) (f : ℕ → ℕ) (i x : ℕ) → i < n → set (table n f) i x ≡ table n (λ j. cond (eqb j i) x (f j))
-set-table n f i x l =
-    ext-getD 0 (set (table n f) i x) (table n (λ j. cond (eqb j i) x (f j))) (length-set (table n f) i x ∙ length-table n f ∙ sym (length-table n (λ j. cond (eqb j i) x (f j))))
-    (λ j h. go j (omega (arith, length-set (table n f) i x, length-table n f)) (eqb j i) refl)
-  where
-    go : (j : ℕ) → j < n → (b : Bool) → eqb j i ≡ b → getD (set (table n f) i x) j 0 ≡ getD (table n (λ m. cond (eqb m i) x (f m))) j 0
-    go j h true e =
-        let q : j ≡ i = eqb-true j i e in
-        rw (getD-table n (λ m. cond (eqb m i) x (f m)) 0 j h, e, q) (getD-set-same (table n f) i x 0 (omega (arith, length-table n f)))
-    go j h false e =
-        rw (getD-table n (λ m. cond (eqb m i) x (f m)) 0 j h, e, getD-set-other (table n f) i j x 0 (eqb-false j i e)) (getD-table n f 0 j h)

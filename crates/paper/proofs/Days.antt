@@ -36,7 +36,7 @@ use Rattle.floor.specs.History.Starts.{from-blank, from-opening}
 use Rattle.paper.specs.Algorithm4.{Instance, Neighbors, Variables, feasible-neighbor, line-1, line-2, line-4, lines-3-to-11, matches-from, algorithm-4, matches}
 use Rattle.paper.specs.Standing.{Buys-alike, slots, Posed}
 use Rattle.paper.specs.Days.{replied, replies-from, replies, with-answer, terms-of, instance-of, Day-alike, Days-as-Algorithm-4}
-use Rattle.paper.proofs.Choices.{Fits, best-fits}
+use Rattle.campaigns.proofs.Choices.{Fits, best-fits}
 use Rattle.paper.proofs.Slots.{Follows}
 use Rattle.paper.proofs.Simulation.{Proper, proper, follows-fresh, follows-stands, same-choice, same-step}
 

@@ -24,7 +24,8 @@ use Rattle.laws.proofs.Choice.{choice-right}
 use Rattle.paper.specs.Fraction.{less}
 use Rattle.paper.specs.Algorithm4.{Instance, Neighbors, Variables, feasible-neighbor, quantity, displaces, line-1, line-2, line-3, line-4, lines-9-to-11, lines-3-to-11, matches-from, algorithm-4}
 use Rattle.paper.specs.Standing.{Buys-alike, instance, slots, Stands, Maximizes, Next, choices, campaigns-after, Posed, Alike, As-Algorithm-4}
-use Rattle.paper.proofs.Choices.{best-fits, best-eq}
+use Rattle.campaigns.proofs.Choices.{best-fits}
+use Rattle.paper.proofs.Choices.{best-eq}
 use Rattle.paper.proofs.Copies.{starts, value-copy, copy-full, one-age, one-turns, displaced, value-quantity}
 use Rattle.paper.proofs.Slots.{Follows, unfinished, able-alike, after-slot}
 

@@ -17,7 +17,7 @@ use Rattle.campaigns.specs.Choice.Choice.{nobody, plays}
 use Rattle.campaigns.specs.Campaign.{whole, can-pay, named-again, after, aged}
 use Rattle.paper.specs.Fraction.{Fraction, integer, _⊗_, lesser, _≈_}
 use Rattle.paper.specs.Algorithm4.{Instance, Neighbors, Variables, C, part, feasible, feasible-neighbor, grown, line-3, line-5, line-6, line-9, lines-9-to-11}
-use Rattle.paper.proofs.Choices.{Fits}
+use Rattle.campaigns.proofs.Choices.{Fits}
 use Rattle.paper.proofs.Copies.{C-sum, Value, raised, below-part, reaches-part, starts, weight-below}
 
 -- the same bid and the same number of whole plays; z_i holds the finished copies; x_{i,j} marks p slots before j, and none from j on

@@ -8,7 +8,7 @@ use native.Mathlib.Omega.{arith}
 use lib.Count.{trailingZeros}
 use lib.Dec.{leb, ltb}
 use lib.ListN.{length}
-use lib.Pow.{shr-le}
+use lib.Pow.{shr-le, shr-shr}
 use borrow.Author.Tests.{leb-true, le-leb, lt-leb, ltb-true, ltb-false}
 use Rattle.finite.specs.Finite.{count, one-if}
 use Rattle.finite.proofs.Tests.{both-left, both-right, both-join, every-at, every-of}
@@ -71,21 +71,25 @@ next-none n a p e = next-unique n a 64 (record {
   here = λ l. absurd (omega arith);
 })
 
--- else the next member is as far up as there are trailing zeros
-pub next-some : (n a : ℕ) → n < 2 ^ 64 → (n / 2 ^ a ≡ 0 → ⊥) → a + trailingZeros 64 (n / 2 ^ a) ≡ next n a
-next-some n a h e =
-    let m = n / 2 ^ a in
+-- else the next member is as far up as what is left has trailing zeros
+pub zeros-next : (n a m : ℕ) → n < 2 ^ 64 → m ≡ n / 2 ^ a → (m ≡ 0 → ⊥) → Next n a (a + trailingZeros 64 m) × (a + trailingZeros 64 m < 64)
+zeros-next n a m h s e =
     let t = trailingZeros 64 m in
-    let z = zeros-here 64 m (omega arith) (lt-of-le-of-lt (shr-le n a) h) in
+    let z = zeros-here 64 m (omega arith) (lt-of-le-of-lt (omega (arith, s, shr-le n a)) h) in
+    let up : (j : ℕ) → a ≤ j → bit n j ≡ bit m (j - a) = λ j l. bit-up n a j l ∙ ap (λ (x : ℕ). bit x (j - a)) (sym s) in
     let q : a + t - a ≡ t = omega arith in
-    let one : bit n (a + t) ≡ 1 = bit-up n a (a + t) (omega arith) ∙ ap (bit m) q ∙ z .0 in
-    let top : a + t < 64 = lt-of-not-le (λ l. let f : bit n (a + t) ≡ 0 = bit-past n (a + t) h l in omega arith) in
-    next-unique n a (a + t) (record {
-      low = omega arith;
-      high = omega arith;
-      gap = λ j l k. bit-false n j (bit-up n a j l ∙ zeros-gap 64 m (j - a) (omega arith));
-      here = λ k. bit-true n (a + t) one;
-    })
+    let one : bit n (a + t) ≡ 1 = up (a + t) (omega arith) ∙ ap (bit m) q ∙ z .0 in
+    let top : a + t < 64 = lt-of-not-le (λ l. let f : bit n (a + t) ≡ 0 = bit-past n (a + t) h l in omega arith) in (
+      record { low = omega arith; high = omega arith; gap = λ j l k. bit-false n j (up j l ∙ zeros-gap 64 m (j - a) (omega arith)); here = λ k. bit-true n (a + t) one },
+      top,
+    )
+
+pub next-some : (n a : ℕ) → n < 2 ^ 64 → (n / 2 ^ a ≡ 0 → ⊥) → a + trailingZeros 64 (n / 2 ^ a) ≡ next n a
+next-some n a h e = next-unique n a (a + trailingZeros 64 (n / 2 ^ a)) (zeros-next n a (n / 2 ^ a) h refl e .0)
+
+-- what is left past that member, moved down
+pub left-past : (n a z : ℕ) → n / 2 ^ a / 2 ^ z / 2 ^ 1 ≡ n / 2 ^ (a + z + 1)
+left-past n a z = ap (λ (x : ℕ). x / 2 ^ 1) (shr-shr n a z) ∙ shr-shr n (a + z) 1
 
 -- every member is below n exactly if the next one from n on is none
 pub within-next : (set n : ℕ) → 64 ≤ next set n → within n set ≡ true

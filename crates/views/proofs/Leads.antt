@@ -1,12 +1,12 @@
 -- The choice as a walk: what one named campaign, and a stretch of unnamed ones, does to the leader.
-use mathlib.Core.Path.{_≡_, refl, ap, _∙_}
+use mathlib.Core.Path.{_≡_, refl, ap, sym, _∙_}
 use mathlib.Core.Bool.{Bool, true, false, cond, not, _||_}
-use Prim.Native.Nat.{ℕ, suc, _+_, _≤_}
+use Prim.Native.Nat.{ℕ, suc, _+_, _≤_, _<_}
 use native.Mathlib.Numerals.{add-one}
 use native.Mathlib.Omega.{arith}
 use lib.Dec.{ltb}
 use borrow.Author.Tests.{ltb-true}
-use Rattle.finite.proofs.Tests.{stands, every-at}
+use Rattle.finite.proofs.Tests.{stands, every-at, never, both-left, both-right}
 use Rattle.sets.specs.Set.{member, within}
 use Rattle.sets.proofs.Walk.{Next}
 use Rattle.campaigns.specs.declared.Campaign.{Campaign}
@@ -16,7 +16,8 @@ use Rattle.views.specs.declared.Leader.{Leader}
 use Rattle.campaigns.specs.Choice.{Choice, best, against, ahead, choice}
 use Rattle.campaigns.specs.Choice.Choice.{nobody, plays}
 use Rattle.campaigns.specs.Campaign.{can-pay}
-use Rattle.campaigns.specs.View.{names, offer, figure, chosen-of}
+use Rattle.campaigns.specs.View.{names, offer, figure, able, chosen-of}
+use Rattle.campaigns.proofs.Choices.{Fits, best-fits}
 use Rattle.views.specs.Inner.{led, challenged, leader-of}
 
 -- an unnamed campaign changes no choice
@@ -45,13 +46,18 @@ module _ (x o : ℕ → ℕ) (i : ℕ) where
   tries ch true = meets ch
   tries ch false = refl
 
-leader-named : (pl : Plan) (w : View) (f : ℕ → Campaign) (i : ℕ) → names w i ≡ true → leader-of pl w f (suc i) ≡ challenged pl (leader-of pl w f i) i (f i)
+pub leader-named : (pl : Plan) (w : View) (f : ℕ → Campaign) (i : ℕ) → names w i ≡ true → leader-of pl w f (i + 1) ≡ challenged pl (leader-of pl w f i) i (f i)
 unfolding leader-of challenged choice best
-leader-named pl w f i e = rw e (tries (λ j. figure pl w j (f j)) (λ j. offer pl w j (f j)) i (chosen-of i pl w f) (can-pay (f i)))
+leader-named pl w f i e = rw (add-one i, e) (tries (λ j. figure pl w j (f j)) (λ j. offer pl w j (f j)) i (chosen-of i pl w f) (can-pay (f i)))
 
--- from one named campaign to the next
-pub leader-next : (pl : Plan) (w : View) (f : ℕ → Campaign) (i r : ℕ) → names w i ≡ true → Next (w .set) (i + 1) r → leader-of pl w f r ≡ challenged pl (leader-of pl w f i) i (f i)
-leader-next pl w f i r e n = leader-gap pl w f (i + 1) r n ∙ ap (leader-of pl w f) (add-one i) ∙ leader-named pl w f i e
+-- who leads is named and can pay
+pub leader-able : (pl : Plan) (w : View) (f : ℕ → Campaign) (n : ℕ) (l : Leader) → l ≡ leader-of pl w f n → l .found ≡ true → (l .campaign < n) × (names w (l .campaign) ≡ true) × (can-pay (f (l .campaign)) ≡ true)
+unfolding leader-of choice
+leader-able pl w f n l e t = rw e (go (chosen-of n pl w f) (best-fits n (able pl w f) (ahead (λ i. figure pl w i (f i)))) (sym (ap (λ (x : Leader). x .found) e) ∙ t))
+  where
+    go : (ch : Choice) → Fits n (able pl w f) ch → (x : led (λ i. figure pl w i (f i)) (λ i. offer pl w i (f i)) ch .found ≡ true) → let m = led (λ i. figure pl w i (f i)) (λ i. offer pl w i (f i)) ch .campaign in (m < n) × (names w m ≡ true) × (can-pay (f m) ≡ true)
+    go nobody h x = absurd (never false refl x)
+    go (plays m) h x = (h .0, both-left (names w m) (can-pay (f m)) (h .1), both-right (names w m) (can-pay (f m)) (h .1))
 
 -- with every name below n, the choice among all 64 places is that among the first n
 pub choice-within : (pl : Plan) (w : View) (f : ℕ → Campaign) (n : ℕ) → n ≤ 64 → within n (w .set) ≡ true → chosen-of 64 pl w f ≡ chosen-of n pl w f

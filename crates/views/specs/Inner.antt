@@ -4,14 +4,14 @@ use mathlib.Core.Bool.{true, false, cond, not, _&&_, _||_}
 use mathlib.Core.List.{List}
 use Prim.Native.Nat.{ℕ, _≤_, _<_}
 use lib.Dec.{ltb, eqb}
-use lib.ListN.{length}
+use lib.ListN.{length, set}
 use Rattle.finite.specs.Finite.{table}
 use Rattle.campaigns.specs.declared.Campaign.{Campaign}
 use Rattle.campaigns.specs.declared.Plan.{Plan}
 use Rattle.campaigns.specs.declared.View.{View}
 use Rattle.campaigns.specs.Choice.{Choice, role-of}
 use Rattle.campaigns.specs.Choice.Choice.{nobody, plays}
-use Rattle.campaigns.specs.Campaign.{can-pay, score, after, priced}
+use Rattle.campaigns.specs.Campaign.{can-pay, score, after, priced, campaign-at}
 use Rattle.campaigns.specs.View.{names, offer, figure, chosen-of}
 use Rattle.views.specs.declared.Leader.{Leader}
 
@@ -22,9 +22,24 @@ pub record Entries (plays turns ages named : List ℕ) : Type 0 where
   pub ages-length : length ages ≡ 64
   pub named-length : length named ≡ 64
 
+-- arrays that hold the counts of campaigns g, beside their prices and budgets
+pub record Counts (g : ℕ → Campaign) (prices budgets plays turns ages named : List ℕ) : Type 0 where
+  pub full : Entries plays turns ages named
+  pub at : (i : ℕ) → i < 64 → campaign-at prices budgets plays turns ages named i ≡ g i
+
+-- the arrays before and after campaign c's counts are stored at i
+pub record Stored (i : ℕ) (c : Campaign) (plays turns ages named plays′ turns′ ages′ named′ : List ℕ) : Type 0 where
+  pub plays-stored : plays′ ≡ set plays i (c .plays)
+  pub turns-stored : turns′ ≡ set turns i (c .turns)
+  pub ages-stored : ages′ ≡ set ages i (c .age)
+  pub named-stored : named′ ≡ set named i (c .named)
+
 -- a choice so far as a leader
+abbrev pub no-leader : Leader
+no-leader = record { found = false; campaign = 64; paid = 0; score = 0 }
+
 abbrev pub led : (figure offer : ℕ → ℕ) → Choice → Leader
-led x o nobody = record { found = false; campaign = 64; paid = 0; score = 0 }
+led x o nobody = no-leader
 led x o (plays m) = record { found = true; campaign = m; paid = o m; score = x m }
 
 unfoldable pub challenged : Plan → Leader → ℕ → Campaign → Leader
