@@ -197,12 +197,13 @@ impl Day {
             &mut ages,
             &mut named,
         );
+        let accepted = self.accepted + counts(answer);
         Outcome {
             day: Self {
                 phase: phase,
                 plan: plan,
                 count: self.count,
-                accepted: self.accepted + counts(answer),
+                accepted: accepted,
                 prices: self.prices,
                 budgets: self.budgets,
                 plays: plays,

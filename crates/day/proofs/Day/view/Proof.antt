@@ -22,11 +22,11 @@ show-requires c κs = search needs
 counts-requires : tie.Need-counts-requires
 counts-requires c κs = search needs
 
-add-t21 : tie.Need-add-t21
-add-t21 c = record { fits = omega (arith, c .counts .ensures, shows-room (c .before .before .before .before .before .before .before .before .before .before .before .before .before .before .args .t1) (c .before .before .before .before .before .before .before .before .before .before .before .before .before .before .args .view) (prices-length (c .before .before .before .before .before .before .before .before .before .before .before .before .before .before)) (budgets-length (c .before .before .before .before .before .before .before .before .before .before .before .before .before .before)) (c .before .show .result) _ _ _ _ (c .before .show .ensures) (below (c .before .before .before .before .before .before .before .before .before .before .before .before .before .before))) }
+add-accepted : tie.Need-add-accepted
+add-accepted c = record { fits = omega (arith, c .counts .ensures, shows-room (c .before .before .before .before .before .before .before .before .before .before .before .before .before .before .args .t1) (c .before .before .before .before .before .before .before .before .before .before .before .before .before .before .args .view) (prices-length (c .before .before .before .before .before .before .before .before .before .before .before .before .before .before)) (budgets-length (c .before .before .before .before .before .before .before .before .before .before .before .before .before .before)) (c .before .show .result) _ _ _ _ (c .before .show .ensures) (below (c .before .before .before .before .before .before .before .before .before .before .before .before .before .before))) }
 
 returns : tie.Need-returns
 returns c = shows-call (c .before .before .before .before .before .before .before .before .before .before .before .before .before .before .before .before .args .t1) (c .before .before .before .before .before .before .before .before .before .before .before .before .before .before .before .before .args .view) (prices-length (c .before .before .before .before .before .before .before .before .before .before .before .before .before .before .before .before)) (budgets-length (c .before .before .before .before .before .before .before .before .before .before .before .before .before .before .before .before)) (c .before .before .before .show .result) _ _ _ _ (c .before .before .before .show .ensures) (c .before .before .counts .result) (c .before .before .counts .ensures)
 
 pub view-spec : {M : Type 1} → statement M
-view-spec = tie.close (tie.spec show-requires counts-requires add-t21 returns)
+view-spec = tie.close (tie.spec show-requires counts-requires add-accepted returns)
