@@ -1,26 +1,27 @@
 -- The last steps of the audit: the plan's tests by the code, the bounds of the sums, and the total claim against full.
-use mathlib.Core.Path.{_≡_, refl, _∙_}
+use mathlib.Core.Path.{_≡_, refl, sym, _∙_}
 use mathlib.Core.Bool.{Bool, true, false, cond, _&&_}
+use mathlib.Core.List.{List}
 use Prim.Native.Nat.{ℕ, _-_, _*_, _/_, _^_, _≤_, _<_}
 use native.Mathlib.Nat.{le-trans, le-div-iff-mul-le, div-lt-iff-lt-mul, pow-lt-pow-left}
 use native.Mathlib.Omega.{arith}
 use lib.Dec.{leb}
 use borrow.Author.Tests.{leb-true, le-leb, lt-leb}
 use Rattle.finite.specs.Finite.{sum, every}
-use Rattle.finite.proofs.Tests.{both-left, both-right, every-at}
+use Rattle.finite.proofs.Tests.{both-left, both-right, every-at, never}
 use Rattle.finite.proofs.Sums.{sum-le}
 use Rattle.powers.specs.Power.{Deepest, weight, share}
 use Rattle.powers.proofs.Weight.{weight-top, weight-zero}
 use Rattle.campaigns.specs.declared.Campaign.{Campaign}
 use Rattle.campaigns.specs.declared.Phase.{Phase}
 use Rattle.campaigns.specs.declared.Plan.{Plan}
-use Rattle.campaigns.specs.Campaign.{spending, depth-fits, width-fits, power-fits, sound-plan, sound-campaign}
+use Rattle.campaigns.specs.Campaign.{spending, depth-fits, width-fits, power-fits, sound-plan, sound-campaign, campaign-at}
 use Rattle.campaigns.specs.Phase.{phase-holds}
 use Rattle.campaigns.specs.View.{full}
 use Rattle.campaigns.proofs.Laws.{Sized, plan-sized, spending-within}
 use Rattle.audit.specs.declared.sums.Sums.{Sums}
-use Rattle.audit.specs.Inner.{sums-of, no-sums, summed, empty-from, not-sound, Bounded, claim-sum, settled, tested, examined}
-use Rattle.audit.proofs.Totals.{Held, campaign-held, turned-most, waited-most}
+use Rattle.audit.specs.Inner.{sums-of, no-sums, waited-of, added, columns-hold, empty-from, not-sound, Bounded, claim-sum, settled, tested, examined}
+use Rattle.audit.proofs.Totals.{Held, campaign-held, columns, paid, columns-sound, turned-most, waited-most}
 
 -- questions 3 to 5, the last by the greatest exponent that fits
 pub plan-tells : (pl : Plan) (r : ℕ) → (pl .width ≤ 16 → Deepest (pl .width) r) → (depth-fits pl && width-fits pl && leb (pl .depth) r) ≡ sound-plan pl
@@ -72,10 +73,6 @@ module _ (p : Phase) (pl : Plan) (a n : ℕ) (f : ℕ → Campaign) (t : tested 
   pub held : (i : ℕ) → i < n → Held pl a (f i)
   held i l = campaign-held p pl a (f i) (every-at n (λ i. sound-campaign p pl a (f i)) each i l)
 
-  pub summed-is : summed p pl a n f ≡ sums-of pl n f
-  unfolding summed
-  summed-is = rw each
-
   -- no campaign has paid more than its budget, so that the takings are no more than the budgets
   pub sums-bounded : n ≤ 64 → a ≤ 4_096 → sound-plan pl ≡ true → Bounded (sums-of pl n f)
   unfolding sums-of
@@ -95,17 +92,32 @@ pub examined-not : (p : Phase) (pl : Plan) (a n : ℕ) (f : ℕ → Campaign) �
 unfolding examined
 examined-not p pl a n f e = rw e
 
--- these tests, on the sums that a pass found
-pub summed-tests : (p : Phase) (pl : Plan) (a n : ℕ) (f : ℕ → Campaign) (e : Bool)
-    → (summed p pl a n f .sound && e && leb (summed p pl a n f .budgets) 2_000_000_000 && phase-holds p a (summed p pl a n f .takings))
-    ≡ (every n (λ i. sound-campaign p pl a (f i)) && e && leb (sum n (λ i. f i .budget)) 2_000_000_000 && phase-holds p a (sum n (λ i. spending (f i))))
-unfolding summed sums-of
-summed-tests p pl a n f e = go (every n (λ i. sound-campaign p pl a (f i)))
-  where
-    go : (t : Bool) → (cond t (sums-of pl n f) no-sums .sound && e && leb (cond t (sums-of pl n f) no-sums .budgets) 2_000_000_000 && phase-holds p a (cond t (sums-of pl n f) no-sums .takings))
-        ≡ (t && e && leb (sum n (λ i. f i .budget)) 2_000_000_000 && phase-holds p a (sum n (λ i. spending (f i))))
-    go true = refl
-    go false = refl
+-- the same tests as the code makes them: those by columns, and then the others on what was added
+module _ (p : Phase) (pl : Plan) (a n : ℕ) (pr bu l t g m : List ℕ) where
+  abbrev f : ℕ → Campaign
+  f = campaign-at pr bu l t g m
+
+  abbrev pub sums-hold : Sums → Bool
+  sums-hold s = s .sound && leb (s .budgets) 2_000_000_000 && phase-holds p a (s .takings)
+
+  pub staged : tested p pl a n f ≡ (columns-hold p pl a n pr bu l t g m && sums-hold (added pl n pr bu l t g))
+  unfolding added sums-of waited-of
+  staged = rw (sym (columns-sound p pl a n pr bu l t g m)) (go (columns p pl a n pr bu l t g m) (every n (paid p pl a n pr bu l t g m)) (empty-from n f))
+    where
+      go : (c d e : Bool) → (c && d && e && leb (sum n (λ i. f i .budget)) 2_000_000_000 && phase-holds p a (sum n (λ i. spending (f i)))) ≡ (c && e && sums-hold (cond d (sums-of pl n f) no-sums))
+      go false d e = refl
+      go true true true = refl
+      go true true false = refl
+      go true false true = refl
+      go true false false = refl
+
+  pub added-is : sums-hold (added pl n pr bu l t g) ≡ true → added pl n pr bu l t g ≡ sums-of pl n f
+  unfolding added sums-of waited-of
+  added-is h = go (every n (paid p pl a n pr bu l t g m)) h
+    where
+      go : (d : Bool) → sums-hold (cond d (sums-of pl n f) no-sums) ≡ true → cond d (sums-of pl n f) no-sums ≡ sums-of pl n f
+      go true e = refl
+      go false e = absurd (never false refl e)
 
 -- the figures settled, by whether the claim is above full
 pub settled-not : (pl : Plan) (s : Sums) → full pl (s .takings) < claim-sum pl s → settled pl s ≡ not-sound

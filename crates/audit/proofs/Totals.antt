@@ -1,6 +1,6 @@
 -- What a sound campaign gives, the tests of soundness by columns, and why the sums fit.
 use mathlib.Core.Path.{_≡_, refl, ap, sym, _∙_}
-use mathlib.Core.Bool.{Bool, true, false, cond, _&&_}
+use mathlib.Core.Bool.{Bool, true, cond, _&&_}
 use mathlib.Core.List.{List}
 use Prim.Native.Nat.{ℕ, _*_, _≤_, _<_}
 use native.Mathlib.Nat.{le-trans, mul-le-mul, mul-le-mul-right}
@@ -14,11 +14,9 @@ use Rattle.campaigns.specs.declared.Campaign.{Campaign}
 use Rattle.campaigns.specs.declared.Phase.{Phase}
 use Rattle.campaigns.specs.declared.Phase.the-variants.{Filling, Running, Closed}
 use Rattle.campaigns.specs.declared.Plan.{Plan}
-use Rattle.audit.specs.declared.sums.Spent.{Spent}
-use Rattle.audit.specs.declared.sums.Sums.{Sums}
 use Rattle.campaigns.specs.Campaign.{whole, spending, price-fits, budget-fits, sound-plan, priced, counted, uncounted, untouched, sound-campaign, campaign-at}
-use Rattle.audit.specs.Inner.{waiting, sums-of, priced-columns, ordered-columns, untouched-columns, no-counts-in, spent-of, spendings, no-spending, waited-of}
-use Rattle.campaigns.proofs.Laws.{plays-within, price-least, weight-top}
+use Rattle.audit.specs.Inner.{waiting, sums-of, Modest, priced-columns, ordered-columns, untouched-columns, no-counts-in}
+use Rattle.campaigns.proofs.Laws.{plays-within, price-least, price-most, weight-top}
 
 -- the tests that a sound campaign passes
 record Tested (p : Phase) (pl : Plan) (a : ℕ) (c : Campaign) : Type 0 where
@@ -89,22 +87,14 @@ module _ (p : Phase) (pl : Plan) (a n : ℕ) (pr bu l t g m : List ℕ) where
   abbrev f : ℕ → Campaign
   f = campaign-at pr bu l t g m
 
-  abbrev paid : ℕ → Bool
+  abbrev pub paid : ℕ → Bool
   paid i = leb (spending (f i)) (f i .budget)
 
   abbrev order : ℕ → Bool
   order i = ltb (f i .age) (pl .depth) && leb (f i .plays) (f i .turns) && leb (f i .turns) (f i .named) && leb (f i .named) a
 
   abbrev pub columns : Bool
-  columns = priced-columns n pr bu && ordered-columns (pl .depth) a n l t g m && untouched-columns p n l t g m && spent-of n pr bu l t .within
-
-  within-is : spent-of n pr bu l t .within ≡ every n paid
-  unfolding spent-of
-  within-is = go (every n paid)
-    where
-      go : (b : Bool) → cond b (spendings n pr bu l t) no-spending .within ≡ b
-      go true = refl
-      go false = refl
+  columns = priced-columns n pr bu && ordered-columns (pl .depth) a n l t g m && untouched-columns p n l t g m
 
   untouched-all : (q : Phase) → untouched-columns q n l t g m ≡ every n (λ i. untouched q (f i))
   unfolding no-counts-in uncounted
@@ -114,42 +104,43 @@ module _ (p : Phase) (pl : Plan) (a n : ℕ) (pr bu l t g m : List ℕ) where
 
   -- each column of tests, at one campaign
   module _ (e : columns ≡ true) (i : ℕ) (h : i < n) where
-    c2 : (priced-columns n pr bu && ordered-columns (pl .depth) a n l t g m && untouched-columns p n l t g m) ≡ true
-    c2 = both-left (priced-columns n pr bu && ordered-columns (pl .depth) a n l t g m && untouched-columns p n l t g m) (spent-of n pr bu l t .within) e
-
-    c1 : (priced-columns n pr bu && ordered-columns (pl .depth) a n l t g m) ≡ true
-    c1 = both-left (priced-columns n pr bu && ordered-columns (pl .depth) a n l t g m) (untouched-columns p n l t g m) c2
+    first-two : (priced-columns n pr bu && ordered-columns (pl .depth) a n l t g m) ≡ true
+    first-two = both-left (priced-columns n pr bu && ordered-columns (pl .depth) a n l t g m) (untouched-columns p n l t g m) e
 
     priced-here : priced (f i) ≡ true
     unfolding priced-columns priced
-    priced-here = every-at n (λ j. priced (f j)) (both-left (priced-columns n pr bu) (ordered-columns (pl .depth) a n l t g m) c1) i h
+    priced-here = every-at n (λ j. priced (f j)) (both-left (priced-columns n pr bu) (ordered-columns (pl .depth) a n l t g m) first-two) i h
 
     ordered-here : order i ≡ true
     unfolding ordered-columns
-    ordered-here = every-at n order (both-right (priced-columns n pr bu) (ordered-columns (pl .depth) a n l t g m) c1) i h
+    ordered-here = every-at n order (both-right (priced-columns n pr bu) (ordered-columns (pl .depth) a n l t g m) first-two) i h
 
     untouched-here : untouched p (f i) ≡ true
-    untouched-here = every-at n (λ j. untouched p (f j)) (sym (untouched-all p) ∙ both-right (priced-columns n pr bu && ordered-columns (pl .depth) a n l t g m) (untouched-columns p n l t g m) c2) i h
+    untouched-here = every-at n (λ j. untouched p (f j)) (sym (untouched-all p) ∙ both-right (priced-columns n pr bu && ordered-columns (pl .depth) a n l t g m) (untouched-columns p n l t g m) e) i h
 
-    paid-here : paid i ≡ true
-    paid-here = every-at n paid (sym within-is ∙ both-right (priced-columns n pr bu && ordered-columns (pl .depth) a n l t g m && untouched-columns p n l t g m) (spent-of n pr bu l t .within) e) i h
+    order-three : (ltb (f i .age) (pl .depth) && leb (f i .plays) (f i .turns) && leb (f i .turns) (f i .named)) ≡ true
+    order-three = both-left (ltb (f i .age) (pl .depth) && leb (f i .plays) (f i .turns) && leb (f i .turns) (f i .named)) (leb (f i .named) a) ordered-here
 
-    tested : Tested p pl a (f i)
-    tested =
-        let o2 = both-left (ltb (f i .age) (pl .depth) && leb (f i .plays) (f i .turns) && leb (f i .turns) (f i .named)) (leb (f i .named) a) ordered-here in
-        let o1 = both-left (ltb (f i .age) (pl .depth) && leb (f i .plays) (f i .turns)) (leb (f i .turns) (f i .named)) o2 in
+    order-two : (ltb (f i .age) (pl .depth) && leb (f i .plays) (f i .turns)) ≡ true
+    order-two = both-left (ltb (f i .age) (pl .depth) && leb (f i .plays) (f i .turns)) (leb (f i .turns) (f i .named)) order-three
+
+    young-here : ltb (f i .age) (pl .depth) ≡ true
+    young-here = both-left (ltb (f i .age) (pl .depth)) (leb (f i .plays) (f i .turns)) order-two
+
+    tested : paid i ≡ true → Tested p pl a (f i)
+    tested q =
         record {
           priced-is = priced-here;
-          young-is = both-left (ltb (f i .age) (pl .depth)) (leb (f i .plays) (f i .turns)) o1;
-          whole-is = sym (plays-within (f i) (price-least (f i) priced-here)) ∙ paid-here;
-          turns-is = both-right (ltb (f i .age) (pl .depth)) (leb (f i .plays) (f i .turns)) o1;
-          named-is = both-right (ltb (f i .age) (pl .depth) && leb (f i .plays) (f i .turns)) (leb (f i .turns) (f i .named)) o2;
+          young-is = young-here;
+          whole-is = sym (plays-within (f i) (price-least (f i) priced-here)) ∙ q;
+          turns-is = both-right (ltb (f i .age) (pl .depth)) (leb (f i .plays) (f i .turns)) order-two;
+          named-is = both-right (ltb (f i .age) (pl .depth) && leb (f i .plays) (f i .turns)) (leb (f i .turns) (f i .named)) order-three;
           views-is = both-right (ltb (f i .age) (pl .depth) && leb (f i .plays) (f i .turns) && leb (f i .turns) (f i .named)) (leb (f i .named) a) ordered-here;
           untouched-is = untouched-here;
         }
 
   -- and back
-  columns-of : ((i : ℕ) → i < n → Tested p pl a (f i)) → columns ≡ true
+  columns-of : ((i : ℕ) → i < n → Tested p pl a (f i)) → (columns && every n paid) ≡ true
   unfolding priced-columns priced ordered-columns
   columns-of h =
       rw (
@@ -157,23 +148,18 @@ module _ (p : Phase) (pl : Plan) (a n : ℕ) (pr bu l t g m : List ℕ) where
         every-of n order (λ i l. rw (h i l .young-is, h i l .turns-is, h i l .named-is, h i l .views-is)),
         untouched-all p,
         every-of n (λ i. untouched p (f i)) (λ i l. h i l .untouched-is),
-        within-is,
         every-of n paid (λ i l. plays-within (f i) (price-least (f i) (h i l .priced-is)) ∙ h i l .whole-is),
       )
 
-  pub columns-sound : columns ≡ every n (λ i. sound-campaign p pl a (f i))
+  pub columns-sound : (columns && every n paid) ≡ every n (λ i. sound-campaign p pl a (f i))
   columns-sound =
-      same-test columns (every n (λ i. sound-campaign p pl a (f i)))
-      (λ e. every-of n (λ i. sound-campaign p pl a (f i)) (λ i h. sound-of p pl a (f i) (tested e i h)))
+      same-test (columns && every n paid) (every n (λ i. sound-campaign p pl a (f i)))
+      (λ e. every-of n (λ i. sound-campaign p pl a (f i)) (λ i h. sound-of p pl a (f i) (tested (both-left columns (every n paid) e) i h (every-at n paid (both-right columns (every n paid) e) i h))))
       (λ e. columns-of (λ i h. tests-of p pl a (f i) (every-at n (λ j. sound-campaign p pl a (f j)) e i h)))
 
-  -- the sums, from their parts
-  abbrev pub joined : Spent → Sums
-  joined s = record { sound = true; budgets = s .budgets; takings = s .takings; turned = s .turned; waited = waited-of pl n pr g }
-
-  pub sums-join : every n (λ i. sound-campaign p pl a (f i)) ≡ true → joined (spent-of n pr bu l t) ≡ sums-of pl n f
-  unfolding spent-of sums-of waited-of
-  sums-join e = rw (sym within-is ∙ both-right (priced-columns n pr bu && ordered-columns (pl .depth) a n l t g m && untouched-columns p n l t g m) (spent-of n pr bu l t .within) (columns-sound ∙ e))
+  -- the columns bound what is added
+  pub columns-modest : columns ≡ true → Modest pl n pr g
+  columns-modest e = record { price-most = λ i h. price-most (f i) (priced-here e i h); age-most = λ i h. omega (arith, ltb-true (f i .age) (pl .depth) (young-here e i h)) }
 
 -- why the sums over at most 64 sound campaigns fit
 module _ (p : Phase) (pl : Plan) (a n : ℕ) (f : ℕ → Campaign) (few : n ≤ 64) (sound : every n (λ i. sound-campaign p pl a (f i)) ≡ true) where

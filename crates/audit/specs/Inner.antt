@@ -11,7 +11,7 @@ use Rattle.campaigns.specs.declared.Phase.{Phase}
 use Rattle.campaigns.specs.declared.Phase.the-variants.{Filling, Running, Closed}
 use Rattle.campaigns.specs.declared.Plan.{Plan}
 use Rattle.campaigns.specs.Phase.{phase-holds}
-use Rattle.campaigns.specs.Campaign.{spending, price-fits, budget-fits, sound-plan, empty, sound-campaign}
+use Rattle.campaigns.specs.Campaign.{spending, price-fits, budget-fits, sound-plan, empty, sound-campaign, campaign-at}
 use Rattle.campaigns.specs.View.{full}
 use Rattle.audit.specs.declared.Audit.{Audit}
 use Rattle.audit.specs.declared.sums.Spent.{Spent}
@@ -67,8 +67,11 @@ pub record Modest (pl : Plan) (n : ℕ) (prices ages : List ℕ) : Type 0 where
   pub price-most : (i : ℕ) → i < n → getD prices i 0 ≤ 1_000_000
   pub age-most : (i : ℕ) → i < n → getD ages i 0 ≤ pl .depth
 
-unfoldable pub summed : Phase → Plan → (accepted n : ℕ) → (ℕ → Campaign) → Sums
-summed p pl a n f = cond (every n (λ i. sound-campaign p pl a (f i))) (sums-of pl n f) no-sums
+-- all of them, where each campaign has paid at most its budget
+unfoldable pub added : Plan → ℕ → (prices budgets plays turns ages : List ℕ) → Sums
+added pl n p b l t a =
+    let s = spendings n p b l t in
+    cond (every n (λ i. leb (getD p i 0 * getD l i 0) (getD b i 0))) (record { sound = true; budgets = s .budgets; takings = s .takings; turned = s .turned; waited = waited-of pl n p a }) no-sums
 
 -- of the first m entries, those from n on have no terms, no counts, or neither
 unfoldable pub no-terms-from : ℕ → (prices budgets : List ℕ) → ℕ → Bool
@@ -84,6 +87,11 @@ untouched-columns (Closed x) n l t a k = true
 
 unfoldable pub empty-from : ℕ → (ℕ → Campaign) → Bool
 empty-from n f = every 64 (λ i. cond (ltb i n) true (empty (f i)))
+
+-- all tests by columns
+abbrev pub columns-hold : Phase → Plan → (accepted n : ℕ) → (prices budgets plays turns ages named : List ℕ) → Bool
+columns-hold p pl a n pr bu l t g m =
+    priced-columns n pr bu && ordered-columns (pl .depth) a n l t g m && untouched-columns p n l t g m && empty-from n (campaign-at pr bu l t g m)
 
 -- an audit that fails
 abbrev pub not-sound : Audit

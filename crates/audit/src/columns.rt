@@ -1,18 +1,19 @@
 // Soundness of the campaigns by columns: each test runs over whole arrays in their own widths and without a branch, so that
-// several entries are tested at once. The callers have tested that n is at most 64.
+// several entries are tested at once. `columns_hold` makes them all, and is told that n is at most 64.
 use campaigns::Phase;
+use campaigns::Plan;
 ghost use mathlib.Core.Path.{_≡_};
 ghost use Prim.Native.Nat.{_≤_};
 ghost use Rattle.campaigns.specs.Campaign.{campaign-at};
-ghost use Rattle.audit.specs.Inner.{priced-columns, ordered-columns, untouched-columns, no-terms-from, no-counts-in, empty-from};
+ghost use Rattle.audit.specs.Inner.{priced-columns, ordered-columns, untouched-columns, no-terms-from, no-counts-in, empty-from, columns-hold};
 
 // The limits of questions 8 and 9 in the widths of the arrays.
 const MAX_PRICE: u32 = 1_000_000;
 
 const MAX_BUDGET: u32 = 2_000_000_000;
 
-// The first n campaigns keep these limits; `sum_all` was told that there are at most 64.
-pub fn priced_all<'a>(n: usize, prices: &'a [u32; 64], budgets: &'a [u32; 64]) -> bool
+// The first n campaigns keep these limits.
+fn priced_all<'a>(n: usize, prices: &'a [u32; 64], budgets: &'a [u32; 64]) -> bool
     requires { ⌜ n ≤ 64 ⌝ }
     ensures { λ r. ⌜ r ≡ priced-columns n (now (prices .entry)) (now (budgets .entry)) ⌝ }
 {
@@ -29,8 +30,8 @@ pub fn priced_all<'a>(n: usize, prices: &'a [u32; 64], budgets: &'a [u32; 64]) -
     fit
 }
 
-// age < depth and plays ≤ turns ≤ named ≤ accepted views, for the first n campaigns, at most 64 by `sum_all`.
-pub fn ordered_all<'a>(
+// age < depth and plays ≤ turns ≤ named ≤ accepted views, for the first n campaigns.
+fn ordered_all<'a>(
     n: usize,
     depth: u16,
     accepted: u16,
@@ -84,8 +85,8 @@ fn no_counts_in<'a>(
     any == 0
 }
 
-// In Filling the counts of the first n campaigns, at most 64 by `sum_all`, are zero.
-pub fn untouched_all<'a>(
+// In Filling the counts of the first n campaigns are zero.
+fn untouched_all<'a>(
     phase: Phase,
     n: usize,
     plays: &'a [u16; 64],
@@ -103,8 +104,8 @@ pub fn untouched_all<'a>(
     }
 }
 
-// The entries from n on, which `examine` keeps to at most 64, are all zero.
-pub fn empty_from<'a>(
+// The entries from n on are all zero.
+fn empty_from<'a>(
     n: usize,
     prices: &'a [u32; 64],
     budgets: &'a [u32; 64],
@@ -117,4 +118,28 @@ pub fn empty_from<'a>(
     ensures { λ r. ⌜ r ≡ empty-from n (campaign-at (now (prices .entry)) (now (budgets .entry)) (now (plays .entry)) (now (turns .entry)) (now (ages .entry)) (now (named .entry))) ⌝ }
 {
     no_terms_from(n, prices, budgets) & no_counts_in(n, 64, plays, turns, ages, named)
+}
+
+// Every test by columns, before a sum is formed; `examine` is called within the limits.
+pub fn columns_hold<'a>(
+    phase: Phase,
+    plan: Plan,
+    accepted: u64,
+    n: usize,
+    prices: &'a [u32; 64],
+    budgets: &'a [u32; 64],
+    plays: &'a [u16; 64],
+    turns: &'a [u16; 64],
+    ages: &'a [u16; 64],
+    named: &'a [u16; 64],
+) -> bool
+    requires { ⌜ (n ≤ 64) × (plan .depth ≤ 32) × (accepted ≤ 4096) ⌝ }
+    ensures { λ r. ⌜ r ≡ columns-hold phase plan accepted n (now (prices .entry)) (now (budgets .entry)) (now (plays .entry)) (now (turns .entry)) (now (ages .entry)) (now (named .entry)) ⌝ }
+{
+    let depth = plan.depth as u16;
+    let views = accepted as u16;
+    priced_all(n, prices, budgets)
+        & ordered_all(n, depth, views, plays, turns, ages, named)
+        & untouched_all(phase, n, plays, turns, ages, named)
+        & empty_from(n, prices, budgets, plays, turns, ages, named)
 }

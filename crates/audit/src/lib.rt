@@ -2,7 +2,7 @@
 pub mod columns;
 pub mod sums;
 
-use crate::columns::empty_from;
+use crate::columns::columns_hold;
 use crate::sums::Sums;
 use crate::sums::sum_all;
 use campaigns::Phase;
@@ -106,21 +106,22 @@ pub fn examine<'a>(
     ensures { λ r. ⌜ r ≡ examined phase plan accepted count (campaign-at (now (prices .entry)) (now (budgets .entry)) (now (plays .entry)) (now (turns .entry)) (now (ages .entry)) (now (named .entry))) ⌝ }
 {
     let n = count as usize;
-    let sums = sum_all(
-        n,
+    if !columns_hold(
         phase,
         plan,
         accepted,
-        weights,
+        n,
         prices,
         budgets,
         plays,
         turns,
         ages,
         named,
-    );
+    ) {
+        return Audit::unsound();
+    }
+    let sums = sum_all(n, plan, weights, prices, budgets, plays, turns, ages);
     if !(sums.sound
-        & empty_from(n, prices, budgets, plays, turns, ages, named)
         & (sums.budgets <= Terms::MAX_BUDGET)
         & phase_holds(phase, accepted, sums.takings)) {
         return Audit::unsound();

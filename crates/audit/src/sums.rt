@@ -1,19 +1,14 @@
 // The sums that soundness compares, over campaigns whose tests pass.
-use crate::columns::ordered_all;
-use crate::columns::priced_all;
-use crate::columns::untouched_all;
-use campaigns::Phase;
 use campaigns::Plan;
 use campaigns::entry::wide16;
 use campaigns::entry::wide32;
 use campaigns::weights::weigh;
 ghost use mathlib.Core.Path.{_≡_};
 ghost use Prim.Native.Nat.{_≤_};
-ghost use Rattle.campaigns.specs.Campaign.{campaign-at};
 ghost use Rattle.campaigns.specs.Inner.{Weights};
-ghost use Rattle.audit.specs.Inner.{spent-of, waited-of, Modest, no-sums, summed};
+ghost use Rattle.audit.specs.Inner.{spent-of, waited-of, Modest, no-sums, added};
 
-// What a pass over the campaigns finds: whether each is sound and, if so, the sums that soundness compares.
+// Whether each campaign has paid at most its budget and, if so, the sums that soundness compares.
 pub struct Sums {
     pub sound: bool,
     pub budgets: u64,
@@ -38,8 +33,7 @@ impl Sums {
     }
 }
 
-// Whether each campaign has paid at most its budget, price × plays ≤ budget, and, if so, the sums of the budgets, of the
-// spendings and of price × turns.
+// Whether price × plays ≤ budget for each campaign and, if so, the sums that no weight enters.
 pub struct Spent {
     pub within: bool,
     pub budgets: u64,
@@ -47,7 +41,7 @@ pub struct Spent {
     pub turned: u64,
 }
 
-// No sum of 64 products of a u32 and a u16 overflows.
+// No sum of 64 products of a u32 and a u16 overflows; `sum_all` is told that there are at most 64.
 fn spend_all<'a>(
     n: usize,
     prices: &'a [u32; 64],
@@ -85,7 +79,8 @@ fn spend_all<'a>(
     }
 }
 
-// The sum of price × (W(age) − W(0)), of campaigns that `sum_all` has found sound.
+// The sum of price × (W(age) − W(0)), of campaigns whose prices and ages `sum_all` is told to be within
+// their limits.
 fn wait_all<'a>(
     n: usize,
     plan: Plan,
@@ -107,32 +102,25 @@ fn wait_all<'a>(
     sum
 }
 
-// The sums over the first n campaigns. `examine` is called within the limits, with the plan's weights.
+// The sums over the first n campaigns, or none where one has paid more than its budget. `examine` has tested the columns,
+// and has the plan's weights.
 pub fn sum_all<'a>(
     n: usize,
-    phase: Phase,
     plan: Plan,
-    accepted: u64,
     weights: &'a [u64; 33],
     prices: &'a [u32; 64],
     budgets: &'a [u32; 64],
     plays: &'a [u16; 64],
     turns: &'a [u16; 64],
     ages: &'a [u16; 64],
-    named: &'a [u16; 64],
 ) -> Sums
     requires { ⌜ n ≤ 64 ⌝ }
-    requires { ⌜ accepted ≤ 4096 ⌝ }
     requires { ⌜ Weights plan (now weights) ⌝ }
-    ensures { λ r. ⌜ r ≡ summed phase plan accepted n (campaign-at (now (prices .entry)) (now (budgets .entry)) (now (plays .entry)) (now (turns .entry)) (now (ages .entry)) (now (named .entry))) ⌝ }
+    requires { ⌜ Modest plan n (now prices) (now ages) ⌝ }
+    ensures { λ r. ⌜ r ≡ added plan n (now (prices .entry)) (now (budgets .entry)) (now (plays .entry)) (now (turns .entry)) (now (ages .entry)) ⌝ }
 {
-    let depth = plan.depth as u16;
-    let views = accepted as u16;
     let spent = spend_all(n, prices, budgets, plays, turns);
-    if !(priced_all(n, prices, budgets)
-        & ordered_all(n, depth, views, plays, turns, ages, named)
-        & untouched_all(phase, n, plays, turns, ages, named)
-        & spent.within) {
+    if !spent.within {
         return Sums::none();
     }
     Sums {

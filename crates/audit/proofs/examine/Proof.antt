@@ -1,9 +1,13 @@
-use Rattle.audit.proofs.Settling.{summed-tests, summed-is, sums-bounded, examined-is, examined-not}
-use Rattle.audit.specs.Inner.{sums-of, empty-from, Bounded, settled, tested}
+use Rattle.audit.proofs.Totals.{columns, columns-modest}
+use Rattle.audit.proofs.Settling.{sums-hold, staged, added-is, sums-bounded, examined-is, examined-not}
+use Rattle.campaigns.proofs.Laws.{plan-sized}
+use Rattle.finite.proofs.Tests.{both-left}
+use Rattle.audit.specs.declared.sums.Sums.{Sums}
+use Rattle.audit.specs.Inner.{sums-of, columns-hold, added, empty-from, Bounded, settled, tested}
 use Rattle.campaigns.specs.declared.Campaign.{Campaign}
 use Rattle.campaigns.specs.Campaign.{campaign-at}
-use borrow.Author.Tests.{not-true, not-false}
 use lib.Dec.{leb}
+use borrow.Author.Tests.{not-true, not-false}
 use Prim.Native.Nat.{ℕ}
 use mathlib.Core.Bool.{Bool, true, _&&_}
 use mathlib.Core.Path.{_≡_, ap, sym, subst, _∙_}
@@ -17,54 +21,80 @@ campaign s = campaign-at (s .args .prices .now) (s .args .budgets .now) (s .args
 abbrev passed : tie.Start → Bool
 passed s = tested (s .args .phase) (s .args .plan) (s .args .accepted) (s .args .count) (campaign s)
 
--- the test of the code
+abbrev added-up : tie.Start → Sums
+added-up s = added (s .args .plan) (s .args .count) (s .args .prices .now) (s .args .budgets .now) (s .args .plays .now) (s .args .turns .now) (s .args .ages .now)
+
+-- the tests by columns
+columns-pass : (c : tie.Else1) → columns-hold (c .before .before .args .phase) (c .before .before .args .plan) (c .before .before .args .accepted) (c .before .before .args .count) (c .before .before .args .prices .now) (c .before .before .args .budgets .now) (c .before .before .args .plays .now) (c .before .before .args .turns .now) (c .before .before .args .ages .now) (c .before .before .args .named .now) ≡ true
+columns-pass c = sym (c .before .columns-hold .ensures) ∙ not-false (c .before .columns-hold .result) (c .if1 .left)
+
+-- and those on what was added
+sums-are : (c : tie.After-phase-holds) → c .before .before .before .sum-all .result ≡ added-up (c .before .before .before .before .before .before)
+sums-are c = c .before .before .before .sum-all .ensures
+
 abbrev test : tie.After-phase-holds → Bool
-test c = c .before .before .before .before .sum-all .result .sound && c .before .before .before .empty-from .result && leb (c .before .before .before .before .sum-all .result .budgets) 2_000_000_000 && c .phase-holds .result
+test c = c .before .before .before .sum-all .result .sound && leb (c .before .before .before .sum-all .result .budgets) 2_000_000_000 && c .phase-holds .result
 
-test-is : (c : tie.After-phase-holds) → test c ≡ passed (c .before .before .before .before .before)
-test-is c =
-    let s = c .before .before .before .before .before in
-    rw (c .phase-holds .ensures, c .before .before .before .empty-from .ensures, c .before .before .before .before .sum-all .ensures)
-    (summed-tests (s .args .phase) (s .args .plan) (s .args .accepted) (s .args .count) (campaign s) (empty-from (s .args .count) (campaign s)))
+test-is : (c : tie.After-phase-holds) → test c ≡ sums-hold (c .before .before .before .before .before .before .args .phase) (c .before .before .before .before .before .before .args .plan) (c .before .before .before .before .before .before .args .accepted) (c .before .before .before .before .before .before .args .count) (c .before .before .before .before .before .before .args .prices .now) (c .before .before .before .before .before .before .args .budgets .now) (c .before .before .before .before .before .before .args .plays .now) (c .before .before .before .before .before .before .args .turns .now) (c .before .before .before .before .before .before .args .ages .now) (c .before .before .before .before .before .before .args .named .now) (added-up (c .before .before .before .before .before .before))
+test-is c = rw (c .phase-holds .ensures, sums-are c)
 
-passes : (c : tie.Else1) → passed (c .before .before .before .before .before .before) ≡ true
-passes c = sym (test-is (c .before)) ∙ not-false (test (c .before)) (c .if1 .left)
+passed-is : (c : tie.After-phase-holds) → passed (c .before .before .before .before .before .before) ≡ test c
+passed-is c = staged (c .before .before .before .before .before .before .args .phase) (c .before .before .before .before .before .before .args .plan) (c .before .before .before .before .before .before .args .accepted) (c .before .before .before .before .before .before .args .count) (c .before .before .before .before .before .before .args .prices .now) (c .before .before .before .before .before .before .args .budgets .now) (c .before .before .before .before .before .before .args .plays .now) (c .before .before .before .before .before .before .args .turns .now) (c .before .before .before .before .before .before .args .ages .now) (c .before .before .before .before .before .before .args .named .now) ∙ rw (columns-pass (c .before .before .before .before)) (sym (test-is c))
 
-summed : (c : tie.Else1) → c .before .before .before .before .before .sum-all .result ≡ sums-of (c .before .before .before .before .before .before .args .plan) (c .before .before .before .before .before .before .args .count) (campaign (c .before .before .before .before .before .before))
-summed c = let s = c .before .before .before .before .before .before in c .before .before .before .before .before .sum-all .ensures ∙ summed-is (s .args .phase) (s .args .plan) (s .args .accepted) (s .args .count) (campaign s) (passes c)
+passes : (c : tie.Else2) → test (c .before) ≡ true
+passes c = not-false (test (c .before)) (c .if2 .left)
 
-sum-all-requires : tie.Need-sum-all-requires
-sum-all-requires c κs = (c .pre .1, (c .pre .2, c .pre .0))
+summed : (c : tie.Else2) → c .before .before .before .before .sum-all .result ≡ sums-of (c .before .before .before .before .before .before .before .args .plan) (c .before .before .before .before .before .before .before .args .count) (campaign (c .before .before .before .before .before .before .before))
+summed c = sums-are (c .before) ∙ added-is (c .before .before .before .before .before .before .before .args .phase) (c .before .before .before .before .before .before .before .args .plan) (c .before .before .before .before .before .before .before .args .accepted) (c .before .before .before .before .before .before .before .args .count) (c .before .before .before .before .before .before .before .args .prices .now) (c .before .before .before .before .before .before .before .args .budgets .now) (c .before .before .before .before .before .before .before .args .plays .now) (c .before .before .before .before .before .before .before .args .turns .now) (c .before .before .before .before .before .before .before .args .ages .now) (c .before .before .before .before .before .before .before .args .named .now) (sym (test-is (c .before)) ∙ passes c)
 
-empty-from-requires : tie.Need-empty-from-requires
-empty-from-requires c κs = c .before .pre .1
-
-phase-holds-requires : tie.Need-phase-holds-requires
-phase-holds-requires c κs = search needs
+columns-hold-requires : tie.Need-columns-hold-requires
+columns-hold-requires c κs = (c .pre .1, plan-sized (c .args .plan) (c .pre .0 .plan-sound) .shallow, c .pre .2)
 
 unsound-requires : tie.Need-unsound-requires
 unsound-requires c κs = search needs
 
 returns : tie.Need-returns
-returns c = let s = c .before .before .before .before .before .before .before in
-    c .unsound .ensures ∙ sym (examined-not (s .args .phase) (s .args .plan) (s .args .accepted) (s .args .count) (campaign s) (sym (test-is (c .before .before)) ∙ not-true (test (c .before .before)) (c .before .if1 .taken)))
+returns c =
+    let s = c .before .before .before in
+    let e = sym (c .before .before .columns-hold .ensures) ∙ not-true (c .before .before .columns-hold .result) (c .before .if1 .taken) in
+    c .unsound .ensures ∙ sym (examined-not (s .args .phase) (s .args .plan) (s .args .accepted) (s .args .count) (campaign s) (staged (s .args .phase) (s .args .plan) (s .args .accepted) (s .args .count) (s .args .prices .now) (s .args .budgets .now) (s .args .plays .now) (s .args .turns .now) (s .args .ages .now) (s .args .named .now) ∙ ap (λ (b : Bool). b && sums-hold (s .args .phase) (s .args .plan) (s .args .accepted) (s .args .count) (s .args .prices .now) (s .args .budgets .now) (s .args .plays .now) (s .args .turns .now) (s .args .ages .now) (s .args .named .now) (added-up s)) e))
 
-settle-requires : tie.Need-settle-requires
-settle-requires c κs = let s = c .before .before .before .before .before .before in
-    (s .pre .0, subst Bounded (sym (summed c)) (sums-bounded (s .args .phase) (s .args .plan) (s .args .accepted) (s .args .count) (campaign s) (passes c) (s .pre .1) (s .pre .2) (s .pre .0 .plan-sound)))
+sum-all-requires : tie.Need-sum-all-requires
+sum-all-requires c κs =
+    let s = c .before .before in
+    (s .pre .1, (s .pre .0, columns-modest (s .args .phase) (s .args .plan) (s .args .accepted) (s .args .count) (s .args .prices .now) (s .args .budgets .now) (s .args .plays .now) (s .args .turns .now) (s .args .ages .now) (s .args .named .now) (both-left (columns (s .args .phase) (s .args .plan) (s .args .accepted) (s .args .count) (s .args .prices .now) (s .args .budgets .now) (s .args .plays .now) (s .args .turns .now) (s .args .ages .now) (s .args .named .now)) (empty-from (s .args .count) (campaign s)) (columns-pass c))))
+
+phase-holds-requires : tie.Need-phase-holds-requires
+phase-holds-requires c κs = search needs
+
+unsound-requires-2 : tie.Need-unsound-requires-2
+unsound-requires-2 c κs = search needs
 
 returns-2 : tie.Need-returns-2
-returns-2 c = let s = c .before .before .before .before .before .before .before in
-    c .settle .ensures ∙ ap (settled (s .args .plan)) (summed (c .before)) ∙ sym (examined-is (s .args .phase) (s .args .plan) (s .args .accepted) (s .args .count) (campaign s) (passes (c .before)))
+returns-2 c =
+    let s = c .before .before .before .before .before .before .before .before in
+    c .unsound2 .ensures ∙ sym (examined-not (s .args .phase) (s .args .plan) (s .args .accepted) (s .args .count) (campaign s) (passed-is (c .before .before) ∙ not-true (test (c .before .before)) (c .before .if2 .taken)))
+
+settle-requires : tie.Need-settle-requires
+settle-requires c κs =
+    let s = c .before .before .before .before .before .before .before in
+    (s .pre .0, subst Bounded (sym (summed c)) (sums-bounded (s .args .phase) (s .args .plan) (s .args .accepted) (s .args .count) (campaign s) (passed-is (c .before) ∙ passes c) (s .pre .1) (s .pre .2) (s .pre .0 .plan-sound)))
+
+returns-3 : tie.Need-returns-3
+returns-3 c =
+    let s = c .before .before .before .before .before .before .before .before in
+    c .settle .ensures ∙ ap (settled (s .args .plan)) (summed (c .before)) ∙ sym (examined-is (s .args .phase) (s .args .plan) (s .args .accepted) (s .args .count) (campaign s) (passed-is (c .before .before) ∙ passes (c .before)))
 
 pub examine-spec : {M : Type 1} → statement M
 examine-spec =
     tie.close
     (tie.spec
-    sum-all-requires
-    empty-from-requires
-    phase-holds-requires
+    columns-hold-requires
     unsound-requires
     returns
+    sum-all-requires
+    phase-holds-requires
+    unsound-requires-2
+    returns-2
     settle-requires
-    returns-2)
+    returns-3)
