@@ -8,7 +8,7 @@ use native.Mathlib.Omega.{arith}
 use lib.Dec.{leb}
 use borrow.Author.Tests.{leb-true, le-leb, lt-leb}
 use Rattle.finite.specs.Finite.{sum, every}
-use Rattle.finite.proofs.Tests.{both-left, both-right, every-at, never}
+use Rattle.finite.proofs.Tests.{both-left, both-right, never}
 use Rattle.finite.proofs.Sums.{sum-le}
 use Rattle.powers.specs.Power.{Deepest, weight, share}
 use Rattle.powers.proofs.Weight.{weight-top, weight-zero}
@@ -20,8 +20,8 @@ use Rattle.campaigns.specs.Phase.{phase-holds}
 use Rattle.campaigns.specs.View.{full}
 use Rattle.campaigns.proofs.Laws.{Sized, plan-sized, spending-within}
 use Rattle.audit.specs.declared.sums.Sums.{Sums}
-use Rattle.audit.specs.Inner.{sums-of, no-sums, waited-of, added, columns-hold, empty-from, not-sound, Bounded, claim-sum, settled, tested, examined}
-use Rattle.audit.proofs.Totals.{Held, campaign-held, columns, paid, columns-sound, turned-most, waited-most}
+use Rattle.audit.specs.Inner.{sums-of, no-sums, waited-of, paid-columns, summed, columns-hold, empty-from, not-sound, Bounded, claim-sum, settled, tested, examined}
+use Rattle.audit.proofs.Totals.{columns, columns-sound, held, turned-most, waited-most}
 
 -- questions 3 to 5, the last by the greatest exponent that fits
 pub plan-tells : (pl : Plan) (r : ℕ) → (pl .width ≤ 16 → Deepest (pl .width) r) → (depth-fits pl && width-fits pl && leb (pl .depth) r) ≡ sound-plan pl
@@ -70,15 +70,12 @@ module _ (p : Phase) (pl : Plan) (a n : ℕ) (f : ℕ → Campaign) (t : tested 
       both-left (every n (λ i. sound-campaign p pl a (f i))) (empty-from n f)
       (both-left (every n (λ i. sound-campaign p pl a (f i)) && empty-from n f) (leb (sum n (λ i. f i .budget)) 2_000_000_000) before-phase)
 
-  pub held : (i : ℕ) → i < n → Held pl a (f i)
-  held i l = campaign-held p pl a (f i) (every-at n (λ i. sound-campaign p pl a (f i)) each i l)
-
   -- no campaign has paid more than its budget, so that the takings are no more than the budgets
   pub sums-bounded : n ≤ 64 → a ≤ 4_096 → sound-plan pl ≡ true → Bounded (sums-of pl n f)
   unfolding sums-of
   sums-bounded few views sound =
       record {
-        takings-bound = le-trans (sum-le n (λ i. spending (f i)) (λ i. f i .budget) (λ i l. spending-within (f i) (held i l .price-least) (held i l .within-whole)))
+        takings-bound = le-trans (sum-le n (λ i. spending (f i)) (λ i. f i .budget) (λ i l. spending-within (f i) (held p pl a n f each i l .price-least) (held p pl a n f each i l .within-whole)))
             (leb-true (sum n (λ i. f i .budget)) 2_000_000_000 (both-right (every n (λ i. sound-campaign p pl a (f i)) && empty-from n f) (leb (sum n (λ i. f i .budget)) 2_000_000_000) before-phase));
         turned-bound = turned-most p pl a n f few each views;
         waited-bound = waited-most p pl a n f few each sound;
@@ -92,30 +89,30 @@ pub examined-not : (p : Phase) (pl : Plan) (a n : ℕ) (f : ℕ → Campaign) �
 unfolding examined
 examined-not p pl a n f e = rw e
 
--- the same tests as the code makes them: those by columns, and then the others on what was added
+-- the same tests as the code makes them: those by columns, and then the others on the sums
+abbrev pub sums-hold : Phase → (accepted : ℕ) → Sums → Bool
+sums-hold p a s = s .within && leb (s .budgets) 2_000_000_000 && phase-holds p a (s .takings)
+
 module _ (p : Phase) (pl : Plan) (a n : ℕ) (pr bu l t g m : List ℕ) where
   abbrev f : ℕ → Campaign
   f = campaign-at pr bu l t g m
 
-  abbrev pub sums-hold : Sums → Bool
-  sums-hold s = s .sound && leb (s .budgets) 2_000_000_000 && phase-holds p a (s .takings)
-
-  pub staged : tested p pl a n f ≡ (columns-hold p pl a n pr bu l t g m && sums-hold (added pl n pr bu l t g))
-  unfolding added sums-of waited-of
-  staged = rw (sym (columns-sound p pl a n pr bu l t g m)) (go (columns p pl a n pr bu l t g m) (every n (paid p pl a n pr bu l t g m)) (empty-from n f))
+  pub staged : tested p pl a n f ≡ (columns-hold p pl a n pr bu l t g m && sums-hold p a (summed pl n pr bu l t g))
+  unfolding summed sums-of waited-of
+  staged = rw (sym (columns-sound p pl a n pr bu l t g m)) (go (columns p pl a n pr bu l t g m) (paid-columns n pr bu l) (empty-from n f))
     where
-      go : (c d e : Bool) → (c && d && e && leb (sum n (λ i. f i .budget)) 2_000_000_000 && phase-holds p a (sum n (λ i. spending (f i)))) ≡ (c && e && sums-hold (cond d (sums-of pl n f) no-sums))
+      go : (c d e : Bool) → (c && d && e && leb (sum n (λ i. f i .budget)) 2_000_000_000 && phase-holds p a (sum n (λ i. spending (f i)))) ≡ (c && e && sums-hold p a (cond d (sums-of pl n f) no-sums))
       go false d e = refl
       go true true true = refl
       go true true false = refl
       go true false true = refl
       go true false false = refl
 
-  pub added-is : sums-hold (added pl n pr bu l t g) ≡ true → added pl n pr bu l t g ≡ sums-of pl n f
-  unfolding added sums-of waited-of
-  added-is h = go (every n (paid p pl a n pr bu l t g m)) h
+  pub summed-is : sums-hold p a (summed pl n pr bu l t g) ≡ true → summed pl n pr bu l t g ≡ sums-of pl n f
+  unfolding summed sums-of waited-of
+  summed-is h = go (paid-columns n pr bu l) h
     where
-      go : (d : Bool) → sums-hold (cond d (sums-of pl n f) no-sums) ≡ true → cond d (sums-of pl n f) no-sums ≡ sums-of pl n f
+      go : (d : Bool) → sums-hold p a (cond d (sums-of pl n f) no-sums) ≡ true → cond d (sums-of pl n f) no-sums ≡ sums-of pl n f
       go true e = refl
       go false e = absurd (never false refl e)
 

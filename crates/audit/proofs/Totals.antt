@@ -14,8 +14,8 @@ use Rattle.campaigns.specs.declared.Campaign.{Campaign}
 use Rattle.campaigns.specs.declared.Phase.{Phase}
 use Rattle.campaigns.specs.declared.Phase.the-variants.{Filling, Running, Closed}
 use Rattle.campaigns.specs.declared.Plan.{Plan}
-use Rattle.campaigns.specs.Campaign.{whole, spending, price-fits, budget-fits, sound-plan, priced, counted, uncounted, untouched, sound-campaign, campaign-at}
-use Rattle.audit.specs.Inner.{waiting, sums-of, Modest, priced-columns, ordered-columns, untouched-columns, no-counts-in}
+use Rattle.campaigns.specs.Campaign.{whole, spending, sound-plan, priced, counted, uncounted, untouched, sound-campaign, campaign-at}
+use Rattle.audit.specs.Inner.{waiting, sums-of, Entries-bounded, priced-columns, ordered-columns, untouched-columns, no-counts-in}
 use Rattle.campaigns.proofs.Laws.{plays-within, price-least, price-most, weight-top}
 
 -- the tests that a sound campaign passes
@@ -55,8 +55,6 @@ pub record Held (pl : Plan) (accepted : ℕ) (c : Campaign) : Type 0 where
   pub is-priced : priced c ≡ true
   pub price-least : 1 ≤ c .price
   pub price-most : c .price ≤ 1_000_000
-  pub budget-least : c .price ≤ c .budget
-  pub budget-most : c .budget ≤ 2_000_000_000
   pub young : c .age < pl .depth
   pub within-whole : c .plays ≤ whole c
   pub plays-turns : c .plays ≤ c .turns
@@ -64,17 +62,12 @@ pub record Held (pl : Plan) (accepted : ℕ) (c : Campaign) : Type 0 where
   pub named-accepted : c .named ≤ accepted
 
 pub campaign-held : (p : Phase) (pl : Plan) (a : ℕ) (c : Campaign) → sound-campaign p pl a c ≡ true → Held pl a c
-unfolding priced
 campaign-held p pl a c e =
     let t = tests-of p pl a c e in
-    let pf = both-left (price-fits (c .price)) (budget-fits (c .price) (c .budget)) (t .priced-is) in
-    let bf = both-right (price-fits (c .price)) (budget-fits (c .price) (c .budget)) (t .priced-is) in
     record {
       is-priced = t .priced-is;
-      price-least = leb-true 1 (c .price) (both-left (leb 1 (c .price)) (leb (c .price) 1_000_000) pf);
-      price-most = leb-true (c .price) 1_000_000 (both-right (leb 1 (c .price)) (leb (c .price) 1_000_000) pf);
-      budget-least = leb-true (c .price) (c .budget) (both-left (leb (c .price) (c .budget)) (leb (c .budget) 2_000_000_000) bf);
-      budget-most = leb-true (c .budget) 2_000_000_000 (both-right (leb (c .price) (c .budget)) (leb (c .budget) 2_000_000_000) bf);
+      price-least = price-least c (t .priced-is);
+      price-most = price-most c (t .priced-is);
       young = ltb-true (c .age) (pl .depth) (t .young-is);
       within-whole = leb-true (c .plays) (whole c) (t .whole-is);
       plays-turns = leb-true (c .plays) (c .turns) (t .turns-is);
@@ -87,7 +80,7 @@ module _ (p : Phase) (pl : Plan) (a n : ℕ) (pr bu l t g m : List ℕ) where
   abbrev f : ℕ → Campaign
   f = campaign-at pr bu l t g m
 
-  abbrev pub paid : ℕ → Bool
+  abbrev paid : ℕ → Bool
   paid i = leb (spending (f i)) (f i .budget)
 
   abbrev order : ℕ → Bool
@@ -157,22 +150,25 @@ module _ (p : Phase) (pl : Plan) (a n : ℕ) (pr bu l t g m : List ℕ) where
       (λ e. every-of n (λ i. sound-campaign p pl a (f i)) (λ i h. sound-of p pl a (f i) (tested (both-left columns (every n paid) e) i h (every-at n paid (both-right columns (every n paid) e) i h))))
       (λ e. columns-of (λ i h. tests-of p pl a (f i) (every-at n (λ j. sound-campaign p pl a (f j)) e i h)))
 
-  -- the columns bound what is added
-  pub columns-modest : columns ≡ true → Modest pl n pr g
-  columns-modest e = record { price-most = λ i h. price-most (f i) (priced-here e i h); age-most = λ i h. omega (arith, ltb-true (f i .age) (pl .depth) (young-here e i h)) }
+  -- the columns bound what is summed
+  pub columns-bounded : columns ≡ true → Entries-bounded pl n pr g
+  columns-bounded e = record { price-most = λ i h. price-most (f i) (priced-here e i h); age-most = λ i h. omega (arith, ltb-true (f i .age) (pl .depth) (young-here e i h)) }
+
+pub held : (p : Phase) (pl : Plan) (a n : ℕ) (f : ℕ → Campaign) → every n (λ i. sound-campaign p pl a (f i)) ≡ true → (i : ℕ) → i < n → Held pl a (f i)
+held p pl a n f e i l = campaign-held p pl a (f i) (every-at n (λ j. sound-campaign p pl a (f j)) e i l)
 
 -- why the sums over at most 64 sound campaigns fit
 module _ (p : Phase) (pl : Plan) (a n : ℕ) (f : ℕ → Campaign) (few : n ≤ 64) (sound : every n (λ i. sound-campaign p pl a (f i)) ≡ true) where
-  held : (i : ℕ) → i < n → Held pl a (f i)
-  held i l = campaign-held p pl a (f i) (every-at n (λ i. sound-campaign p pl a (f i)) sound i l)
+  each : (i : ℕ) → i < n → Held pl a (f i)
+  each = held p pl a n f sound
 
   most : (g : Campaign → ℕ) (b : ℕ) → ((i : ℕ) → i < n → g (f i) ≤ b) → sum n (λ i. g (f i)) ≤ 64 * b
   most g b k = le-trans (sum-most n b (λ i. g (f i)) k) (mul-le-mul-right b few)
 
   pub turned-most : a ≤ 4_096 → sums-of pl n f .turned ≤ 262_144_000_000
   unfolding sums-of
-  turned-most h = most (λ c. c .price * c .turns) 4_096_000_000 (λ i l. mul-le-mul (held i l .price-most) (let k : f i .turns ≤ 4_096 = omega (arith, held i l .turns-named, held i l .named-accepted) in k))
+  turned-most h = most (λ c. c .price * c .turns) 4_096_000_000 (λ i l. mul-le-mul (each i l .price-most) (let k : f i .turns ≤ 4_096 = omega (arith, each i l .turns-named, each i l .named-accepted) in k))
 
   pub waited-most : sound-plan pl ≡ true → sums-of pl n f .waited ≤ 274_877_906_944_000_000
   unfolding sums-of
-  waited-most e = most (λ c. c .price * waiting pl c) 4_294_967_296_000_000 (λ i l. mul-le-mul (held i l .price-most) (let k : waiting pl (f i) ≤ 4_294_967_296 = omega (arith, weight-top pl e (f i .age) (omega (arith, held i l .young))) in k))
+  waited-most e = most (λ c. c .price * waiting pl c) 4_294_967_296_000_000 (λ i l. mul-le-mul (each i l .price-most) (let k : waiting pl (f i) ≤ 4_294_967_296 = omega (arith, weight-top pl e (f i .age) (omega (arith, each i l .young))) in k))

@@ -28,13 +28,17 @@ priced-columns n p b = every n (λ i. price-fits (getD p i 0) && budget-fits (ge
 unfoldable pub ordered-columns : (depth accepted n : ℕ) → (plays turns ages named : List ℕ) → Bool
 ordered-columns k a n l t g m = every n (λ i. ltb (getD g i 0) k && leb (getD l i 0) (getD t i 0) && leb (getD t i 0) (getD m i 0) && leb (getD m i 0) a)
 
+-- and one that is made as the sums are formed: price × plays ≤ budget, at most the whole plays
+abbrev pub paid-columns : ℕ → (prices budgets plays : List ℕ) → Bool
+paid-columns n p b l = every n (λ i. leb (getD p i 0 * getD l i 0) (getD b i 0))
+
 -- the sums over the first n campaigns
 abbrev pub waiting : Plan → Campaign → ℕ
 waiting pl c = weight (pl .depth) (pl .width) (c .age) - weight (pl .depth) (pl .width) 0
 
 unfoldable pub sums-of : Plan → ℕ → (ℕ → Campaign) → Sums
 sums-of pl n f = record {
-  sound = true;
+  within = true;
   budgets = sum n (λ i. f i .budget);
   takings = sum n (λ i. spending (f i));
   turned = sum n (λ i. f i .price * f i .turns);
@@ -42,7 +46,7 @@ sums-of pl n f = record {
 }
 
 abbrev pub no-sums : Sums
-no-sums = record { sound = false; budgets = 0; takings = 0; turned = 0; waited = 0 }
+no-sums = record { within = false; budgets = 0; takings = 0; turned = 0; waited = 0 }
 
 -- the part of them that no weight enters, where each campaign has paid at most its budget
 abbrev pub no-spending : Spent
@@ -57,21 +61,21 @@ spendings n p b l t = record {
 }
 
 unfoldable pub spent-of : ℕ → (prices budgets plays turns : List ℕ) → Spent
-spent-of n p b l t = cond (every n (λ i. leb (getD p i 0 * getD l i 0) (getD b i 0))) (spendings n p b l t) no-spending
+spent-of n p b l t = cond (paid-columns n p b l) (spendings n p b l t) no-spending
 
 -- the part of the weights, and the bounds under which it fits
 unfoldable pub waited-of : Plan → ℕ → (prices ages : List ℕ) → ℕ
 waited-of pl n p a = sum n (λ i. getD p i 0 * (weight (pl .depth) (pl .width) (getD a i 0) - weight (pl .depth) (pl .width) 0))
 
-pub record Modest (pl : Plan) (n : ℕ) (prices ages : List ℕ) : Type 0 where
+pub record Entries-bounded (pl : Plan) (n : ℕ) (prices ages : List ℕ) : Type 0 where
   pub price-most : (i : ℕ) → i < n → getD prices i 0 ≤ 1_000_000
   pub age-most : (i : ℕ) → i < n → getD ages i 0 ≤ pl .depth
 
 -- all of them, where each campaign has paid at most its budget
-unfoldable pub added : Plan → ℕ → (prices budgets plays turns ages : List ℕ) → Sums
-added pl n p b l t a =
+unfoldable pub summed : Plan → ℕ → (prices budgets plays turns ages : List ℕ) → Sums
+summed pl n p b l t a =
     let s = spendings n p b l t in
-    cond (every n (λ i. leb (getD p i 0 * getD l i 0) (getD b i 0))) (record { sound = true; budgets = s .budgets; takings = s .takings; turned = s .turned; waited = waited-of pl n p a }) no-sums
+    cond (paid-columns n p b l) (record { within = true; budgets = s .budgets; takings = s .takings; turned = s .turned; waited = waited-of pl n p a }) no-sums
 
 -- of the first m entries, those from n on have no terms, no counts, or neither
 unfoldable pub no-terms-from : ℕ → (prices budgets : List ℕ) → ℕ → Bool

@@ -121,7 +121,7 @@ pub fn examine<'a>(
         return Audit::unsound();
     }
     let sums = sum_all(n, plan, weights, prices, budgets, plays, turns, ages);
-    if !(sums.sound
+    if !(sums.within
         & (sums.budgets <= Terms::MAX_BUDGET)
         & phase_holds(phase, accepted, sums.takings)) {
         return Audit::unsound();

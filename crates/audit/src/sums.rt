@@ -1,4 +1,4 @@
-// The sums that soundness compares, over campaigns whose tests pass.
+// The sums that soundness compares, over campaigns whose tests by columns pass.
 use campaigns::Plan;
 use campaigns::entry::wide16;
 use campaigns::entry::wide32;
@@ -6,11 +6,11 @@ use campaigns::weights::weigh;
 ghost use mathlib.Core.Path.{_≡_};
 ghost use Prim.Native.Nat.{_≤_};
 ghost use Rattle.campaigns.specs.Inner.{Weights};
-ghost use Rattle.audit.specs.Inner.{spent-of, waited-of, Modest, no-sums, added};
+ghost use Rattle.audit.specs.Inner.{spent-of, waited-of, Entries-bounded, no-sums, summed};
 
 // Whether each campaign has paid at most its budget and, if so, the sums that soundness compares.
 pub struct Sums {
-    pub sound: bool,
+    pub within: bool,
     pub budgets: u64,
     pub takings: u64,
     // of price × turns
@@ -24,7 +24,7 @@ impl Sums {
         ensures { λ r. ⌜ r ≡ no-sums ⌝ }
     {
         Sums {
-            sound: false,
+            within: false,
             budgets: 0,
             takings: 0,
             turned: 0,
@@ -90,7 +90,7 @@ fn wait_all<'a>(
 ) -> u64
     requires { ⌜ n ≤ 64 ⌝ }
     requires { ⌜ Weights plan (now weights) ⌝ }
-    requires { ⌜ Modest plan n (now prices) (now ages) ⌝ }
+    requires { ⌜ Entries-bounded plan n (now prices) (now ages) ⌝ }
     ensures { λ r. ⌜ r ≡ waited-of plan n (now (prices .entry)) (now (ages .entry)) ⌝ }
 {
     let low = weigh(0, plan, weights);
@@ -102,8 +102,8 @@ fn wait_all<'a>(
     sum
 }
 
-// The sums over the first n campaigns, or none where one has paid more than its budget. `examine` has tested the columns,
-// and has the plan's weights.
+// The sums over the first n campaigns, or none where one has paid more than its budget. `examine` has tested the columns
+// of at most 64 campaigns, and has the plan's weights.
 pub fn sum_all<'a>(
     n: usize,
     plan: Plan,
@@ -116,15 +116,15 @@ pub fn sum_all<'a>(
 ) -> Sums
     requires { ⌜ n ≤ 64 ⌝ }
     requires { ⌜ Weights plan (now weights) ⌝ }
-    requires { ⌜ Modest plan n (now prices) (now ages) ⌝ }
-    ensures { λ r. ⌜ r ≡ added plan n (now (prices .entry)) (now (budgets .entry)) (now (plays .entry)) (now (turns .entry)) (now (ages .entry)) ⌝ }
+    requires { ⌜ Entries-bounded plan n (now prices) (now ages) ⌝ }
+    ensures { λ r. ⌜ r ≡ summed plan n (now (prices .entry)) (now (budgets .entry)) (now (plays .entry)) (now (turns .entry)) (now (ages .entry)) ⌝ }
 {
     let spent = spend_all(n, prices, budgets, plays, turns);
     if !spent.within {
         return Sums::none();
     }
     Sums {
-        sound: true,
+        within: true,
         budgets: spent.budgets,
         takings: spent.takings,
         turned: spent.turned,

@@ -17,7 +17,7 @@ pub fn wide16(x: u16) -> u64
     x as u64
 }
 
-// Campaign i. The walks of `views`, `Day::tally` and `reply`'s tallies keep i below 64.
+// Campaign i. `views::walk` and `views::play`, `Day::tally` and `reply`'s tallies keep i below 64.
 pub fn entry<'a>(
     i: usize,
     prices: &'a [u32; 64],

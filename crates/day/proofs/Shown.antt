@@ -1,16 +1,17 @@
 -- A view's outcome by the leader that the walk found and the counts that it left.
 use mathlib.Core.Path.{_≡_, refl, ap, sym, subst, _∙_}
-use mathlib.Core.Bool.{Bool, true, false, cond}
+use mathlib.Core.Bool.{true, false}
 use mathlib.Core.List.{List}
 use Prim.Native.Nat.{ℕ, _+_, _≤_, _<_}
 use native.Mathlib.Omega.{arith}
-use lib.Dec.{ltb}
 use lib.ListN.{length}
-use borrow.Author.Tests.{ltb-true}
 use Rattle.finite.specs.Finite.{table}
-use Rattle.finite.proofs.Tests.{never, every-at}
+use Rattle.finite.proofs.Tests.{never}
 use Rattle.finite.proofs.Tables.{table-eq, length-table}
-use Rattle.sets.specs.Set.{member, within}
+use borrow.Author.Tests.{ltb-true}
+use Rattle.finite.proofs.Tables.{array-is}
+use Rattle.sets.specs.Set.{within}
+use Rattle.sets.proofs.Walk.{within-member}
 use Rattle.campaigns.specs.declared.Campaign.{Campaign}
 use Rattle.campaigns.specs.declared.Phase.{Phase}
 use Rattle.campaigns.specs.declared.Phase.the-variants.{Filling, Running, Closed}
@@ -33,24 +34,19 @@ use Rattle.day.specs.Calls.{questions, player, offers, shown, told, resu
 use Rattle.day.specs.Calls.Call.{show-view}
 use Rattle.day.specs.Parts.{state-of, counts, Shows}
 use Rattle.day.specs.Inner.{answer-of}
-use Rattle.day.proofs.State.{Sound, sound-facts, held-at, array-is}
+use Rattle.day.proofs.State.{Sound, sound-facts, held-at}
 use Rattle.day.proofs.Questions.{Yes, call-elim, call-yes}
-
--- a name of the view is a campaign of the plan
-named-below : (n set i : ℕ) → within n set ≡ true → i < 64 → member set i ≡ true → i < n
-unfolding within
-named-below n set i e h m = ltb-true i n (sym (ap (λ (b : Bool). cond b (ltb i n) true) m) ∙ every-at 64 (λ j. cond (member set j) (ltb j n) true) e i h)
 
 running-is : (p : Phase) → is-running p ≡ true → p ≡ Running
 running-is Filling e = absurd (never false refl e)
 running-is Running e = refl
 running-is (Closed t) e = absurd (never false refl e)
 
-abbrev pub leading : Day → View → Choice → Leader
+abbrev leading : Day → View → Choice → Leader
 leading s w ch = led (λ i. figure (s .plan) w i (campaign s i)) (offers s w) ch
 
 -- the leader is that of the choice among the campaigns of the plan
-pub leader-is : (s : Day) (w : View) (l : Leader) → s .count ≤ 64 → within (s .count) (w .set) ≡ true → l ≡ leader-of (s .plan) w (campaign s) 64 → l ≡ leading s w (player s w)
+leader-is : (s : Day) (w : View) (l : Leader) → s .count ≤ 64 → within (s .count) (w .set) ≡ true → l ≡ leader-of (s .plan) w (campaign s) 64 → l ≡ leading s w (player s w)
 unfolding leader-of
 leader-is s w l h e q = q ∙ ap (leading s w) (choice-within (s .plan) w (campaign s) (s .count) h e)
 
@@ -67,12 +63,12 @@ answered s w (plays m) = refl
 -- the named campaigns of a sound state are ready for the choice
 pub named-ready : (s : Day) (w : View) → Sound s → within (s .count) (w .set) ≡ true → Ready (s .plan) w (campaign s)
 named-ready s w h e = record {
-  named-priced = λ i l m. held-at s h i (named-below (s .count) (w .set) i e l m) .is-priced;
-  named-young = λ i l m. held-at s h i (named-below (s .count) (w .set) i e l m) .young;
+  named-priced = λ i l m. held-at s h i (within-member (s .count) (w .set) i e l m) .is-priced;
+  named-young = λ i l m. held-at s h i (within-member (s .count) (w .set) i e l m) .young;
   shallow = plan-sized (s .plan) (h .plan-sound) .shallow;
-  named-few = λ i l m. let k = held-at s h i (named-below (s .count) (w .set) i e l m) in omega (arith, k .named-accepted, h .views);
-  turns-few = λ i l m. let k = held-at s h i (named-below (s .count) (w .set) i e l m) in omega (arith, k .turns-named, k .named-accepted, h .views);
-  plays-few = λ i l m. let k = held-at s h i (named-below (s .count) (w .set) i e l m) in omega (arith, k .plays-turns, k .turns-named, k .named-accepted, h .views);
+  named-few = λ i l m. let k = held-at s h i (within-member (s .count) (w .set) i e l m) in omega (arith, k .named-accepted, h .views);
+  turns-few = λ i l m. let k = held-at s h i (within-member (s .count) (w .set) i e l m) in omega (arith, k .turns-named, k .named-accepted, h .views);
+  plays-few = λ i l m. let k = held-at s h i (within-member (s .count) (w .set) i e l m) in omega (arith, k .plays-turns, k .turns-named, k .named-accepted, h .views);
 }
 
 -- an accepted view counts
@@ -136,8 +132,8 @@ leaves s w p b =
       same-count = refl;
       views-are = omega (arith, n);
       room = λ h. omega (arith, n, ltb-true (s .accepted) 4_096 (y .1 .1 .0));
-      same-prices = sym (array-is (s .prices) (λ i. shown s w i .price) p (λ i _. sym (after-price (s .plan .depth) (role s w i) (campaign s i))));
-      same-budgets = sym (array-is (s .budgets) (λ i. shown s w i .budget) b (λ i _. sym (after-budget (s .plan .depth) (role s w i) (campaign s i))));
+      same-prices = sym (array-is 64 (s .prices) (λ i. shown s w i .price) p (λ i _. sym (after-price (s .plan .depth) (role s w i) (campaign s i))));
+      same-budgets = sym (array-is 64 (s .budgets) (λ i. shown s w i .budget) b (λ i _. sym (after-budget (s .plan .depth) (role s w i) (campaign s i))));
     })
   where
     role : (s : Day) (w : View) (i : ℕ) → Role

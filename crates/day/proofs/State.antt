@@ -1,17 +1,16 @@
 -- What soundness gives, and states by their campaigns.
 use mathlib.Core.Path.{_≡_, refl, ap, sym, _∙_}
 use mathlib.Core.Bool.{Bool, true, false, cond, _&&_}
-use mathlib.Core.List.{List}
 use Prim.Native.Nat.{ℕ, _+_, _≤_, _<_}
 use native.Mathlib.Nat.{le-refl}
 use native.Mathlib.Omega.{arith}
 use lib.Dec.{eqb}
-use lib.ListN.{getD, length, set, length-set}
+use lib.ListN.{length, set, length-set}
 use lib.Seq.{getD-set-same, getD-set-other}
 use borrow.Author.Tests.{leb-true, lt-ltb, le-ltb, eqb-true, eqb-false}
-use Rattle.finite.specs.Finite.{every, table}
+use Rattle.finite.specs.Finite.{every}
 use Rattle.finite.proofs.Tests.{never, both-left, both-right, all-parts, every-at}
-use Rattle.finite.proofs.Tables.{getD-table, list-table, table-eq}
+use Rattle.finite.proofs.Tables.{getD-table, array-is}
 use Rattle.campaigns.specs.declared.Campaign.{Campaign}
 use Rattle.campaigns.specs.declared.Phase.{Phase}
 use Rattle.campaigns.specs.declared.Phase.the-variants.{Filling, Running, Closed}
@@ -68,19 +67,16 @@ pub record Lengths (s : Day) : Type 0 where
   pub ages-length : length (s .ages) ≡ 64
   pub named-length : length (s .named) ≡ 64
 
-pub array-is : (l : List ℕ) (g : ℕ → ℕ) → length l ≡ 64 → ((i : ℕ) → i < 64 → getD l i 0 ≡ g i) → l ≡ table 64 g
-array-is l g e h = list-table 64 l e ∙ table-eq 64 (λ i. getD l i 0) g h
-
 -- a state is known by its campaigns
 pub holding-is : (s : Day) (f : ℕ → Campaign) → Lengths s → ((i : ℕ) → i < 64 → campaign s i ≡ f i) → s ≡ holding (s .phase) (s .plan) (s .count) (s .accepted) f
 holding-is s f n h =
     rw (
-      ← array-is (s .prices) (λ i. f i .price) (n .prices-length) (λ i l. ap (λ (c : Campaign). c .price) (h i l)),
-      ← array-is (s .budgets) (λ i. f i .budget) (n .budgets-length) (λ i l. ap (λ (c : Campaign). c .budget) (h i l)),
-      ← array-is (s .plays) (λ i. f i .plays) (n .plays-length) (λ i l. ap (λ (c : Campaign). c .plays) (h i l)),
-      ← array-is (s .turns) (λ i. f i .turns) (n .turns-length) (λ i l. ap (λ (c : Campaign). c .turns) (h i l)),
-      ← array-is (s .ages) (λ i. f i .age) (n .ages-length) (λ i l. ap (λ (c : Campaign). c .age) (h i l)),
-      ← array-is (s .named) (λ i. f i .named) (n .named-length) (λ i l. ap (λ (c : Campaign). c .named) (h i l)),
+      ← array-is 64 (s .prices) (λ i. f i .price) (n .prices-length) (λ i l. ap (λ (c : Campaign). c .price) (h i l)),
+      ← array-is 64 (s .budgets) (λ i. f i .budget) (n .budgets-length) (λ i l. ap (λ (c : Campaign). c .budget) (h i l)),
+      ← array-is 64 (s .plays) (λ i. f i .plays) (n .plays-length) (λ i l. ap (λ (c : Campaign). c .plays) (h i l)),
+      ← array-is 64 (s .turns) (λ i. f i .turns) (n .turns-length) (λ i l. ap (λ (c : Campaign). c .turns) (h i l)),
+      ← array-is 64 (s .ages) (λ i. f i .age) (n .ages-length) (λ i l. ap (λ (c : Campaign). c .age) (h i l)),
+      ← array-is 64 (s .named) (λ i. f i .named) (n .named-length) (λ i l. ap (λ (c : Campaign). c .named) (h i l)),
     )
 
 -- entry i of a state that holds f

@@ -1,4 +1,4 @@
--- The state: how its arrays hold the campaigns, and the states that the operations hand back. Only this file knows the layout.
+-- The state: how its arrays hold the campaigns, and the states that the operations hand back.
 use Prim.Native.Nat.{ℕ}
 use Rattle.finite.specs.Finite.{sum, table}
 use Rattle.campaigns.specs.declared.Campaign.{Campaign}

@@ -28,7 +28,7 @@ figures s = record { sound = true; budgets = budgeted s; takings = taken s; clai
 unfoldable pub audited : Day → Audit
 audited s = cond (sound s) (figures s) not-sound
 
--- one for an accepted view
+-- one for an answer that is no refusal: an accepted view
 abbrev pub counts : Answer → ℕ
 counts (Refused q) = 0
 counts Done = 1

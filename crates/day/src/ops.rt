@@ -7,7 +7,6 @@ use campaigns::Phase;
 use campaigns::Plan;
 use campaigns::Terms;
 ghost use mathlib.Core.Path.{_≡_};
-ghost use Prim.Native.Nat.{_+_};
 ghost use Rattle.day.specs.Day.{in-phase};
 ghost use Rattle.day.specs.Calls.{first-no, questions, result, call};
 ghost use Rattle.day.specs.Calls.Call.{open-plan, add-campaign, start-day, ask-tally, close-day};

@@ -54,7 +54,7 @@ fn told(leader: Leader) -> Answer
     Answer::Nobody
 }
 
-// One for an accepted view.
+// One for an answer that is no refusal: an accepted view.
 pub fn counts(answer: Answer) -> u64
     ensures { λ r. ⌜ r ≡ counts answer ⌝ }
 {
@@ -81,7 +81,7 @@ pub fn counts(answer: Answer) -> u64
 }
 
 // The view of a sound state, whose counts are changed where they stand: `show` has tested the state, and
-// `stretch::run_stretch` keeps the one that `pass` has tested.
+// `stretch::run_stretch` keeps the one that `pass` has tested. Both have the plan's weights and arrays of 64 entries.
 pub fn show_sound<'a>(
     phase: Phase,
     plan: Plan,
@@ -120,7 +120,8 @@ pub fn show_sound<'a>(
 }
 
 // A view of the state that is handed in by its parts: its counts are changed where they stand, and the caller adds
-// `counts(answer)` to the accepted views. `Day::view` meets what it asks: its arrays have the lengths of their types.
+// `counts(answer)` to the accepted views. `Day::view` and the harness meet what it asks: their arrays have the lengths of
+// their types.
 pub fn show<'a>(
     phase: Phase,
     plan: Plan,

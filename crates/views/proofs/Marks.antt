@@ -6,11 +6,10 @@ use mathlib.Core.List.{List}
 use Prim.Native.Nat.{ℕ, _+_, _≤_, _<_}
 use native.Mathlib.Omega.{arith}
 use lib.Dec.{ltb, eqb}
-use lib.ListN.{getD, length, set, length-set}
+use lib.ListN.{set, length-set}
 use lib.Seq.{getD-set-same, getD-set-other}
-use borrow.Author.Tests.{lt-ltb, le-ltb, ltb-true, ltb-false, eqb-true, eqb-false, ne-eqb}
-use Rattle.finite.specs.Finite.{table}
-use Rattle.finite.proofs.Tables.{list-table, table-eq}
+use borrow.Author.Tests.{lt-ltb, le-ltb, ltb-true, ltb-false, eqb-true, eqb-false}
+use Rattle.finite.proofs.Tables.{array-is}
 use Rattle.sets.proofs.Walk.{Next}
 use Rattle.campaigns.specs.declared.Campaign.{Campaign}
 use Rattle.campaigns.specs.declared.View.{View}
@@ -20,6 +19,7 @@ use Rattle.campaigns.specs.Choice.Role.{absent, spent, chosen, passed}
 use Rattle.campaigns.specs.Campaign.{can-pay, aged, after, campaign-at}
 use Rattle.campaigns.specs.View.{names}
 use Rattle.campaigns.specs.Inner.{played}
+use Rattle.campaigns.proofs.Laws.{played-passed}
 use Rattle.views.specs.Inner.{Counts, Stored, no-leader, remade, Remade}
 
 -- a view leaves price and budget
@@ -69,7 +69,7 @@ played-grown c = go (eqb (c .age) 0)
 
 -- arrays that hold the counts of g hold those of campaigns that are the same
 pub same-counts : {g h : ℕ → Campaign} {pr bu pl tu ag na : List ℕ} → ((j : ℕ) → j < 64 → g j ≡ h j) → Counts g pr bu pl tu ag na → Counts h pr bu pl tu ag na
-same-counts e m = record { full = m .full; at = λ j l. m .at j l ∙ e j l }
+same-counts e m = record { entries = m .entries; at = λ j l. m .at j l ∙ e j l }
 
 -- with a campaign of the same price and budget stored at i, that campaign alone is another
 module _ (g : ℕ → Campaign) (pr bu pl tu ag na : List ℕ) (i : ℕ) (v : Campaign) (h : i < 64) (m : Counts g pr bu pl tu ag na) (p : v .price ≡ g i .price) (b : v .budget ≡ g i .budget) where
@@ -79,10 +79,10 @@ module _ (g : ℕ → Campaign) (pr bu pl tu ag na : List ℕ) (i : ℕ) (v : Ca
   here : now-at i ≡ v
   here =
       rw (
-        getD-set-same pl i (v .plays) 0 (omega (arith, m .full .plays-length)),
-        getD-set-same tu i (v .turns) 0 (omega (arith, m .full .turns-length)),
-        getD-set-same ag i (v .age) 0 (omega (arith, m .full .ages-length)),
-        getD-set-same na i (v .named) 0 (omega (arith, m .full .named-length)),
+        getD-set-same pl i (v .plays) 0 (omega (arith, m .entries .plays-length)),
+        getD-set-same tu i (v .turns) 0 (omega (arith, m .entries .turns-length)),
+        getD-set-same ag i (v .age) 0 (omega (arith, m .entries .ages-length)),
+        getD-set-same na i (v .named) 0 (omega (arith, m .entries .named-length)),
         ap (λ (c : Campaign). c .price) (m .at i h) ∙ sym p,
         ap (λ (c : Campaign). c .budget) (m .at i h) ∙ sym b,
       )
@@ -100,21 +100,17 @@ module _ (g : ℕ → Campaign) (pr bu pl tu ag na : List ℕ) (i : ℕ) (v : Ca
 
   set-counts : Counts (λ j. cond (eqb j i) v (g j)) pr bu (set pl i (v .plays)) (set tu i (v .turns)) (set ag i (v .age)) (set na i (v .named))
   set-counts = record {
-    full = record {
-      plays-length = length-set pl i (v .plays) ∙ m .full .plays-length;
-      turns-length = length-set tu i (v .turns) ∙ m .full .turns-length;
-      ages-length = length-set ag i (v .age) ∙ m .full .ages-length;
-      named-length = length-set na i (v .named) ∙ m .full .named-length;
+    entries = record {
+      plays-length = length-set pl i (v .plays) ∙ m .entries .plays-length;
+      turns-length = length-set tu i (v .turns) ∙ m .entries .turns-length;
+      ages-length = length-set ag i (v .age) ∙ m .entries .ages-length;
+      named-length = length-set na i (v .named) ∙ m .entries .named-length;
     };
     at = each;
   }
 
   pub stored-counts : {pl′ tu′ ag′ na′ : List ℕ} → Stored i v pl tu ag na pl′ tu′ ag′ na′ → Counts (λ j. cond (eqb j i) v (g j)) pr bu pl′ tu′ ag′ na′
   stored-counts s = rw (s .plays-stored, s .turns-stored, s .ages-stored, s .named-stored) set-counts
-
--- a list of 64 numbers is known by its entries
-array-is : (x : List ℕ) (g : ℕ → ℕ) → length x ≡ 64 → ((i : ℕ) → i < 64 → getD x i 0 ≡ g i) → x ≡ table 64 g
-array-is x g e h = list-table 64 x e ∙ table-eq 64 (λ i. getD x i 0) g h
 
 module _ (k : ℕ) (w : View) (f : ℕ → Campaign) where
   -- the campaigns below i marked as passed over
@@ -153,19 +149,12 @@ module _ (k : ℕ) (w : View) (f : ℕ → Campaign) where
   pub cut-end : (j : ℕ) → j < 64 → cut 64 j ≡ remade k w no-leader f j
   cut-end j l = ap (λ (b : Bool). cond b (remade k w no-leader f j) (f j)) (lt-ltb j 64 l)
 
-  -- the play of a campaign that is marked as passed over is what rule 2 asks
-  played-passed : (c : Campaign) → played (after k passed c) ≡ after k chosen c
-  played-passed c = go (eqb (c .age + 1) k)
-    where
-      go : (b : Bool) → played (aged b c) ≡ after k chosen c
-      go true = refl
-      go false = rw (ne-eqb (c .age + 1) 0 (λ e. omega arith))
-
+  -- with the play of its leader, they are what the view makes of them
   pub played-marks : (l : Leader) (v : Campaign) → v ≡ played (remade k w no-leader f (l .campaign)) → l .found ≡ true → names w (l .campaign) ≡ true → can-pay (f (l .campaign)) ≡ true → (j : ℕ) → cond (eqb j (l .campaign)) v (remade k w no-leader f j) ≡ remade k w l f j
   played-marks l v q t n e j = go (eqb j (l .campaign)) refl
     where
       go : (b : Bool) → eqb j (l .campaign) ≡ b → cond b v (remade k w no-leader f j) ≡ after k (role-of (names w j) (can-pay (f j)) (l .found && b)) (f j)
-      go true x = q ∙ rw (eqb-true j (l .campaign) x, n, e, t) (played-passed (f (l .campaign)))
+      go true x = q ∙ rw (eqb-true j (l .campaign) x, n, e, t) (played-passed k (f (l .campaign)))
       go false x = rw t
 
   -- where nobody plays every mark stands
@@ -175,8 +164,8 @@ module _ (k : ℕ) (w : View) (f : ℕ → Campaign) where
 -- the arrays at the end
 pub end-counts : (k : ℕ) (w : View) (l : Leader) (f : ℕ → Campaign) (pr bu pl tu ag na : List ℕ) → Counts (remade k w l f) pr bu pl tu ag na → Remade k w l f pl tu ag na
 end-counts k w l f pr bu pl tu ag na m = record {
-  plays-are = array-is pl (λ i. remade k w l f i .plays) (m .full .plays-length) (λ i h. ap (λ (c : Campaign). c .plays) (m .at i h));
-  turns-are = array-is tu (λ i. remade k w l f i .turns) (m .full .turns-length) (λ i h. ap (λ (c : Campaign). c .turns) (m .at i h));
-  ages-are = array-is ag (λ i. remade k w l f i .age) (m .full .ages-length) (λ i h. ap (λ (c : Campaign). c .age) (m .at i h));
-  named-are = array-is na (λ i. remade k w l f i .named) (m .full .named-length) (λ i h. ap (λ (c : Campaign). c .named) (m .at i h));
+  plays-are = array-is 64 pl (λ i. remade k w l f i .plays) (m .entries .plays-length) (λ i h. ap (λ (c : Campaign). c .plays) (m .at i h));
+  turns-are = array-is 64 tu (λ i. remade k w l f i .turns) (m .entries .turns-length) (λ i h. ap (λ (c : Campaign). c .turns) (m .at i h));
+  ages-are = array-is 64 ag (λ i. remade k w l f i .age) (m .entries .ages-length) (λ i h. ap (λ (c : Campaign). c .age) (m .at i h));
+  named-are = array-is 64 na (λ i. remade k w l f i .named) (m .entries .named-length) (λ i h. ap (λ (c : Campaign). c .named) (m .at i h));
 }

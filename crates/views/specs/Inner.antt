@@ -1,4 +1,4 @@
--- Names for the contracts of the walks: the leader of the choice, and the campaigns after a view.
+-- Names for the contracts of the walk: the leader of the choice, and the campaigns after a view.
 use mathlib.Core.Path.{_≡_}
 use mathlib.Core.Bool.{true, false, cond, not, _&&_, _||_}
 use mathlib.Core.List.{List}
@@ -24,7 +24,7 @@ pub record Entries (plays turns ages named : List ℕ) : Type 0 where
 
 -- arrays that hold the counts of campaigns g, beside their prices and budgets
 pub record Counts (g : ℕ → Campaign) (prices budgets plays turns ages named : List ℕ) : Type 0 where
-  pub full : Entries plays turns ages named
+  pub entries : Entries plays turns ages named
   pub at : (i : ℕ) → i < 64 → campaign-at prices budgets plays turns ages named i ≡ g i
 
 -- the arrays before and after campaign c's counts are stored at i

@@ -1,4 +1,4 @@
-// The walk over the campaigns that a view names: the choice, and the marks.
+// The walk over the campaigns that a view names: the choice, and the marks, which are what the view makes of their counts.
 use campaigns::Campaign;
 use campaigns::Plan;
 use campaigns::View;
@@ -12,7 +12,7 @@ ghost use Rattle.campaigns.specs.Inner.{Narrow, Weights};
 ghost use Rattle.views.specs.Inner.{no-leader, challenged, leader-of, Entries, Counts, Stored, Ready, remade, Remade};
 
 // The campaign that leads a choice, what it would pay, and its score. A score of 0 can lead, so that nobody is told
-// apart by a mark.
+// apart by `found`.
 pub struct Leader {
     pub found: bool,
     pub campaign: u64,
@@ -20,8 +20,8 @@ pub struct Leader {
     pub score: u64,
 }
 
-// The leader after campaign `at` was tried: only a greater score displaces it. `walk` reads the campaign out of a sound
-// state.
+// The leader after campaign `at` was tried: only a greater score displaces it. `walk` reads the campaign out of the arrays
+// and knows it to be priced and not past the depth.
 fn challenge(leader: Leader, at: u64, c: Campaign, plan: Plan, weights: &[u64; 33]) -> Leader
     requires { ⌜ Weights plan (now weights) ⌝ }
     requires { ⌜ Narrow c ⌝ }

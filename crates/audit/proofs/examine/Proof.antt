@@ -1,9 +1,9 @@
-use Rattle.audit.proofs.Totals.{columns, columns-modest}
-use Rattle.audit.proofs.Settling.{sums-hold, staged, added-is, sums-bounded, examined-is, examined-not}
+use Rattle.audit.proofs.Totals.{columns, columns-bounded}
+use Rattle.audit.proofs.Settling.{sums-hold, staged, summed-is, sums-bounded, examined-is, examined-not}
 use Rattle.campaigns.proofs.Laws.{plan-sized}
 use Rattle.finite.proofs.Tests.{both-left}
 use Rattle.audit.specs.declared.sums.Sums.{Sums}
-use Rattle.audit.specs.Inner.{sums-of, columns-hold, added, empty-from, Bounded, settled, tested}
+use Rattle.audit.specs.Inner.{sums-of, columns-hold, summed, empty-from, Bounded, settled, tested}
 use Rattle.campaigns.specs.declared.Campaign.{Campaign}
 use Rattle.campaigns.specs.Campaign.{campaign-at}
 use lib.Dec.{leb}
@@ -21,21 +21,21 @@ campaign s = campaign-at (s .args .prices .now) (s .args .budgets .now) (s .args
 abbrev passed : tie.Start → Bool
 passed s = tested (s .args .phase) (s .args .plan) (s .args .accepted) (s .args .count) (campaign s)
 
-abbrev added-up : tie.Start → Sums
-added-up s = added (s .args .plan) (s .args .count) (s .args .prices .now) (s .args .budgets .now) (s .args .plays .now) (s .args .turns .now) (s .args .ages .now)
+abbrev summed-up : tie.Start → Sums
+summed-up s = summed (s .args .plan) (s .args .count) (s .args .prices .now) (s .args .budgets .now) (s .args .plays .now) (s .args .turns .now) (s .args .ages .now)
 
 -- the tests by columns
 columns-pass : (c : tie.Else1) → columns-hold (c .before .before .args .phase) (c .before .before .args .plan) (c .before .before .args .accepted) (c .before .before .args .count) (c .before .before .args .prices .now) (c .before .before .args .budgets .now) (c .before .before .args .plays .now) (c .before .before .args .turns .now) (c .before .before .args .ages .now) (c .before .before .args .named .now) ≡ true
 columns-pass c = sym (c .before .columns-hold .ensures) ∙ not-false (c .before .columns-hold .result) (c .if1 .left)
 
--- and those on what was added
-sums-are : (c : tie.After-phase-holds) → c .before .before .before .sum-all .result ≡ added-up (c .before .before .before .before .before .before)
+-- and those on what was summed
+sums-are : (c : tie.After-phase-holds) → c .before .before .before .sum-all .result ≡ summed-up (c .before .before .before .before .before .before)
 sums-are c = c .before .before .before .sum-all .ensures
 
 abbrev test : tie.After-phase-holds → Bool
-test c = c .before .before .before .sum-all .result .sound && leb (c .before .before .before .sum-all .result .budgets) 2_000_000_000 && c .phase-holds .result
+test c = c .before .before .before .sum-all .result .within && leb (c .before .before .before .sum-all .result .budgets) 2_000_000_000 && c .phase-holds .result
 
-test-is : (c : tie.After-phase-holds) → test c ≡ sums-hold (c .before .before .before .before .before .before .args .phase) (c .before .before .before .before .before .before .args .plan) (c .before .before .before .before .before .before .args .accepted) (c .before .before .before .before .before .before .args .count) (c .before .before .before .before .before .before .args .prices .now) (c .before .before .before .before .before .before .args .budgets .now) (c .before .before .before .before .before .before .args .plays .now) (c .before .before .before .before .before .before .args .turns .now) (c .before .before .before .before .before .before .args .ages .now) (c .before .before .before .before .before .before .args .named .now) (added-up (c .before .before .before .before .before .before))
+test-is : (c : tie.After-phase-holds) → test c ≡ sums-hold (c .before .before .before .before .before .before .args .phase) (c .before .before .before .before .before .before .args .accepted) (summed-up (c .before .before .before .before .before .before))
 test-is c = rw (c .phase-holds .ensures, sums-are c)
 
 passed-is : (c : tie.After-phase-holds) → passed (c .before .before .before .before .before .before) ≡ test c
@@ -44,8 +44,8 @@ passed-is c = staged (c .before .before .before .before .before .before .args .p
 passes : (c : tie.Else2) → test (c .before) ≡ true
 passes c = not-false (test (c .before)) (c .if2 .left)
 
-summed : (c : tie.Else2) → c .before .before .before .before .sum-all .result ≡ sums-of (c .before .before .before .before .before .before .before .args .plan) (c .before .before .before .before .before .before .before .args .count) (campaign (c .before .before .before .before .before .before .before))
-summed c = sums-are (c .before) ∙ added-is (c .before .before .before .before .before .before .before .args .phase) (c .before .before .before .before .before .before .before .args .plan) (c .before .before .before .before .before .before .before .args .accepted) (c .before .before .before .before .before .before .before .args .count) (c .before .before .before .before .before .before .before .args .prices .now) (c .before .before .before .before .before .before .before .args .budgets .now) (c .before .before .before .before .before .before .before .args .plays .now) (c .before .before .before .before .before .before .before .args .turns .now) (c .before .before .before .before .before .before .before .args .ages .now) (c .before .before .before .before .before .before .before .args .named .now) (sym (test-is (c .before)) ∙ passes c)
+sums-total : (c : tie.Else2) → c .before .before .before .before .sum-all .result ≡ sums-of (c .before .before .before .before .before .before .before .args .plan) (c .before .before .before .before .before .before .before .args .count) (campaign (c .before .before .before .before .before .before .before))
+sums-total c = sums-are (c .before) ∙ summed-is (c .before .before .before .before .before .before .before .args .phase) (c .before .before .before .before .before .before .before .args .plan) (c .before .before .before .before .before .before .before .args .accepted) (c .before .before .before .before .before .before .before .args .count) (c .before .before .before .before .before .before .before .args .prices .now) (c .before .before .before .before .before .before .before .args .budgets .now) (c .before .before .before .before .before .before .before .args .plays .now) (c .before .before .before .before .before .before .before .args .turns .now) (c .before .before .before .before .before .before .before .args .ages .now) (c .before .before .before .before .before .before .before .args .named .now) (sym (test-is (c .before)) ∙ passes c)
 
 columns-hold-requires : tie.Need-columns-hold-requires
 columns-hold-requires c κs = (c .pre .1, plan-sized (c .args .plan) (c .pre .0 .plan-sound) .shallow, c .pre .2)
@@ -57,12 +57,12 @@ returns : tie.Need-returns
 returns c =
     let s = c .before .before .before in
     let e = sym (c .before .before .columns-hold .ensures) ∙ not-true (c .before .before .columns-hold .result) (c .before .if1 .taken) in
-    c .unsound .ensures ∙ sym (examined-not (s .args .phase) (s .args .plan) (s .args .accepted) (s .args .count) (campaign s) (staged (s .args .phase) (s .args .plan) (s .args .accepted) (s .args .count) (s .args .prices .now) (s .args .budgets .now) (s .args .plays .now) (s .args .turns .now) (s .args .ages .now) (s .args .named .now) ∙ ap (λ (b : Bool). b && sums-hold (s .args .phase) (s .args .plan) (s .args .accepted) (s .args .count) (s .args .prices .now) (s .args .budgets .now) (s .args .plays .now) (s .args .turns .now) (s .args .ages .now) (s .args .named .now) (added-up s)) e))
+    c .unsound .ensures ∙ sym (examined-not (s .args .phase) (s .args .plan) (s .args .accepted) (s .args .count) (campaign s) (staged (s .args .phase) (s .args .plan) (s .args .accepted) (s .args .count) (s .args .prices .now) (s .args .budgets .now) (s .args .plays .now) (s .args .turns .now) (s .args .ages .now) (s .args .named .now) ∙ ap (λ (b : Bool). b && sums-hold (s .args .phase) (s .args .accepted) (summed-up s)) e))
 
 sum-all-requires : tie.Need-sum-all-requires
 sum-all-requires c κs =
     let s = c .before .before in
-    (s .pre .1, (s .pre .0, columns-modest (s .args .phase) (s .args .plan) (s .args .accepted) (s .args .count) (s .args .prices .now) (s .args .budgets .now) (s .args .plays .now) (s .args .turns .now) (s .args .ages .now) (s .args .named .now) (both-left (columns (s .args .phase) (s .args .plan) (s .args .accepted) (s .args .count) (s .args .prices .now) (s .args .budgets .now) (s .args .plays .now) (s .args .turns .now) (s .args .ages .now) (s .args .named .now)) (empty-from (s .args .count) (campaign s)) (columns-pass c))))
+    (s .pre .1, (s .pre .0, columns-bounded (s .args .phase) (s .args .plan) (s .args .accepted) (s .args .count) (s .args .prices .now) (s .args .budgets .now) (s .args .plays .now) (s .args .turns .now) (s .args .ages .now) (s .args .named .now) (both-left (columns (s .args .phase) (s .args .plan) (s .args .accepted) (s .args .count) (s .args .prices .now) (s .args .budgets .now) (s .args .plays .now) (s .args .turns .now) (s .args .ages .now) (s .args .named .now)) (empty-from (s .args .count) (campaign s)) (columns-pass c))))
 
 phase-holds-requires : tie.Need-phase-holds-requires
 phase-holds-requires c κs = search needs
@@ -78,12 +78,12 @@ returns-2 c =
 settle-requires : tie.Need-settle-requires
 settle-requires c κs =
     let s = c .before .before .before .before .before .before .before in
-    (s .pre .0, subst Bounded (sym (summed c)) (sums-bounded (s .args .phase) (s .args .plan) (s .args .accepted) (s .args .count) (campaign s) (passed-is (c .before) ∙ passes c) (s .pre .1) (s .pre .2) (s .pre .0 .plan-sound)))
+    (s .pre .0, subst Bounded (sym (sums-total c)) (sums-bounded (s .args .phase) (s .args .plan) (s .args .accepted) (s .args .count) (campaign s) (passed-is (c .before) ∙ passes c) (s .pre .1) (s .pre .2) (s .pre .0 .plan-sound)))
 
 returns-3 : tie.Need-returns-3
 returns-3 c =
     let s = c .before .before .before .before .before .before .before .before in
-    c .settle .ensures ∙ ap (settled (s .args .plan)) (summed (c .before)) ∙ sym (examined-is (s .args .phase) (s .args .plan) (s .args .accepted) (s .args .count) (campaign s) (passed-is (c .before .before) ∙ passes (c .before)))
+    c .settle .ensures ∙ ap (settled (s .args .plan)) (sums-total (c .before)) ∙ sym (examined-is (s .args .phase) (s .args .plan) (s .args .accepted) (s .args .count) (campaign s) (passed-is (c .before .before) ∙ passes (c .before)))
 
 pub examine-spec : {M : Type 1} → statement M
 examine-spec =

@@ -7,7 +7,7 @@ use Rattle.campaigns.specs.Inner.{Narrow}
 use Rattle.campaigns.specs.Choice.{best, choice, role-of}
 use Rattle.campaigns.specs.declared.Campaign.{Campaign}
 use Rattle.views.specs.declared.Leader.{Leader}
-use Rattle.sets.proofs.Walk.{Next, next-none, next-at, zeros-next, left-past}
+use Rattle.sets.proofs.Walk.{Next, none-next, zeros-next, left-past}
 use Rattle.sets.specs.Set.{member}
 use lib.Count.{trailingZeros}
 use borrow.Author.Tests.{le-ltb}
@@ -38,7 +38,7 @@ abbrev came : tie.Start Inv-loop μ-loop → ℕ → Campaign
 came s = campaign-at (s .args .prices .now) (s .args .budgets .now) (s .args .plays .now) (s .args .turns .now) (s .args .ages .now) (s .args .named .now)
 
 started : (s : tie.Start Inv-loop μ-loop) → Counts (cut (s .args .plan .depth) (s .args .view) (came s) 0) (s .args .prices .now) (s .args .budgets .now) (s .args .plays .now) (s .args .turns .now) (s .args .ages .now) (s .args .named .now)
-started s = record { full = s .pre .1 .0; at = λ j h. sym (rw (le-ltb j 0 (omega arith))) }
+started s = record { entries = s .pre .1 .0; at = λ j h. sym (rw (le-ltb j 0 (omega arith))) }
 
 -- the named campaign at hand
 abbrev place : tie.In-loop Inv-loop μ-loop → ℕ
@@ -53,9 +53,9 @@ named-here c = found c .0 .here (found c .1)
 held : (c : tie.In-loop Inv-loop μ-loop) → Counts (cut (c .before .before .args .plan .depth) (c .before .before .args .view) (came (c .before .before)) (place c)) (c .before .before .args .prices .now) (c .before .before .args .budgets .now) (c .before .loop .plays) (c .before .loop .turns) (c .before .loop .ages) (c .before .loop .named)
 held c = same-counts (λ j _. cut-gap (c .before .before .args .plan .depth) (c .before .before .args .view) (came (c .before .before)) (c .before .loop .from) (place c) j (found c .0)) (c .before .loop .inv .3)
 
--- is as it came
-fresh : (c : tie.After-entry Inv-loop μ-loop) → c .entry .result ≡ came (c .before .before .before .before .before .before .before) (place (c .before .before .before .before .before))
-fresh c =
+-- is as it came,
+as-came : (c : tie.After-entry Inv-loop μ-loop) → c .entry .result ≡ came (c .before .before .before .before .before .before .before) (place (c .before .before .before .before .before))
+as-came c =
     let d = c .before .before .before .before .before in
     c .entry .ensures .0 ∙ held d .at (place d) (found d .1) ∙ cut-here (d .before .before .args .plan .depth) (d .before .before .args .view) (came (d .before .before)) (place d)
 
@@ -66,7 +66,7 @@ made c =
     let s = d .before .before in
     let k = s .args .plan .depth in
     c .passed-over .ensures
-    ∙ ap (λ (x : Campaign). after k (role-of true (can-pay x) false) x) (fresh (c .before .before))
+    ∙ ap (λ (x : Campaign). after k (role-of true (can-pay x) false) x) (as-came (c .before .before))
     ∙ sym (ap (λ (t : Bool). after k (role-of t (can-pay (came s (place d))) false) (came s (place d))) (named-here d))
 
 -- so that its counts fit the arrays
@@ -77,7 +77,7 @@ narrow c =
     let k = s .args .plan .depth in
     let f = came s (place d) in
     let r = role-of (member (s .args .view .set) (place d)) (can-pay f) false in
-    let n = subst Narrow (fresh (c .before .before)) (c .before .before .entry .ensures .1) in
+    let n = subst Narrow (as-came (c .before .before)) (c .before .before .entry .ensures .1) in
     let g = after-grown k r f in
     let z = s .pre .1 .1 in
     subst Narrow (sym (made c))
@@ -107,14 +107,14 @@ challenge-requires : tie.Need-challenge-requires Inv-loop μ-loop
 challenge-requires c κs =
     let d = c .before .before .before .before .before in
     let z = d .before .before .pre in
-    let e = fresh c in
+    let e = as-came c in
     (z .0, (c .entry .ensures .1, (ap priced e ∙ z .1 .1 .named-priced (place d) (found d .1) (named-here d), omega (arith, ap (λ (x : Campaign). x .age) e, z .1 .1 .named-young (place d) (found d .1) (named-here d)))))
 
 passed-over-requires : tie.Need-passed-over-requires Inv-loop μ-loop
 passed-over-requires c κs =
     let d = c .before .before .before .before .before .before in
     let p = price-least (came (d .before .before) (place d)) (d .before .before .pre .1 .1 .named-priced (place d) (found d .1) (named-here d)) in
-    (c .before .entry .ensures .1, omega (arith, ap (λ (x : Campaign). x .price) (fresh (c .before)), p))
+    (c .before .entry .ensures .1, omega (arith, ap (λ (x : Campaign). x .price) (as-came (c .before)), p))
 
 store-requires : tie.Need-store-requires Inv-loop μ-loop
 store-requires c κs = (found (c .before .before .before .before .before .before .before .before .before .before .before) .1, narrow (c .before .before .before .before))
@@ -144,7 +144,7 @@ loop-again c =
       ap (λ (x : ℕ). x / 2 ^ trailingZeros 64 (l .rest) / 2 ^ 1) (l .inv .1) ∙ left-past (s .args .view .set) (l .from) (trailingZeros 64 (l .rest)),
       c .before .before .before .before .before .before .challenge .ensures
           ∙ ap (λ (x : Leader). challenged (s .args .plan) x i (c .before .before .before .before .before .before .before .entry .result)) (l .inv .2 ∙ sym (leader-gap (s .args .plan) (s .args .view) f (l .from) i (found d .0)))
-          ∙ ap (challenged (s .args .plan) (leader-of (s .args .plan) (s .args .view) f i) i) (fresh (c .before .before .before .before .before .before .before))
+          ∙ ap (challenged (s .args .plan) (leader-of (s .args .plan) (s .args .view) f i) i) (as-came (c .before .before .before .before .before .before .before))
           ∙ sym (leader-named (s .args .plan) (s .args .view) f i (named-here d)),
       same-counts (λ j _. cut-step k (s .args .view) f i j v y)
           (stored-counts (cut k (s .args .view) f i) (s .args .prices .now) (s .args .budgets .now) (l .plays) (l .turns) (l .ages) (l .named) i v (found d .1) (held d)
@@ -157,7 +157,7 @@ returns : tie.Need-returns Inv-loop μ-loop
 returns c =
     let s = c .before .before in
     let l = c .before .loop in
-    let n = next-at (s .args .view .set) (l .from) 64 (l .inv .0) (next-none (s .args .view .set) (l .from) (l .inv .0) (sym (l .inv .1) ∙ c .loop-test .left)) in
+    let n = none-next (s .args .view .set) (l .from) (l .inv .0) (sym (l .inv .1) ∙ c .loop-test .left) in
     (l .inv .2 ∙ sym (leader-gap (s .args .plan) (s .args .view) (came s) (l .from) 64 n), same-counts (λ j h. cut-gap (s .args .plan .depth) (s .args .view) (came s) (l .from) 64 j n ∙ cut-end (s .args .plan .depth) (s .args .view) (came s) j h) (l .inv .3))
 
 pub walk-spec : {M : Type 1} → statement M

@@ -2,7 +2,7 @@ use Rattle.finite.proofs.Tests.{every-next, every-not, both-join}
 use Rattle.finite.proofs.Sums.{sum-next}
 use borrow.Author.Tests.{le-leb, lt-leb}
 use native.Mathlib.Nat.{mul-le-mul}
-use Rattle.audit.specs.Inner.{spent-of}
+use Rattle.audit.specs.Inner.{paid-columns, spent-of}
 use Rattle.finite.specs.Finite.{sum, every}
 use lib.ListN.{getD}
 use lib.Dec.{leb}
@@ -15,7 +15,7 @@ use Rattle.audit.proofs.sums.spend_all.Statement.{statement}
 use Rattle.audit.proofs.sums.spend_all.Tie as tie
 
 abbrev Inv-loop : tie.InvT-loop
-Inv-loop n prices budgets plays turns all₀ takings₀ turned₀ i₀ all takings turned i = (i ≤ n) × (every i (λ j. leb (getD prices j 0 * getD plays j 0) (getD budgets j 0)) ≡ true) × (all ≡ sum i (λ j. getD budgets j 0)) × (takings ≡ sum i (λ j. getD prices j 0 * getD plays j 0)) × (turned ≡ sum i (λ j. getD prices j 0 * getD turns j 0)) × (all ≤ i * 4_294_967_296) × (takings ≤ i * 281_474_976_710_656) × (turned ≤ i * 281_474_976_710_656)
+Inv-loop n prices budgets plays turns all₀ takings₀ turned₀ i₀ all takings turned i = (i ≤ n) × (paid-columns i prices budgets plays ≡ true) × (all ≡ sum i (λ j. getD budgets j 0)) × (takings ≡ sum i (λ j. getD prices j 0 * getD plays j 0)) × (turned ≡ sum i (λ j. getD prices j 0 * getD turns j 0)) × (all ≤ i * 4_294_967_296) × (takings ≤ i * 281_474_976_710_656) × (turned ≤ i * 281_474_976_710_656)
 
 abbrev μ-loop : tie.MeasureT-loop
 μ-loop n prices budgets plays turns all₀ takings₀ turned₀ i₀ all takings turned i = n - i
