@@ -165,7 +165,7 @@ fn damaged(r: &mut Random) -> Vec<u8> {
 }
 
 /// A line of at most 200 bytes that is no input form. `damaged` may by rare chance give an input form again, as where a
-/// view loses a space; the lines after it are then aimed a little beside the mark.
+/// view loses a space.
 pub fn no_form(r: &mut Random) -> Vec<u8> {
     let number =
         r.of(&["4294967296", "9999999999", "18446744073709551616", "00", "01", "", "-1", "+1", "1.0", " 1", "1 ", "x"]);
@@ -200,6 +200,8 @@ pub fn no_form(r: &mut Random) -> Vec<u8> {
                 "(plan (width 2) (depth 2))",
                 "(campaign (price 5))",
                 "(tally 0)",
+                "(pause 0)",
+                "(resume 1)",
                 "(close )",
             ])
             .into(),

@@ -1,5 +1,6 @@
-//! Two programs run on one input.
+//! Two programs run on one input, and the model beside them.
 
+use crate::model;
 use std::io::{Read, Write};
 use std::process::{Command, Stdio};
 use std::sync::mpsc::channel;
@@ -57,8 +58,9 @@ impl Pair<'_> {
         [self.first, self.second].map(|program| run(program, input))
     }
 
+    /// Whether the programs differ from each other or from the model.
     pub fn differ(&self, input: &[u8]) -> bool {
         let [first, second] = self.run(input);
-        first != second
+        first != second || first.output != model::output(input)
     }
 }
