@@ -10,8 +10,16 @@ use std::process::Command;
 /// By the change's key: the verdict, and the line of the log that tells.
 pub type Results = BTreeMap<String, (String, String)>;
 
-const WORDS: [&str; 7] =
-    ["refused", "refused by its shape", "SURVIVED", "the same code", "not compiled", "no answer in time", "unclear"];
+const WORDS: [&str; 8] = [
+    "refused",
+    "refused by its shape",
+    "noticed by a test",
+    "SURVIVED",
+    "the same code",
+    "not compiled",
+    "no answer in time",
+    "unclear",
+];
 
 /// Survivors that mean the same: the item, the change, and why.
 const SAME: [(&str, &str, &str); 1] = [("at_most_201", "if n > 201 { → if n >= 201 {", "at 201 both give 201")];
@@ -63,7 +71,9 @@ pub fn text(all: &[Mutant], results: &Results, each: usize) -> String {
         is and writes this page; `--list` only lists, `--compile` only compiles, `--sample N` takes some N of a crate, \
         `--each N` takes more of each function, `--limit SECONDS` is the time for one (300). The results stand in \
         `target/mutants`, or in the folder that MUTANTS names; `rt ci` removes the former.\n\n\
-        *Refused*: a fact fails. *Refused by its shape*: the errors say only that the proof no longer fits the steps. \
+        The first error of the log tells, as document 90 asks; the logs stand beside the results. *Refused*: it says \
+        that a fact fails. *Refused by its shape*: it says only that the proof no longer fits the steps. *Noticed by \
+        a test*: of `pumpday`, whose input and output are not proved, `tests/gate/pipe` or `tests/gate/days` fails. \
         *SURVIVED*: `rt check` proves the crate with the change; each is to be explained or its contract made \
         stronger. *The same code* (a constant that only crates above \
         use, a pattern that an earlier arm has) and *not compiled* count for nothing.\n\n",
