@@ -155,12 +155,15 @@ fn error(line: &str) -> Option<&'static str> {
     }
 }
 
-/// Told by the first error of the log: the later ones may only follow from it.
+/// Told by the first error of the log: the later ones may only follow from it. rt runs a program that it has proved on
+/// its stored input: what fails then is that run, or it does not end.
 fn verdict(run: &Run) -> (&'static str, String) {
     let told = run.log.lines().find_map(|line| error(line).map(|word| (word, short(Some(line)))));
+    let proved = run.log.lines().rfind(|line| line.starts_with(&format!("rt: {PROGRAM} proved")));
     match run.status {
-        None => ("no answer in time", String::new()),
         Some(0) => ("SURVIVED", String::new()),
+        _ if proved.is_some() => ("noticed by a test", short(proved)),
+        None => ("no answer in time", String::new()),
         Some(_) => told.unwrap_or_else(|| ("unclear", short(first(&run.log, |l| l.contains("error"))))),
     }
 }
@@ -185,6 +188,17 @@ mod tests {
         assert_eq!(word(&[FACT_ERROR, SHAPE_ERROR, UNPROVED], Some(1)), "refused");
         assert_eq!(word(&[LEFT_OVER, SHAPE_ERROR, UNPROVED], Some(1)), "refused");
         assert_eq!(word(&["a/src/lib.rt:19:16: error[unknown-name]: no `sat`\n", FACT_ERROR], Some(1)), "not compiled");
+    }
+
+    #[test]
+    fn a_program_that_is_proved_has_failed_its_run() {
+        let (other, proved) = ("rt: desk proved (unchanged since it was last proved)\n", "rt: pumpday proved (86 s)\n");
+        let failed = "rt: pumpday proved, and its run FAILED (0 s)\n";
+        assert_eq!(word(&[other, proved, failed], Some(1)), "noticed by a test");
+        assert_eq!(word(&[other, proved], None), "noticed by a test");
+        assert_eq!(word(&[other, proved], Some(0)), "SURVIVED");
+        assert_eq!(word(&[other, FACT_ERROR], Some(1)), "refused");
+        assert_eq!(word(&[other], None), "no answer in time");
     }
 
     #[test]

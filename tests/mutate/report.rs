@@ -73,7 +73,8 @@ pub fn text(all: &[Mutant], results: &Results, each: usize) -> String {
         `target/mutants`, or in the folder that MUTANTS names; `rt ci` removes the former.\n\n\
         The first error of the log tells, as document 90 asks; the logs stand beside the results. *Refused*: it says \
         that a fact fails. *Refused by its shape*: it says only that the proof no longer fits the steps. *Noticed by \
-        a test*: of `pumpday`, whose input and output are not proved, `tests/gate/pipe` or `tests/gate/days` fails. \
+        a test*: of `pumpday`, whose input and output are not proved, its stored day, `tests/gate/pipe` or \
+        `tests/gate/days` fails. \
         *SURVIVED*: `rt check` proves the crate with the change; each is to be explained or its contract made \
         stronger. *The same code* (a constant that only crates above \
         use, a pattern that an earlier arm has) and *not compiled* count for nothing.\n\n",
