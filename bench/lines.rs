@@ -1,4 +1,5 @@
-// Times the product's reader and writer against plain Rust on the same lines, in one run. A ratio is Rust's time over the product's.
+//! Times the product's reader and writer against plain Rust on the same lines, in one run, once both gave the same
+//! results. A ratio is Rust's time over the product's.
 mod plain_lines;
 use plain_lines::Record;
 use std::hint::black_box;
@@ -22,15 +23,36 @@ impl Rng {
     fn number(&mut self, max: u64) -> u64 {
         let shift = self.next() % 64;
         let n = self.next() >> shift;
-        if max == u64::MAX { n } else { n % (max + 1) }
+        if max == u64::MAX {
+            n
+        } else {
+            n % (max + 1)
+        }
     }
 }
 
-const NAMES: [&str; 11] = ["plan", "campaign", "start", "view", "close", "ok", "play", "nobody", "refused", "closed", "tally"];
+/// Lines of a race over all forms, and of one over a single form.
+const MIXED: usize = 2_000;
+const OF_A_FORM: usize = 500;
+
+const NAMES: [&str; 11] =
+    ["plan", "campaign", "start", "view", "close", "ok", "play", "nobody", "refused", "closed", "tally"];
 const MOST: [[u64; 5]; 11] = {
     const U: u64 = 4294967295;
     const W: u64 = u64::MAX;
-    [[U, U, 0, 0, 0], [U, U, 0, 0, 0], [0; 5], [W, 0, 0, 0, 0], [0; 5], [0; 5], [63, U, 0, 0, 0], [0; 5], [17, 0, 0, 0, 0], [W, W, W, 0, 0], [63, U, U, U, U]]
+    [
+        [U, U, 0, 0, 0],
+        [U, U, 0, 0, 0],
+        [0; 5],
+        [W, 0, 0, 0, 0],
+        [0; 5],
+        [0; 5],
+        [63, U, 0, 0, 0],
+        [0; 5],
+        [17, 0, 0, 0, 0],
+        [W, W, W, 0, 0],
+        [63, U, U, U, U],
+    ]
 };
 
 type Made = (u64, [u64; 5]);
@@ -60,6 +82,60 @@ fn plain((form, n): Made) -> Record {
     }
 }
 
+fn made(r: Record) -> Made {
+    match r {
+        Record::Plan { depth, width } => (0, [depth, width, 0, 0, 0]),
+        Record::Campaign { price, budget } => (1, [price, budget, 0, 0, 0]),
+        Record::Start => (2, [0; 5]),
+        Record::View(set) => (3, [set, 0, 0, 0, 0]),
+        Record::Close => (4, [0; 5]),
+        Record::Done => (5, [0; 5]),
+        Record::Play { campaign, paid } => (6, [campaign, paid, 0, 0, 0]),
+        Record::Nobody => (7, [0; 5]),
+        Record::Refused(number) => (8, [number, 0, 0, 0, 0]),
+        Record::Closed { takings, claim, full } => (9, [takings, claim, full, 0, 0]),
+        Record::Tally { campaign, plays, turns, age, named } => (10, [campaign, plays, turns, age, named]),
+    }
+}
+
+/// The product's reader: a record, or the number of the refusal.
+fn read(line: &[u8]) -> Result<Made, u64> {
+    let mut numbers = [0; 5];
+    match unsafe { lines_read(line.as_ptr(), line.len(), numbers.as_mut_ptr()) } {
+        form @ 0..100 => Ok((form, numbers)),
+        refused => Err(refused - 100),
+    }
+}
+
+/// The product's writer: the length, or the number of the refusal.
+fn write(r: Made, out: &mut [u8]) -> Result<usize, u64> {
+    match unsafe { lines_write(r.0, r.1.as_ptr(), out.as_mut_ptr(), out.len()) } {
+        length @ 0..1000 => Ok(length as usize),
+        refused => Err(refused - 1000),
+    }
+}
+
+/// Both read each line alike, or nothing is timed.
+fn same_records(name: &str, lines: &[Vec<u8>]) {
+    for l in lines {
+        let (ours, rust) = (read(l), plain_lines::read_line(l).map(made));
+        assert_eq!(ours, rust, "{name}: {}", l.escape_ascii());
+    }
+}
+
+/// Both write each record alike, into too short a buffer too, and leave the same bytes; or nothing is timed.
+fn same_lines(name: &str, records: &[Made]) {
+    for r in records {
+        let whole = line(*r).len() + 1;
+        for room in [whole - 1, whole, 256] {
+            let (mut ours, mut rust) = (vec![7; room], vec![7; room]);
+            let written = (write(*r, &mut ours), plain_lines::write_line(plain(*r), &mut rust));
+            assert_eq!(written.0, written.1, "{name}: {r:?} into {room} bytes");
+            assert_eq!(ours, rust, "{name}: {r:?} into {room} bytes");
+        }
+    }
+}
+
 fn line(r: Made) -> Vec<u8> {
     let mut out = [0; 201];
     let n = plain_lines::write_line(plain(r), &mut out).unwrap();
@@ -82,6 +158,7 @@ fn race(name: &str, items: usize, mut ours: impl FnMut(), mut rust: impl FnMut()
 }
 
 fn read_race(name: &str, lines: &[Vec<u8>]) {
+    same_records(name, lines);
     let ours = || {
         for l in lines {
             let mut n = [0u64; 5];
@@ -98,6 +175,7 @@ fn read_race(name: &str, lines: &[Vec<u8>]) {
 }
 
 fn write_race(name: &str, records: &[Made]) {
+    same_lines(name, records);
     let plains: Vec<Record> = records.iter().map(|r| plain(*r)).collect();
     let mut out = [0u8; 256];
     let mut back = [0u8; 256];
@@ -116,28 +194,31 @@ fn write_race(name: &str, records: &[Made]) {
 
 fn main() {
     let mut rng = Rng(0x1234_5678_9abc_def1);
-    let mix: Vec<Made> = (0..2000).map(|_| { let f = rng.next() as usize % 11; record(&mut rng, f) }).collect();
-    let valid: Vec<Vec<u8>> = mix.iter().map(|r| line(*r)).collect();
-    let damaged: Vec<Vec<u8>> = valid
-        .iter()
-        .map(|l| {
-            let mut l = l.clone();
-            let at = rng.next() as usize % l.len();
-            l[at] = b"() 0xZ"[rng.next() as usize % 6];
-            l
+    let mix: Vec<Made> = (0..MIXED)
+        .map(|_| {
+            let form = rng.next() as usize % NAMES.len();
+            record(&mut rng, form)
         })
         .collect();
-    let views: Vec<Vec<u8>> = (0..2000).map(|_| { let a = rng.next(); let b = rng.next(); line((3, [a & b, 0, 0, 0, 0])) }).collect();
+    let valid: Vec<Vec<u8>> = mix.iter().map(|r| line(*r)).collect();
+    let mut damage = |l: &Vec<u8>| {
+        let mut l = l.clone();
+        let at = rng.next() as usize % l.len();
+        l[at] = b"() 0xZ"[rng.next() as usize % 6];
+        l
+    };
+    let damaged: Vec<Vec<u8>> = valid.iter().map(&mut damage).collect();
+    let views: Vec<Vec<u8>> = (0..MIXED).map(|_| line((3, [rng.next() & rng.next(), 0, 0, 0, 0]))).collect();
     read_race("read valid", &valid);
     read_race("read damaged", &damaged);
     read_race("read views", &views);
-    for f in 0..11 {
-        let lines: Vec<Vec<u8>> = (0..500).map(|_| line(record(&mut rng, f))).collect();
-        read_race(&format!("read {}", NAMES[f]), &lines);
+    for (form, name) in NAMES.iter().enumerate() {
+        let lines: Vec<Vec<u8>> = (0..OF_A_FORM).map(|_| line(record(&mut rng, form))).collect();
+        read_race(&format!("read {name}"), &lines);
     }
     write_race("write all forms", &mix);
-    for f in 0..11 {
-        let records: Vec<Made> = (0..500).map(|_| record(&mut rng, f)).collect();
-        write_race(&format!("write {}", NAMES[f]), &records);
+    for (form, name) in NAMES.iter().enumerate() {
+        let records: Vec<Made> = (0..OF_A_FORM).map(|_| record(&mut rng, form)).collect();
+        write_race(&format!("write {name}"), &records);
     }
 }

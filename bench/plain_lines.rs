@@ -1,4 +1,4 @@
-// A plain parser and printer of the same forms, as one would write them in Rust by hand.
+//! A plain parser and printer of the same forms, as one would write them in Rust by hand.
 #[derive(Clone, Copy)]
 pub enum Record {
     Plan { depth: u64, width: u64 },
@@ -175,7 +175,9 @@ fn in_range(r: Record) -> bool {
         Campaign { price, budget } => price <= U && budget <= U,
         Play { campaign, paid } => campaign < 64 && paid <= U,
         Refused(number) => (1..=18).contains(&number),
-        Tally { campaign, plays, turns, age, named } => campaign < 64 && plays <= U && turns <= U && age <= U && named <= U,
+        Tally { campaign, plays, turns, age, named } => {
+            campaign < 64 && plays <= U && turns <= U && age <= U && named <= U
+        }
         _ => true,
     }
 }
@@ -188,7 +190,9 @@ pub fn write_line(r: Record, out: &mut [u8]) -> Result<usize, u64> {
     let mut p = Printer { line: [0; 201], len: 0 };
     match r {
         Plan { depth, width } => p.word(b"(plan (depth ").number(depth).word(b") (width ").number(width).word(b"))\n"),
-        Campaign { price, budget } => p.word(b"(campaign (price ").number(price).word(b") (budget ").number(budget).word(b"))\n"),
+        Campaign { price, budget } => {
+            p.word(b"(campaign (price ").number(price).word(b") (budget ").number(budget).word(b"))\n")
+        }
         Start => p.word(b"(start)\n"),
         View(set) => {
             p.word(b"(view");
@@ -204,7 +208,14 @@ pub fn write_line(r: Record, out: &mut [u8]) -> Result<usize, u64> {
         Play { campaign, paid } => p.word(b"(play ").number(campaign).word(b" (paid ").number(paid).word(b"))\n"),
         Nobody => p.word(b"(nobody)\n"),
         Refused(number) => p.word(b"(refused ").number(number).word(b")\n"),
-        Closed { takings, claim, full } => p.word(b"(closed (takings ").number(takings).word(b") (claim ").number(claim).word(b") (full ").number(full).word(b"))\n"),
+        Closed { takings, claim, full } => p
+            .word(b"(closed (takings ")
+            .number(takings)
+            .word(b") (claim ")
+            .number(claim)
+            .word(b") (full ")
+            .number(full)
+            .word(b"))\n"),
         Tally { campaign, plays, turns, age, named } => p
             .word(b"(tally ")
             .number(campaign)

@@ -1,5 +1,6 @@
-//! Two programs run on one input.
+//! Two programs run on one input, and the model beside them.
 
+use crate::model;
 use std::io::{Read, Write};
 use std::process::{Command, Stdio};
 use std::sync::mpsc::channel;
@@ -8,6 +9,7 @@ use std::time::Duration;
 
 /// A program that takes longer is stopped.
 const LIMIT: Duration = Duration::from_secs(30);
+const WELL: &str = "exit status: 0";
 
 /// What a program wrote, and how it ended.
 #[derive(PartialEq)]
@@ -57,8 +59,9 @@ impl Pair<'_> {
         [self.first, self.second].map(|program| run(program, input))
     }
 
+    /// Whether a program gives another output than the model, or does not end well.
     pub fn differ(&self, input: &[u8]) -> bool {
-        let [first, second] = self.run(input);
-        first != second
+        let wanted = Ran { output: model::output(input), ending: WELL.into() };
+        self.run(input).iter().any(|ran| *ran != wanted)
     }
 }

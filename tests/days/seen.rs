@@ -1,7 +1,8 @@
 //! What a comparison has seen: refusals by phase, both sides of each limit, and what can happen in a view or to a day.
-//! The lines are walked with the answers that both programs gave. Everything in `wanted` must be seen.
+//! The lines are walked with the model's state, whose answers both programs gave. Everything in `wanted` must be seen.
 
-use crate::state::{deepest, members, Call, Phase, State, MOST_BUDGET, MOST_CAMPAIGNS, MOST_PRICE, MOST_VIEWS};
+use crate::model;
+use crate::state::{deepest, Call, Phase, State, MOST_BUDGET, MOST_CAMPAIGNS, MOST_PRICE, MOST_VIEWS};
 use std::collections::BTreeMap;
 
 /// Which lines get which refusal in which phases. 1, 15 and 18 answer no line: the program's state stays sound, no line
@@ -33,7 +34,7 @@ fn refusals() -> Vec<(&'static str, u64, Vec<Phase>)> {
 const ORDERS: [(&str, &[u64]); 3] =
     [("plan", &[2, 3, 4, 5]), ("campaign", &[6, 7, 8, 9, 10]), ("view", &[11, 12, 13, 14])];
 
-const EVENTS: [&str; 67] = [
+const EVENTS: [&str; 69] = [
     "depth 1 taken",
     "depth 32 taken",
     "depth 0 refused",
@@ -86,6 +87,8 @@ const EVENTS: [&str; 67] = [
     "equal scores of one price",
     "equal scores of other prices",
     "older before dearer",
+    "older than 4 before dearer",
+    "a higher number plays",
     "spent one named beside a player",
     "last play",
     "spent with cents left",
@@ -136,23 +139,13 @@ fn wanted() -> Vec<String> {
     all
 }
 
-/// One input walked: the state, and what the scores need beside it.
-struct Walk {
-    state: State,
-    plays: [u64; 64],
-    ages: [u64; 64],
-    days: u64,
-}
-
 pub struct Seen {
     counts: BTreeMap<String, u64>,
-    /// Answers that do not fit the questions.
-    odd: Vec<String>,
 }
 
 impl Seen {
     pub fn new() -> Seen {
-        Seen { counts: wanted().into_iter().map(|name| (name, 0)).collect(), odd: vec![] }
+        Seen { counts: wanted().into_iter().map(|name| (name, 0)).collect() }
     }
 
     fn mark(&mut self, name: impl Into<String>) {
@@ -174,7 +167,7 @@ impl Seen {
     pub fn wrong(&self) -> Vec<String> {
         let known = wanted();
         let unknown = self.counts.keys().filter(|name| !known.contains(name));
-        unknown.map(|name| format!("cannot be: {name}")).chain(self.odd.iter().cloned()).collect()
+        unknown.map(|name| format!("cannot be: {name}")).collect()
     }
 
     /// How often each was seen, one to a line.
@@ -186,56 +179,34 @@ impl Seen {
         self.counts.len()
     }
 
-    /// An input and the answers to it.
-    pub fn walk(&mut self, name: &str, input: &[u8], output: &[u8]) {
-        let mut walk = Walk { state: State::blank(), plays: [0; 64], ages: [0; 64], days: 0 };
-        let whole = input.strip_suffix(b"\n");
-        self.mark_if(whole.is_none() && !input.is_empty(), "last line without byte 10");
-        let lines: Vec<&[u8]> = match whole.unwrap_or(input) {
-            b"" if whole.is_none() => vec![],
-            lines => lines.split(|b| *b == 10).collect(),
-        };
-        let text = String::from_utf8_lossy(output);
-        let mut answers = text.lines();
-        for line in lines {
-            let answer = answers.next().unwrap_or("");
-            if let Err(what) = self.line(&mut walk, line, answer) {
-                self.odd.push(format!("{name}: {answer} to {}: {what}", line.escape_ascii()));
-                return;
-            }
-            if answer.starts_with("(closed ") {
-                answers.by_ref().take(walk.state.terms.len()).for_each(drop);
-            }
+    pub fn walk(&mut self, input: &[u8]) {
+        let mut state = State::blank();
+        self.mark_if(input.last().is_some_and(|b| *b != 10), "last line without byte 10");
+        for line in model::lines(input) {
+            self.line(&state, line);
+            state.answer(line);
         }
-        if answers.next().is_some() {
-            self.odd.push(format!("{name}: more answers than lines"));
-        }
-        self.mark(format!("input ends {}", walk.state.phase.name()));
+        self.mark(format!("input ends {}", state.phase.name()));
     }
 
-    fn line(&mut self, walk: &mut Walk, line: &[u8], answer: &str) -> Result<(), &'static str> {
-        let number = answer.strip_prefix("(refused ").map_or(0, |n| number_of(n.trim_end_matches(')')));
-        if number == 16 || number == 17 {
-            self.mark(refusal("line", number, walk.state.phase));
-            self.no_form(line);
-            return if (number == 16) == (line.len() > 200) { Ok(()) } else { Err("not by its length") };
-        }
-        let call = read(line).ok_or("no form")?;
-        let failed = walk.state.failed(call);
-        if failed.first().copied().unwrap_or(0) != number {
-            return Err("not the first question that fails");
-        }
-        self.limits(&walk.state, call, number);
-        if let Some((first, later)) = failed.split_first() {
-            self.mark(refusal(call.word(), *first, walk.state.phase));
-            for number in later {
-                self.mark(order(call.word(), *first, *number));
+    /// A line, and the state before it.
+    fn line(&mut self, state: &State, line: &[u8]) {
+        let call = match model::read(line) {
+            Ok(call) => call,
+            Err(number) => {
+                self.mark(refusal("line", number, state.phase));
+                return self.no_form(line);
             }
-            return Ok(());
+        };
+        let failed = state.failed(call);
+        self.limits(state, call, failed.first().copied().unwrap_or(0));
+        match failed.split_first() {
+            None => self.accepted(state, call),
+            Some((first, later)) => {
+                self.mark(refusal(call.word(), *first, state.phase));
+                later.iter().for_each(|number| self.mark(order(call.word(), *first, *number)));
+            }
         }
-        self.accepted(walk, call, answer);
-        walk.state.accept(call);
-        Ok(())
     }
 
     /// A line that is no input form.
@@ -265,131 +236,105 @@ impl Seen {
         self.mark_if(line.iter().any(|b| *b > 127), "byte over 127 refused");
     }
 
-    /// Both sides of each limit, at the line that touches it.
+    /// Both sides of each limit, at the line that touches it; the number is 0 where the call is accepted.
     fn limits(&mut self, state: &State, call: Call, number: u64) {
-        let (taken, count) = (number == 0, state.count());
         match call {
-            Call::Plan(depth, width) => {
-                for (what, n, top, refusal) in [("depth", depth, 32, 3), ("width", width, 16, 4)] {
-                    self.mark_if(taken && n == 1, &format!("{what} 1 taken"));
-                    self.mark_if(taken && n == top, &format!("{what} {top} taken"));
-                    self.mark_if(number == refusal && n == 0, &format!("{what} 0 refused"));
-                    self.mark_if(number == refusal && n == top + 1, &format!("{what} {} refused", top + 1));
-                }
-                if (1..=16).contains(&width) && depth == deepest(width) + u64::from(!taken) && number != 2 {
-                    self.mark(deep(width, taken));
-                }
-                self.mark_if(depth == u64::from(u32::MAX), "number 4294967295 read");
-            }
-            Call::Campaign(price, budget) => {
-                self.mark_if(taken && price == 1, "price 1 taken");
-                self.mark_if(taken && price == MOST_PRICE, "price 1000000 taken");
-                self.mark_if(number == 8 && price == 0, "price 0 refused");
-                self.mark_if(number == 8 && price == MOST_PRICE + 1, "price 1000001 refused");
-                self.mark_if(taken && budget == price, "budget of the price taken");
-                self.mark_if(number == 9 && budget + 1 == price, "budget below the price refused");
-                self.mark_if(taken && budget == MOST_BUDGET, "budget 2000000000 taken");
-                self.mark_if(number == 9 && budget == MOST_BUDGET + 1, "budget 2000000001 refused");
-                let together = state.budgets() + budget;
-                self.mark_if(taken && count > 0 && together == MOST_BUDGET, "budgets of 2000000000 together taken");
-                self.mark_if(number == 10 && together == MOST_BUDGET + 1, "budgets of 2000000001 together refused");
-                self.mark_if(taken && count + 1 == MOST_CAMPAIGNS, "campaign 64 taken");
-                self.mark_if(number == 7 && budget == price && price == 1, "campaign 65 refused");
-            }
-            Call::Start => self.mark_if(taken && count == 0, "day of no campaigns started"),
-            Call::View(set) => {
-                let (names, top) = (u64::from(set.count_ones()), 64 - u64::from(set.leading_zeros()));
-                self.mark_if(taken && state.views + 1 == MOST_VIEWS, "view 4096 taken");
-                self.mark_if(number == 12 && state.failed(call).len() == 1, "view 4097 refused");
-                self.mark_if(number == 14 && names == 0, "no name refused");
-                self.mark_if(number == 14 && names == state.width + 1, "one name over the width refused");
-                self.mark_if(number == 14 && names == 64, "64 names refused");
-                self.mark_if(taken && names == 1, "one name taken");
-                self.mark_if(taken && names == state.width, "names as the width taken");
-                self.mark_if(taken && names == 16, "16 named");
-                self.mark_if(taken && top == count, "last campaign named");
-                self.mark_if(number == 13 && top == count + 1, "next number refused");
-                self.mark_if(taken && top == 64, "name 63 taken");
-                self.mark_if(number == 13 && top == 64, "name 63 refused");
-            }
+            Call::Plan(depth, width) => self.plan_limits(depth, width, number),
+            Call::Campaign(price, budget) => self.campaign_limits(state, price, budget, number),
+            Call::Start => self.mark_if(number == 0 && state.count() == 0, "day of no campaigns started"),
+            Call::View(set) => self.view_limits(state, set, number),
             Call::Close => {}
         }
     }
 
+    fn plan_limits(&mut self, depth: u64, width: u64, number: u64) {
+        let taken = number == 0;
+        for (what, n, top, refusal) in [("depth", depth, 32, 3), ("width", width, 16, 4)] {
+            self.mark_if(taken && n == 1, &format!("{what} 1 taken"));
+            self.mark_if(taken && n == top, &format!("{what} {top} taken"));
+            self.mark_if(number == refusal && n == 0, &format!("{what} 0 refused"));
+            self.mark_if(number == refusal && n == top + 1, &format!("{what} {} refused", top + 1));
+        }
+        if (1..=16).contains(&width) && depth == deepest(width) + u64::from(!taken) && number != 2 {
+            self.mark(deep(width, taken));
+        }
+        self.mark_if(depth == u64::from(u32::MAX), "number 4294967295 read");
+    }
+
+    fn campaign_limits(&mut self, state: &State, price: u64, budget: u64, number: u64) {
+        let (taken, count) = (number == 0, state.count());
+        self.mark_if(taken && price == 1, "price 1 taken");
+        self.mark_if(taken && price == MOST_PRICE, "price 1000000 taken");
+        self.mark_if(number == 8 && price == 0, "price 0 refused");
+        self.mark_if(number == 8 && price == MOST_PRICE + 1, "price 1000001 refused");
+        self.mark_if(taken && budget == price, "budget of the price taken");
+        self.mark_if(number == 9 && budget + 1 == price, "budget below the price refused");
+        self.mark_if(taken && budget == MOST_BUDGET, "budget 2000000000 taken");
+        self.mark_if(number == 9 && budget == MOST_BUDGET + 1, "budget 2000000001 refused");
+        let together = state.budgets() + budget;
+        self.mark_if(taken && count > 0 && together == MOST_BUDGET, "budgets of 2000000000 together taken");
+        self.mark_if(number == 10 && together == MOST_BUDGET + 1, "budgets of 2000000001 together refused");
+        self.mark_if(taken && count + 1 == MOST_CAMPAIGNS, "campaign 64 taken");
+        self.mark_if(number == 7 && budget == price && price == 1, "campaign 65 refused");
+    }
+
+    fn view_limits(&mut self, state: &State, set: u64, number: u64) {
+        let (taken, count) = (number == 0, state.count());
+        let (names, top) = (u64::from(set.count_ones()), 64 - u64::from(set.leading_zeros()));
+        self.mark_if(taken && state.views + 1 == MOST_VIEWS, "view 4096 taken");
+        self.mark_if(number == 12 && state.failed(Call::View(set)).len() == 1, "view 4097 refused");
+        self.mark_if(number == 14 && names == 0, "no name refused");
+        self.mark_if(number == 14 && names == state.width + 1, "one name over the width refused");
+        self.mark_if(number == 14 && names == 64, "64 names refused");
+        self.mark_if(taken && names == 1, "one name taken");
+        self.mark_if(taken && names == state.width, "names as the width taken");
+        self.mark_if(taken && names == 16, "16 named");
+        self.mark_if(taken && top == count, "last campaign named");
+        self.mark_if(number == 13 && top == count + 1, "next number refused");
+        self.mark_if(taken && top == 64, "name 63 taken");
+        self.mark_if(number == 13 && top == 64, "name 63 refused");
+    }
+
     /// What an accepted call does, told by the state before it.
-    fn accepted(&mut self, walk: &mut Walk, call: Call, answer: &str) {
+    fn accepted(&mut self, state: &State, call: Call) {
         match call {
-            Call::Plan(..) => {
-                (walk.plays, walk.ages) = ([0; 64], [0; 64]);
-                walk.days += 1;
-                self.mark_if(walk.days > 1, "second day");
-            }
-            Call::View(set) => self.view(walk, set, answer),
+            Call::Plan(..) => self.mark_if(state.phase == Phase::Closed, "second day"),
+            Call::View(set) => self.view(state, set),
             Call::Close => {
-                let count = walk.state.count();
+                let (count, takings) = (state.count(), state.takings());
                 self.mark_if(count == 0, "closed with no campaign");
                 self.mark_if(count == MOST_CAMPAIGNS, "closed with 64 campaigns");
-                self.mark_if(answer.starts_with("(closed (takings 0)") && count > 0, "closed with takings 0");
-                self.mark_if(answer.starts_with("(closed (takings 2000000000)"), "closed with takings 2000000000");
+                self.mark_if(takings == 0 && count > 0, "closed with takings 0");
+                self.mark_if(takings == u128::from(MOST_BUDGET), "closed with takings 2000000000");
             }
             Call::Campaign(..) | Call::Start => {}
         }
     }
 
-    fn view(&mut self, walk: &mut Walk, set: u64, answer: &str) {
-        let State { depth, width, terms, .. } = &walk.state;
-        let player = answer.strip_prefix("(play ").map(|rest| number_of(rest.split(' ').next().unwrap_or("")) as usize);
-        let can_pay = |plays: &[u64; 64], i: usize| (plays[i] + 1) * terms[i].0 <= terms[i].1;
-        let able: Vec<usize> = members(set).filter(|i| can_pay(&walk.plays, *i)).collect();
-        let score = |i: usize| {
-            let (d, age) = (u128::from(*width), walk.ages[i] as u32);
-            u128::from(terms[i].0) * d.pow(age) * (d - 1).pow(*depth as u32 - age)
-        };
-        let Some(player) = player else {
-            self.mark("nobody");
-            return;
+    fn view(&mut self, state: &State, set: u64) {
+        let (able, depth) = (state.able(set), state.depth);
+        let Some(player) = state.player(set) else {
+            return self.mark("nobody");
         };
         self.mark("play");
-        let equal = |price: bool| {
-            able.iter().any(|i| *i != player && score(*i) == score(player) && (terms[*i].0 == terms[player].0) == price)
-        };
+        let (score, plays) = (state.score(player), &state.campaigns[player]);
+        let others = || able.iter().filter(|i| **i != player).map(|i| (*i, &state.campaigns[*i]));
+        let equal =
+            |one_price: bool| others().any(|(i, c)| state.score(i) == score && (c.price == plays.price) == one_price);
         self.mark_if(equal(true), "equal scores of one price");
         self.mark_if(equal(false), "equal scores of other prices");
-        self.mark_if(able.iter().any(|i| terms[*i].0 > terms[player].0), "older before dearer");
+        self.mark_if(others().any(|(_, c)| c.price > plays.price), "older before dearer");
+        self.mark_if(others().any(|(i, _)| i < player), "a higher number plays");
+        self.mark_if(others().any(|(_, c)| c.price > plays.price && plays.age > 4), "older than 4 before dearer");
         self.mark_if(able.len() < set.count_ones() as usize, "spent one named beside a player");
-        self.mark_if(score(player) == 0, "play with a score of 0");
-        self.mark_if(score(player) > 1 << 51, "score over 2^51");
+        self.mark_if(score == 0, "play with a score of 0");
+        self.mark_if(score > 1 << 51, "score over 2^51");
         self.mark_if(player == 63, "campaign 63 plays");
-        walk.plays[player] += 1;
-        let last = !can_pay(&walk.plays, player);
+        let last = plays.plays + 1 == plays.budget / plays.price;
         self.mark_if(last, "last play");
-        self.mark_if(last && terms[player].1 % terms[player].0 > 0, "spent with cents left");
-        for i in able {
-            let ended = i != player && walk.ages[i] + 1 == *depth;
-            self.mark_if(ended, "turn ended by age");
-            self.mark_if(ended && *depth == 1, "turn ended by age at depth 1");
-            walk.ages[i] = if i == player || ended { 0 } else { walk.ages[i] + 1 };
-        }
+        self.mark_if(last && plays.budget % plays.price > 0, "spent with cents left");
+        let ended = others().any(|(_, c)| c.age + 1 == depth);
+        self.mark_if(ended, "turn ended by age");
+        self.mark_if(ended && depth == 1, "turn ended by age at depth 1");
     }
-}
-
-fn number_of(digits: &str) -> u64 {
-    digits.parse().unwrap_or(0)
-}
-
-/// The call of a line that both programs took for an input form, so that its word and its numbers are enough.
-fn read(line: &[u8]) -> Option<Call> {
-    let text = std::str::from_utf8(line).ok()?;
-    let numbers: Vec<u64> =
-        text.split(|c: char| !c.is_ascii_digit()).filter(|n| !n.is_empty()).map(number_of).collect();
-    let word = text.trim_start_matches('(').split([' ', ')']).next()?;
-    let call = match (word, &numbers[..]) {
-        ("plan", &[depth, width]) => Call::Plan(depth, width),
-        ("campaign", &[price, budget]) => Call::Campaign(price, budget),
-        ("start", []) => Call::Start,
-        ("close", []) => Call::Close,
-        ("view", names) if names.iter().all(|n| *n < 64) => Call::View(names.iter().fold(0, |set, n| set | 1 << n)),
-        _ => return None,
-    };
-    (call.line() == text).then_some(call)
 }

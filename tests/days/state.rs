@@ -1,4 +1,5 @@
-//! What document 01's questions need to know of a day. The generator aims by it, and what was seen is told by it.
+//! Document 01's day: its record, its calls and the questions at the door. The generator aims by it, the model answers
+//! by it, and what was seen is told by it.
 
 pub const MOST_CAMPAIGNS: u64 = 64;
 pub const MOST_VIEWS: u64 = 4_096;
@@ -70,25 +71,41 @@ pub fn deepest(width: u64) -> u64 {
     (1..=32).take_while(|k| u128::from(width).pow(*k) <= 1 << 32).last().map_or(1, u64::from)
 }
 
+#[derive(Default)]
+pub struct Campaign {
+    pub price: u64,
+    pub budget: u64,
+    pub plays: u64,
+    pub turns: u64,
+    pub age: u64,
+    pub named: u64,
+}
+
+impl Campaign {
+    pub fn can_pay(&self) -> bool {
+        self.plays < self.budget / self.price
+    }
+}
+
 pub struct State {
     pub phase: Phase,
     pub depth: u64,
     pub width: u64,
-    pub terms: Vec<(u64, u64)>,
+    pub campaigns: Vec<Campaign>,
     pub views: u64,
 }
 
 impl State {
     pub fn blank() -> State {
-        State { phase: Phase::Blank, depth: 1, width: 1, terms: vec![], views: 0 }
+        State { phase: Phase::Blank, depth: 1, width: 1, campaigns: vec![], views: 0 }
     }
 
     pub fn count(&self) -> u64 {
-        self.terms.len() as u64
+        self.campaigns.len() as u64
     }
 
     pub fn budgets(&self) -> u64 {
-        self.terms.iter().map(|t| t.1).sum()
+        self.campaigns.iter().map(|c| c.budget).sum()
     }
 
     /// The numbers of all questions that this call fails, in their order: the first is the answer.
@@ -113,24 +130,11 @@ impl State {
             Call::View(set) => vec![
                 (11, running),
                 (12, self.views < MOST_VIEWS),
-                (13, set.checked_shr(self.terms.len() as u32).unwrap_or(0) == 0),
+                (13, set.checked_shr(self.campaigns.len() as u32).unwrap_or(0) == 0),
                 (14, (1..=self.width).contains(&u64::from(set.count_ones()))),
             ],
             Call::Close => vec![(11, running)],
         };
         questions.into_iter().filter(|q| !q.1).map(|q| q.0).collect()
-    }
-
-    /// The state after an accepted call.
-    pub fn accept(&mut self, call: Call) {
-        match call {
-            Call::Plan(depth, width) => {
-                *self = State { phase: Phase::Filling, depth, width, terms: vec![], views: 0 };
-            }
-            Call::Campaign(price, budget) => self.terms.push((price, budget)),
-            Call::Start => self.phase = Phase::Running,
-            Call::View(_) => self.views += 1,
-            Call::Close => self.phase = Phase::Closed,
-        }
     }
 }

@@ -1,4 +1,6 @@
-// Compares the product's reader and writer with a second program: the edges that document 01 names, and many generated records and damaged lines.
+//! Compares the product's reader and writer with a second program: the edges that document 01 names, long numerals in
+//! every slot, and many generated records and damaged lines.
+mod numerals;
 mod product;
 mod second;
 use second::{Rec, FORMS};
@@ -90,6 +92,18 @@ impl Tally {
     }
 }
 
+/// Lines that are no form of document 01.
+const NO_FORMS: [&[u8]; 43] = [
+    b"", b"(", b")", b"()", b"(start", b"start)", b"(start) ", b" (start)", b"(start)\n", b"(start)\r", b"\n(start)",
+    b"(START)", b"(Start)", b"(start\0", b"(view 64)", b"(view 0 0)", b"(view 1 0)", b"(view  0)", b"(view 0 )",
+    b"(view 00)", b"(view 01)", b"(view 0  1)", b"(view 18446744073709551616)", b"(view -1)", b"(refused 0)",
+    b"(refused 19)", b"(play 64 (paid 5))", b"(plan (depth 02) (width 2))", b"(plan (depth 4294967296) (width 2))",
+    b"(plan  (depth 2) (width 2))", b"(closed (takings 16) (claim 0) (full 18446744073709551616))",
+    b"(campaign (price 1) (budget 4294967296))", b"(nobody\xff", b"(plan (depth ) (width 2))",
+    b"(pause)", b"(pause 0)", b"(resume 0)", b"(resume 1)", b"(tally 0)", b"(tally 63)", b"(closed)", b"(play 0)",
+    b"(refused)",
+];
+
 fn edges(t: &mut Tally) {
     const NO: Result<(u64, &[u64]), u64> = Err(17);
     t.expect(b"(plan (depth 2) (width 2))", Ok((0, &[2, 2])));
@@ -104,13 +118,7 @@ fn edges(t: &mut Tally) {
     t.expect(b"(refused 18)", Ok((8, &[18])));
     t.expect(b"(closed (takings 16) (claim 0) (full 18446744073709551615))", Ok((9, &[16, 0, u64::MAX])));
     t.expect(b"(tally 0 (plays 2) (turns 2) (age 0) (named 4))", Ok((10, &[0, 2, 2, 0, 4])));
-    let refused: [&[u8]; 34] = [
-        b"", b"(", b")", b"()", b"(start", b"start)", b"(start) ", b" (start)", b"(start)\n", b"(start)\r", b"\n(start)", b"(START)", b"(Start)", b"(start\0",
-        b"(view 64)", b"(view 0 0)", b"(view 1 0)", b"(view  0)", b"(view 0 )", b"(view 00)", b"(view 01)", b"(view 0  1)", b"(view 18446744073709551616)", b"(view -1)",
-        b"(refused 0)", b"(refused 19)", b"(play 64 (paid 5))", b"(plan (depth 02) (width 2))", b"(plan (depth 4294967296) (width 2))", b"(plan  (depth 2) (width 2))",
-        b"(closed (takings 16) (claim 0) (full 18446744073709551616))", b"(campaign (price 1) (budget 4294967296))", b"(nobody\xff", b"(plan (depth ) (width 2))",
-    ];
-    refused.iter().for_each(|line| t.expect(line, NO));
+    NO_FORMS.iter().for_each(|line| t.expect(line, NO));
     for (len, want) in [(0, 17), (199, 17), (200, 17), (201, 16), (1000, 16)] {
         for b in [b' ', b'0', b'(', 0, 255] {
             t.expect(&vec![b; len], Err(want));
@@ -130,6 +138,7 @@ fn edges(t: &mut Tally) {
 fn main() {
     let mut t = Tally { passed: 0, failed: 0 };
     edges(&mut t);
+    numerals::all(&mut t);
     let mut rng = Rng(0x5eed_1234_9876_abcd);
     for _ in 0..200_000 {
         let r = rng.record();

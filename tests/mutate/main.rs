@@ -1,8 +1,9 @@
 //! Single changes of the proved sources, each of which the prover should refuse.
 //!
 //! mutants ROOT FOLDER [--each N] [--limit SECONDS] [--sample N] [--list | --compile] (CRATE | ID)...
-//! ROOT is the project; FOLDER gets `list`, `results` and the copy that is changed. What stands in `results` is not run
-//! again, unless the crate is another by now or the time was too short. ROOT/docs/MUTANTS.md is written anew.
+//! ROOT is the project; FOLDER gets `list`, `results`, the logs in `log` and the copy that is changed. What stands in
+//! `results` is not run again, unless the crate is another by now or the time was too short. ROOT/docs/MUTANTS.md is
+//! written anew.
 
 mod change;
 mod prover;
@@ -17,8 +18,22 @@ use std::io::Write;
 use std::path::{Path, PathBuf};
 use std::process::Command;
 
-const CRATES: [&str; 13] =
-    ["sets", "powers", "campaigns", "audit", "views", "day", "lines", "print", "writer", "reply", "stretch", "desk", "replay"];
+const CRATES: [&str; 14] = [
+    "sets",
+    "powers",
+    "campaigns",
+    "audit",
+    "views",
+    "day",
+    "lines",
+    "print",
+    "writer",
+    "reply",
+    "stretch",
+    "desk",
+    "replay",
+    "pumpday",
+];
 
 pub struct Mutant {
     pub id: String,
@@ -63,8 +78,8 @@ fn files(root: &Path, name: &str) -> Vec<PathBuf> {
     found
 }
 
-/// Kinds that add or leave out a step of the code. The others keep all steps, so that no proof fails for another reason than
-/// a fact, and come first.
+/// Kinds that add or leave out a step of the code. The others keep all steps, so that no proof fails for another reason
+/// than a fact, and come first.
 pub const OTHER_STEPS: [&str; 4] = ["argument", "branch", "index", "store"];
 
 /// At most `each` of an item's changes, taken in turn from each kind, the rarest kind first, and spread over the item.
@@ -106,7 +121,8 @@ fn print(folder: &Path, mut sum: u64) -> u64 {
 fn mutants(root: &Path, name: &str, each: usize, changer: &Changer) -> Vec<Mutant> {
     let mut found = vec![];
     let crate_folder = root.join("crates").join(name);
-    let proved = ["src", "specs", "proofs"].map(|part| crate_folder.join(part)).into_iter().filter(|part| part.is_dir());
+    let parts = ["src", "specs", "proofs"].map(|part| crate_folder.join(part));
+    let proved = parts.into_iter().filter(|part| part.is_dir());
     let print = format!("{:016x}", proved.fold(0xcbf2_9ce4_8422_2325, |sum, part| print(&part, sum)));
     for file in files(root, name) {
         let source = fs::read_to_string(root.join(&file)).expect("a source file");
@@ -136,18 +152,19 @@ fn mutants(root: &Path, name: &str, each: usize, changer: &Changer) -> Vec<Mutan
     found
 }
 
-/// The crates and what is proved of them, copied to a folder of their own.
+/// The crates, what is proved of them, and the tests of the program, copied to a folder of their own.
 fn copy(root: &Path, work: &Path) {
-    let _ = fs::remove_dir_all(work.join("crates"));
+    let fresh = ["crates", "tests", "second"];
+    fresh.iter().for_each(|part| drop(fs::remove_dir_all(work.join(part))));
     fs::create_dir_all(work.join("target")).expect("a folder");
-    let mut parts = vec![("crates", "crates"), ("crates.txt", "crates.txt")];
+    let mut parts = [&fresh[..], &["crates.txt"]].concat();
     // proofs of the same files count in the copy too
     if !work.join("target/stamp").exists() && root.join("target/stamp").exists() {
-        parts.extend([("target/stamp", "target/stamp"), ("target/rlib", "target/rlib"), ("target/log", "target/log")]);
+        parts.extend(["target/stamp", "target/rlib", "target/log"]);
     }
-    for (from, to) in parts {
-        let done = Command::new("cp").arg("-r").arg(root.join(from)).arg(work.join(to)).status();
-        assert!(done.expect("cp runs").success(), "{from} is not copied");
+    for part in parts {
+        let done = Command::new("cp").arg("-r").arg(root.join(part)).arg(work.join(part)).status();
+        assert!(done.expect("cp runs").success(), "{part} is not copied");
     }
 }
 
@@ -199,16 +216,40 @@ fn options(words: &[String]) -> Options {
     o
 }
 
+/// All changes of the crates' sources.
+fn all(root: &Path, each: usize) -> Vec<Mutant> {
+    let read = |file: PathBuf| fs::read_to_string(root.join(file)).expect("a source file");
+    let sources: Vec<String> = CRATES.iter().flat_map(|name| files(root, name)).map(read).collect();
+    let siblings = source::siblings(&sources);
+    let numbers = source::numbers(&sources);
+    let changer = Changer { siblings: &siblings, numbers: &numbers };
+    CRATES.iter().flat_map(|name| mutants(root, name, each, &changer)).collect()
+}
+
+/// Judges these changes of a crate, and puts down each result and its log.
+fn run(prover: &Prover, folder: &Path, name: &str, open: &[&Mutant]) {
+    if let Err(log) = prover.baseline(name) {
+        println!("{log}");
+        std::process::exit(1);
+    }
+    fs::create_dir_all(folder.join("log")).expect("a folder");
+    for mutant in open {
+        let source = fs::read_to_string(prover.work.join(&mutant.file)).expect("a source file");
+        let verdict = prover.judge(name, &mutant.file, &mutant.changed(&source));
+        println!("{} {:.1} s {}: {}", mutant.id, verdict.seconds, verdict.word, mutant.diff());
+        fs::write(folder.join("log").join(&mutant.id), verdict.log).expect("a log");
+        let line = format!("{}\t{}\t{}\n", mutant.key(), verdict.word, verdict.why.replace('\t', " "));
+        let results = folder.join("results");
+        let mut file = fs::OpenOptions::new().create(true).append(true).open(results).expect("a file");
+        file.write_all(line.as_bytes()).expect("a line");
+    }
+}
+
 fn main() {
     let args: Vec<String> = std::env::args().skip(1).collect();
     let (root, folder) = (PathBuf::from(&args[0]), PathBuf::from(&args[1]));
     let o = options(&args[2..]);
-    let read = |file: PathBuf| fs::read_to_string(root.join(file)).expect("a source file");
-    let sources: Vec<String> = CRATES.iter().flat_map(|name| files(&root, name)).map(read).collect();
-    let siblings = source::siblings(&sources);
-    let numbers = source::numbers(&sources);
-    let changer = Changer { siblings: &siblings, numbers: &numbers };
-    let all: Vec<Mutant> = CRATES.iter().flat_map(|name| mutants(&root, name, o.each, &changer)).collect();
+    let all = all(&root, o.each);
     let line =
         |m: &Mutant| format!("{}\t{}:{}\t{}\t{}\t{}\n", m.id, m.file.display(), m.line, m.item, m.operator, m.diff());
     fs::write(folder.join("list"), all.iter().map(line).collect::<String>()).expect("a file");
@@ -230,20 +271,8 @@ fn main() {
         let step = of_crate.len().div_ceil(o.sample).max(1);
         let told = |m: &&Mutant| known.get(&m.key()).is_some_and(|r| r.0 != "no answer in time");
         let open: Vec<&Mutant> = of_crate.into_iter().step_by(step).filter(|m| !told(m)).collect();
-        if open.is_empty() {
-            continue;
-        }
-        if let Err(log) = prover.baseline(name) {
-            println!("{log}");
-            std::process::exit(1);
-        }
-        for mutant in open {
-            let source = fs::read_to_string(prover.work.join(&mutant.file)).expect("a source file");
-            let verdict = prover.judge(name, &mutant.file, &mutant.changed(&source));
-            println!("{} {:.1} s {}: {}", mutant.id, verdict.seconds, verdict.word, mutant.diff());
-            let mut file = fs::OpenOptions::new().create(true).append(true).open(&results).expect("a file");
-            let line = format!("{}\t{}\t{}\n", mutant.key(), verdict.word, verdict.why.replace('\t', " "));
-            file.write_all(line.as_bytes()).expect("a line");
+        if !open.is_empty() {
+            run(&prover, &folder, name, &open);
         }
     }
     if o.compile {

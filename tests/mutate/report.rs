@@ -10,8 +10,16 @@ use std::process::Command;
 /// By the change's key: the verdict, and the line of the log that tells.
 pub type Results = BTreeMap<String, (String, String)>;
 
-const WORDS: [&str; 7] =
-    ["refused", "refused by its shape", "SURVIVED", "the same code", "not compiled", "no answer in time", "unclear"];
+const WORDS: [&str; 8] = [
+    "refused",
+    "refused by its shape",
+    "noticed by a test",
+    "SURVIVED",
+    "the same code",
+    "not compiled",
+    "no answer in time",
+    "unclear",
+];
 
 /// Survivors that mean the same: the item, the change, and why.
 const SAME: [(&str, &str, &str); 1] = [("at_most_201", "if n > 201 { → if n >= 201 {", "at 201 both give 201")];
@@ -48,12 +56,9 @@ fn table(out: &mut String, head: &str, rows: impl Iterator<Item = String>) {
     out.push('\n');
 }
 
-pub fn text(all: &[Mutant], results: &Results, each: usize) -> String {
-    let of = |m: &Mutant| results.get(&m.key());
-    let word = |m: &Mutant| of(m).map_or("", |r| r.0.as_str());
-    let count =
-        |name: &str, w: &str| all.iter().filter(|m| (name.is_empty() || m.name == name) && word(m) == w).count();
-    let mut out = format!(
+/// What the page says before its tables.
+fn intro(each: usize) -> String {
+    format!(
         "# Single changes of the proved code\n\n\
         Each change is one small fault in one line: a comparison, an operation, a constant by 1, operands, a field, a \
         call, an enum's case, all of which keep the steps of the code; or an argument or an index by 1, a store that \
@@ -63,12 +68,32 @@ pub fn text(all: &[Mutant], results: &Results, each: usize) -> String {
         is and writes this page; `--list` only lists, `--compile` only compiles, `--sample N` takes some N of a crate, \
         `--each N` takes more of each function, `--limit SECONDS` is the time for one (300). The results stand in \
         `target/mutants`, or in the folder that MUTANTS names; `rt ci` removes the former.\n\n\
-        *Refused*: a fact fails. *Refused by its shape*: the errors say only that the proof no longer fits the steps. \
+        The first error of the log tells, as document 90 asks; the logs stand beside the results. *Refused*: it says \
+        that a fact fails. *Refused by its shape*: it says only that the proof no longer fits the steps. *Noticed by \
+        a test*: of `pumpday`, whose input and output are not proved, its stored day, `tests/gate/pipe` or \
+        `tests/gate/days` fails. \
         *SURVIVED*: `rt check` proves the crate with the change; each is to be explained or its contract made \
         stronger. *The same code* (a constant that only crates above \
         use, a pattern that an earlier arm has) and *not compiled* count for nothing.\n\n",
         today()
-    );
+    )
+}
+
+/// The changes with one verdict, which a reader should look at.
+fn listed<'a>(out: &mut String, title: &str, rows: impl Iterator<Item = &'a Mutant>, why: fn(&Mutant) -> &'static str) {
+    let row = |m: &Mutant| {
+        format!("| {} | {}:{} | {} | {} | {} |\n", m.id, m.file.display(), m.line, m.item, cell(&m.diff()), why(m))
+    };
+    let _ = writeln!(out, "## {title}\n");
+    table(out, "| id | line | in | change | means the same, since |", rows.map(row));
+}
+
+pub fn text(all: &[Mutant], results: &Results, each: usize) -> String {
+    let of = |m: &Mutant| results.get(&m.key());
+    let word = |m: &Mutant| of(m).map_or("", |r| r.0.as_str());
+    let count =
+        |name: &str, w: &str| all.iter().filter(|m| (name.is_empty() || m.name == name) && word(m) == w).count();
+    let mut out = intro(each);
     let row = |name: &str| {
         let listed = all.iter().filter(|m| name.is_empty() || m.name == name).count();
         let counts: Vec<String> = WORDS.iter().map(|w| count(name, w).to_string()).collect();
@@ -78,16 +103,13 @@ pub fn text(all: &[Mutant], results: &Results, each: usize) -> String {
     };
     let head = format!("| crate | changes | {} | not run |", WORDS.join(" | "));
     table(&mut out, &head, CRATES.iter().copied().chain([""]).map(row));
-    for (w, title) in [("SURVIVED", "Survived"), ("unclear", "Unclear"), ("no answer in time", "No answer in time")] {
-        if count("", w) > 0 {
-            let rows = all.iter().filter(|m| word(m) == w);
-            let row = |m: &Mutant| {
-                let why = if w == "SURVIVED" { why_same(m) } else { "" };
-                format!("| {} | {}:{} | {} | {} | {why} |\n", m.id, m.file.display(), m.line, m.item, cell(&m.diff()))
-            };
-            let _ = writeln!(out, "## {title}\n");
-            table(&mut out, "| id | line | in | change | means the same, since |", rows.map(row));
-        }
+    let looked_at: [(&str, &str, fn(&Mutant) -> &'static str); 3] = [
+        ("SURVIVED", "Survived", why_same),
+        ("unclear", "Unclear", |_| ""),
+        ("no answer in time", "No answer in time", |_| ""),
+    ];
+    for (w, title, why) in looked_at.into_iter().filter(|l| count("", l.0) > 0) {
+        listed(&mut out, title, all.iter().filter(|m| word(m) == w), why);
     }
     out.push_str("## All that were run\n\n");
     let row = |m: &Mutant| {
