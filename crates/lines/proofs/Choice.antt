@@ -10,9 +10,9 @@ use lib.ListN.{length, getD}
 use Rattle.lines.specs.declared.Record.{Record}
 use Rattle.lines.specs.declared.Record.the-variants.{Plan, Campaign, Start, View, Close, Done, Play, Nobody, Refused, Closed, Tally}
 use Rattle.lines.specs.declared.Reading.the-variants.{Got, Refusal}
-use Rattle.lines.specs.Form.{template, numbers, piece, after, filled, inSlots, text, inRange}
+use Rattle.lines.specs.Form.{template, numbers, piece, numbers-after, filled, in-slots, text, in-range}
 use Rattle.lines.specs.OneText.{Is}
-use Rattle.lines.specs.Reading.{Rest, none, some, isDigit, restOf, numbersOf, made, isEnd, endedOr, heldOr, forms, firstOf}
+use Rattle.lines.specs.Reading.{Rest, none, some, is-digit, rest-of, numbers-of, made, is-end, ended-or, held-or, forms, first-of}
 use Rattle.lines.proofs.Digits.{apart}
 use Rattle.lines.proofs.Templates.{fair, taken, most, sound, complete, filled-most}
 use Rattle.lines.proofs.Plain.{plain, plain-at, filled-plain}
@@ -38,15 +38,15 @@ chosen l = leaves (getD l 1 0) (getD l 4 0) (getD l 6 0)
 abbrev Form : Record → Type 0
 Form f =
     ((ns : List ℕ) → template (made f ns) ≡ template f)
-    × ((r : Rest) → numbers (made f (numbersOf (template f) r)) ≡ numbersOf (template f) r)
+    × ((r : Rest) → numbers (made f (numbers-of (template f) r)) ≡ numbers-of (template f) r)
     × ((ns : List ℕ) → made (made f ns) [] ≡ f)
 
-data AllForms : List Record → Type 0 where
-  done : AllForms []
-  form : {f : Record} {fs : List Record} → Form f → AllForms fs → AllForms (f ∷ fs)
+data All-forms : List Record → Type 0 where
+  done : All-forms []
+  form : {f : Record} {fs : List Record} → Form f → All-forms fs → All-forms (f ∷ fs)
 
-all-forms : AllForms forms
-unfolding forms template numbers made numbersOf
+all-forms : All-forms forms
+unfolding forms template numbers made numbers-of
 all-forms =
     (form (λ _. refl, λ _. refl, λ _. refl)
     (form (λ _. refl, λ _. refl, λ _. refl)
@@ -67,7 +67,7 @@ Known r =
     × (made (made r []) (taken (template r) (numbers r)) ≡ r) × (chosen (text r) ≡ made r []) × (plain (template r) ≡ true)
 
 known : (r : Record) → Known r
-unfolding template numbers made text filled piece after isDigit chosen
+unfolding template numbers made text filled piece numbers-after is-digit chosen
 known (Plan _ _) = (refl, lit≤ tt, refl, refl, refl, refl)
 known (Campaign _ _) = (refl, lit≤ tt, refl, refl, refl, refl)
 known Start = (refl, lit≤ tt, refl, refl, refl, refl)
@@ -94,39 +94,39 @@ text-plain r i e = plain-at (text r) i (filled-plain (template r) (numbers r) (k
 
 -- whether the line fills the template of the form f, and what it then reads as
 abbrev fills : Record → List ℕ → Bool
-fills f l = isEnd (restOf (template f) (some l))
+fills f l = is-end (rest-of (template f) (some l))
 
 abbrev read : Record → List ℕ → Record
-read f l = made f (numbersOf (template f) (some l))
+read f l = made f (numbers-of (template f) (some l))
 
-end-of : (r : Rest) → isEnd r ≡ true → r ≡ some []
+end-of : (r : Rest) → is-end r ≡ true → r ≡ some []
 end-of none h = apart h
 end-of (some []) h = refl
 end-of (some (b ∷ l)) h = apart h
 
 -- a line that fills a template is the text of what it reads as
 read-is : (f : Record) (l : List ℕ) → Form f → fills f l ≡ true → Is l (read f l)
-unfolding text inRange
+unfolding text in-range
 read-is f l p h =
-    let s = sound (template f) l [] (end-of (restOf (template f) (some l)) h) in
-    let t : (ns : List ℕ) → filled (template f) ns ≡ filled (template (read f l)) ns = λ ns. ap (λ (x : List ℕ). filled x ns) (sym (p .0 (numbersOf (template f) (some l)))) in (
-      ap (λ (x : List ℕ). inSlots x (numbers (read f l))) (p .0 (numbersOf (template f) (some l))) ∙ ap (inSlots (template f)) (p .1 (some l)) ∙ s .range,
-      s .text ∙ append-nil (filled (template f) (numbersOf (template f) (some l))) ∙ ap (filled (template f)) (sym (p .1 (some l))) ∙ t (numbers (read f l)),
+    let s = sound (template f) l [] (end-of (rest-of (template f) (some l)) h) in
+    let t : (ns : List ℕ) → filled (template f) ns ≡ filled (template (read f l)) ns = λ ns. ap (λ (x : List ℕ). filled x ns) (sym (p .0 (numbers-of (template f) (some l)))) in (
+      ap (λ (x : List ℕ). in-slots x (numbers (read f l))) (p .0 (numbers-of (template f) (some l))) ∙ ap (in-slots (template f)) (p .1 (some l)) ∙ s .range,
+      s .text ∙ append-nil (filled (template f) (numbers-of (template f) (some l))) ∙ ap (filled (template f)) (sym (p .1 (some l))) ∙ t (numbers (read f l)),
     )
 
 -- the text of a record fills the template of its form, and reads as the record
-text-read : (r : Record) → inRange r ≡ true → (fills (made r []) (text r) ≡ true) × (read (made r []) (text r) ≡ r)
-unfolding text inRange
+text-read : (r : Record) → in-range r ≡ true → (fills (made r []) (text r) ≡ true) × (read (made r []) (text r) ≡ r)
+unfolding text in-range
 text-read r h =
     let k = known r in
     let c = complete (template r) (numbers r) (k .0) h in (
-      ap (λ (t : List ℕ). isEnd (restOf t (some (text r)))) (k .2) ∙ ap isEnd (c .all),
-      ap (λ (t : List ℕ). made (made r []) (numbersOf t (some (text r)))) (k .2) ∙ ap (made (made r [])) (c .numbers) ∙ k .3,
+      ap (λ (t : List ℕ). is-end (rest-of t (some (text r)))) (k .2) ∙ ap is-end (c .all),
+      ap (λ (t : List ℕ). made (made r []) (numbers-of t (some (text r)))) (k .2) ∙ ap (made (made r [])) (c .numbers) ∙ k .3,
     )
 
 -- a form whose template the line fills is the chosen one
 fills-chosen : (f : Record) (l : List ℕ) → Form f → fills f l ≡ true → f ≡ chosen l
-fills-chosen f l p h = sym (p .2 (numbersOf (template f) (some l))) ∙ sym (known (read f l) .4) ∙ ap chosen (sym (read-is f l p h .1))
+fills-chosen f l p h = sym (p .2 (numbers-of (template f) (some l))) ∙ sym (known (read f l) .4) ∙ ap chosen (sym (read-is f l p h .1))
 
 -- All forms.
 
@@ -135,21 +135,21 @@ data In (p : Record) : List Record → Type 0 where
   there : {f : Record} {fs : List Record} → In p fs → In p (f ∷ fs)
 
 module _ (l : List ℕ) where
-  none-fills : {fs : List Record} → AllForms fs → fills (chosen l) l ≡ false → firstOf fs l ≡ Refusal 17
-  unfolding firstOf heldOr endedOr
+  none-fills : {fs : List Record} → All-forms fs → fills (chosen l) l ≡ false → first-of fs l ≡ Refusal 17
+  unfolding first-of held-or ended-or
   none-fills done h = refl
   none-fills (form {f} {fs} p a) h = go (fills f l) refl (none-fills a h)
     where
-      go : (t : Bool) → fills f l ≡ t → firstOf fs l ≡ Refusal 17 → cond t (Got (read f l)) (firstOf fs l) ≡ Refusal 17
+      go : (t : Bool) → fills f l ≡ t → first-of fs l ≡ Refusal 17 → cond t (Got (read f l)) (first-of fs l) ≡ Refusal 17
       go true e ih = apart (sym h ∙ ap (λ (x : Record). fills x l) (sym (fills-chosen f l p e)) ∙ e)
       go false e ih = ih
 
-  one-fills : {fs : List Record} → AllForms fs → In (chosen l) fs → fills (chosen l) l ≡ true → firstOf fs l ≡ Got (read (chosen l) l)
-  unfolding firstOf heldOr endedOr
+  one-fills : {fs : List Record} → All-forms fs → In (chosen l) fs → fills (chosen l) l ≡ true → first-of fs l ≡ Got (read (chosen l) l)
+  unfolding first-of held-or ended-or
   one-fills (form {f} {fs} p a) i h = go (fills f l) refl i (λ j. one-fills a j h)
     where
-      go : (t : Bool) → fills f l ≡ t → In (chosen l) (f ∷ fs) → (In (chosen l) fs → firstOf fs l ≡ Got (read (chosen l) l))
-          → cond t (Got (read f l)) (firstOf fs l) ≡ Got (read (chosen l) l)
+      go : (t : Bool) → fills f l ≡ t → In (chosen l) (f ∷ fs) → (In (chosen l) fs → first-of fs l ≡ Got (read (chosen l) l))
+          → cond t (Got (read f l)) (first-of fs l) ≡ Got (read (chosen l) l)
       go true e i ih = ap (λ (x : Record). Got (read x l)) (fills-chosen f l p e)
       go false e (here q) ih = apart (sym e ∙ ap (λ (x : Record). fills x l) (sym q) ∙ h)
       go false e (there j) ih = ih j
@@ -174,22 +174,22 @@ chosen-in l =
     (either (eqb (getD l 1 0) 110) (nth forms 7 (lit< tt))
     (either (eqb (getD l 1 0) 114) (nth forms 8 (lit< tt)) (nth forms 10 (lit< tt))))))))
 
-form-of : {p : Record} {fs : List Record} → AllForms fs → In p fs → Form p
+form-of : {p : Record} {fs : List Record} → All-forms fs → In p fs → Form p
 form-of (form f a) (here q) = subst Form (sym q) f
 form-of (form f a) (there j) = form-of a j
 
 -- reading is holding the line to the chosen form
-pub first-chosen : (l : List ℕ) → firstOf forms l ≡ heldOr (Refusal 17) (chosen l) l
-unfolding heldOr endedOr
+pub first-chosen : (l : List ℕ) → first-of forms l ≡ held-or (Refusal 17) (chosen l) l
+unfolding held-or ended-or
 first-chosen l = go (fills (chosen l) l) refl
   where
-    go : (t : Bool) → fills (chosen l) l ≡ t → firstOf forms l ≡ cond (fills (chosen l) l) (Got (read (chosen l) l)) (Refusal 17)
+    go : (t : Bool) → fills (chosen l) l ≡ t → first-of forms l ≡ cond (fills (chosen l) l) (Got (read (chosen l) l)) (Refusal 17)
     go true e = one-fills l all-forms (chosen-in l) e ∙ rw e
     go false e = none-fills l all-forms e ∙ rw e
 
 -- what the chosen form reads
-pub held-is : (l : List ℕ) (r : Record) → firstOf forms l ≡ Got r → Is l r
-unfolding heldOr endedOr
+pub held-is : (l : List ℕ) (r : Record) → first-of forms l ≡ Got r → Is l r
+unfolding held-or ended-or
 held-is l r h = go (fills (chosen l) l) refl (sym (first-chosen l) ∙ h)
   where
     go : (t : Bool) → fills (chosen l) l ≡ t → cond (fills (chosen l) l) (Got (read (chosen l) l)) (Refusal 17) ≡ Got r → Is l r
@@ -201,16 +201,16 @@ held-is l r h = go (fills (chosen l) l) refl (sym (first-chosen l) ∙ h)
         let z : Refusal 17 ≡ Got r = ap (λ (t : Bool). cond t (Got (read (chosen l) l)) (Refusal 17)) (sym e) ∙ q in
         let y : _≡_ {A = ℕ} 0 1 = cc in absurd (omega arith)
 
-pub held-text : (r : Record) → inRange r ≡ true → firstOf forms (text r) ≡ Got r
-unfolding heldOr endedOr
+pub held-text : (r : Record) → in-range r ≡ true → first-of forms (text r) ≡ Got r
+unfolding held-or ended-or
 held-text r h =
     let t = text-read r h in
-    first-chosen (text r) ∙ ap (λ (f : Record). heldOr (Refusal 17) f (text r)) (known r .4)
+    first-chosen (text r) ∙ ap (λ (f : Record). held-or (Refusal 17) f (text r)) (known r .4)
     ∙ ap (λ (x : Bool). cond x (Got (read (made r []) (text r))) (Refusal 17)) (t .0) ∙ ap Got (t .1)
 
 -- a line that no form reads is refused with 17
-pub held-number : (l : List ℕ) (n : ℕ) → firstOf forms l ≡ Refusal n → n ≡ 17
-unfolding heldOr endedOr
+pub held-number : (l : List ℕ) (n : ℕ) → first-of forms l ≡ Refusal n → n ≡ 17
+unfolding held-or ended-or
 held-number l n h = go (fills (chosen l) l) (sym (first-chosen l) ∙ h)
   where
     go : (t : Bool) → cond t (Got (read (chosen l) l)) (Refusal 17) ≡ Refusal n → n ≡ 17

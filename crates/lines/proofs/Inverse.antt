@@ -11,18 +11,18 @@ use borrow.Author.Tests.{ltb-true, ltb-false, le-ltb}
 use Rattle.lines.specs.declared.Record.{Record}
 use Rattle.lines.specs.declared.Reading.{Reading}
 use Rattle.lines.specs.declared.Reading.the-variants.{Got, Refusal}
-use Rattle.lines.specs.Form.{text, inRange}
-use Rattle.lines.specs.Reading.{forms, firstOf, reading}
+use Rattle.lines.specs.Form.{text, in-range}
+use Rattle.lines.specs.Reading.{forms, first-of, reading}
 use Rattle.lines.specs.OneText.{number, values, Is, Says, One-text}
 use Rattle.lines.specs.OneText.Says.{a-text, too-long, no-text}
 use Rattle.lines.proofs.Choice.{text-most, text-plain, held-is, held-text, held-number}
 
-pub reading-short : (l : List ℕ) → length l ≤ 200 → reading l ≡ firstOf forms l
+pub reading-short : (l : List ℕ) → length l ≤ 200 → reading l ≡ first-of forms l
 unfolding reading
 reading-short l h = rw (le-ltb 200 (length l) h)
 
 -- a record in its ranges reads back from its text
-pub text-reads : (r : Record) → inRange r ≡ true → reading (text r) ≡ Got r
+pub text-reads : (r : Record) → in-range r ≡ true → reading (text r) ≡ Got r
 text-reads r h = reading-short (text r) (text-most r) ∙ held-text r h
 
 -- what reads as a record is that record's text, and its numbers are in their ranges
@@ -30,12 +30,12 @@ pub read-text : (l : List ℕ) (r : Record) → reading l ≡ Got r → Is l r
 unfolding reading
 read-text l r e = go (ltb 200 (length l)) e
   where
-    go : (t : Bool) → cond t (Refusal 16) (firstOf forms l) ≡ Got r → Is l r
+    go : (t : Bool) → cond t (Refusal 16) (first-of forms l) ≡ Got r → Is l r
     go true q = let y : _≡_ {A = ℕ} 0 1 = cc in absurd (omega arith)
     go false q = held-is l r q
 
 -- no two records share a text
-pub text-once : (r s : Record) → inRange r ≡ true → inRange s ≡ true → text r ≡ text s → r ≡ s
+pub text-once : (r s : Record) → in-range r ≡ true → in-range s ≡ true → text r ≡ text s → r ≡ s
 text-once r s h k e = let p : Got r ≡ Got s = sym (text-reads r h) ∙ ap reading e ∙ text-reads s k in cc
 
 -- no two texts read as one record
@@ -48,13 +48,13 @@ pub refused : (l : List ℕ) (n : ℕ) → reading l ≡ Refusal n
 unfolding reading
 refused l n e = go (ltb 200 (length l)) refl e
   where
-    go : (t : Bool) → ltb 200 (length l) ≡ t → cond t (Refusal 16) (firstOf forms l) ≡ Refusal n → ((n ≡ 16) × (200 < length l)) ⊎ ((n ≡ 17) × (length l ≤ 200) × ((r : Record) → Is l r → ⊥))
+    go : (t : Bool) → ltb 200 (length l) ≡ t → cond t (Refusal 16) (first-of forms l) ≡ Refusal n → ((n ≡ 16) × (200 < length l)) ⊎ ((n ≡ 17) × (length l ≤ 200) × ((r : Record) → Is l r → ⊥))
     go true f q = let y : 16 ≡ n = cc in inl (sym y, ltb-true 200 (length l) f)
     go false f q = inr (held-number l n q, ltb-false 200 (length l) f, λ r p. other r p)
       where
         other : (r : Record) → Is l r → ⊥
         other r p =
-            let z : Refusal n ≡ Got r = sym q ∙ ap (firstOf forms) (p .1) ∙ held-text r (p .0) in
+            let z : Refusal n ≡ Got r = sym q ∙ ap (first-of forms) (p .1) ∙ held-text r (p .0) in
             let y : _≡_ {A = ℕ} 0 1 = cc in omega arith
 
 says : (l : List ℕ) → Says l (number (reading l)) (values (reading l))

@@ -45,47 +45,47 @@ numbers (Closed takings claim full) = takings ∷ claim ∷ full ∷ []
 numbers (Tally campaign plays turns age named) = campaign ∷ plays ∷ turns ∷ age ∷ named ∷ []
 
 -- an upper-case letter
-abbrev pub isSlot : ℕ → Bool
-isSlot b = leb 65 b && leb b 90
+abbrev pub is-slot : ℕ → Bool
+is-slot b = leb 65 b && leb b 90
 
 -- the greatest number in each slot: N 4294967295, C 63, R 18, M and S of 64 bits
-abbrev pub slotMax : ℕ → ℕ
-slotMax slot = cond (eqb slot 78) 4294967295 (cond (eqb slot 67) 63 (cond (eqb slot 82) 18 18446744073709551615))
+abbrev pub slot-max : ℕ → ℕ
+slot-max slot = cond (eqb slot 78) 4294967295 (cond (eqb slot 67) 63 (cond (eqb slot 82) 18 18446744073709551615))
 
 -- the range of each slot: up to its greatest number, and R from 1
-unfoldable pub inSlot : ℕ → ℕ → Bool
-inSlot slot n = (not (eqb slot 82) || leb 1 n) && leb n (slotMax slot)
+unfoldable pub in-slot : ℕ → ℕ → Bool
+in-slot slot n = (not (eqb slot 82) || leb 1 n) && leb n (slot-max slot)
 
 -- the names of the set's members below n, rising, with a space before each
-unfoldable pub names : ℕ → ℕ → List ℕ
-names zero set = []
-names (suc i) set = names i set ++ cond (member set i) (32 ∷ numeral i) []
+unfoldable pub names-text : ℕ → ℕ → List ℕ
+names-text zero set = []
+names-text (suc i) set = names-text i set ++ cond (member set i) (32 ∷ numeral i) []
 
 -- the text of the number n in a slot
-unfoldable pub slotText : ℕ → ℕ → List ℕ
-slotText slot n = cond (eqb slot 83) (names 64 n) (numeral n)
+unfoldable pub slot-text : ℕ → ℕ → List ℕ
+slot-text slot n = cond (eqb slot 83) (names-text 64 n) (numeral n)
 
 -- A template is filled from the left: a slot takes the next number, any other byte stands for itself.
 unfoldable pub piece : ℕ → List ℕ → List ℕ
-piece b ns = cond (isSlot b) (slotText b (getD ns 0 0)) (b ∷ [])
+piece b ns = cond (is-slot b) (slot-text b (getD ns 0 0)) (b ∷ [])
 
 -- the numbers that are left after b
-unfoldable pub after : ℕ → List ℕ → List ℕ
-after b ns = cond (isSlot b) (drop 1 ns) ns
+unfoldable pub numbers-after : ℕ → List ℕ → List ℕ
+numbers-after b ns = cond (is-slot b) (drop 1 ns) ns
 
 unfoldable pub filled : List ℕ → List ℕ → List ℕ
 filled [] ns = []
-filled (b ∷ t) ns = piece b ns ++ filled t (after b ns)
+filled (b ∷ t) ns = piece b ns ++ filled t (numbers-after b ns)
 
 -- each number is in the range of its slot
-unfoldable pub inSlots : List ℕ → List ℕ → Bool
-inSlots [] ns = true
-inSlots (b ∷ t) ns = cond (isSlot b) (inSlot b (getD ns 0 0)) true && inSlots t (after b ns)
+unfoldable pub in-slots : List ℕ → List ℕ → Bool
+in-slots [] ns = true
+in-slots (b ∷ t) ns = cond (is-slot b) (in-slot b (getD ns 0 0)) true && in-slots t (numbers-after b ns)
 
 -- the text of a record: its line without the byte 10
 unfoldable pub text : Record → List ℕ
 text r = filled (template r) (numbers r)
 
 -- every number of the record is in its range
-unfoldable pub inRange : Record → Bool
-inRange r = inSlots (template r) (numbers r)
+unfoldable pub in-range : Record → Bool
+in-range r = in-slots (template r) (numbers r)

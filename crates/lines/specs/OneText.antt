@@ -4,7 +4,7 @@ use mathlib.Core.Path.{_≡_}
 use mathlib.Core.Bool.{true}
 use mathlib.Core.List.{List, [], _∷_}
 use lib.ListN.{getD, length}
-use Rattle.lines.specs.Form.{numbers, text, inRange}
+use Rattle.lines.specs.Form.{numbers, text, in-range}
 use Rattle.lines.specs.Reading.{reading}
 use Rattle.lines.specs.declared.Record.{Record}
 use Rattle.lines.specs.declared.Reading.{Reading}
@@ -22,7 +22,7 @@ values (Refusal q) = q ∷ []
 
 -- l is the text of r, whose numbers are in their ranges
 abbrev pub Is : List ℕ → Record → Type 0
-Is l r = (inRange r ≡ true) × (l ≡ text r)
+Is l r = (in-range r ≡ true) × (l ≡ text r)
 
 -- what the number and the values of its reading say of a line
 pub data Says (l : List ℕ) : ℕ → List ℕ → Type 0 where
@@ -34,8 +34,8 @@ pub record One-text : Type 0 where
   pub most : (r : Record) → length (text r) ≤ 200
   -- no byte of a text is 10, the byte that ends a line
   pub plain : (r : Record) (i : ℕ) → getD (text r) i 0 ≡ 10 → ⊥
-  pub reads : (r : Record) → inRange r ≡ true → reading (text r) ≡ Got r
+  pub reads : (r : Record) → in-range r ≡ true → reading (text r) ≡ Got r
   pub is-read : (l : List ℕ) (r : Record) → reading l ≡ Got r → Is l r
-  pub text-once : (r s : Record) → inRange r ≡ true → inRange s ≡ true → text r ≡ text s → r ≡ s
+  pub text-once : (r s : Record) → in-range r ≡ true → in-range s ≡ true → text r ≡ text s → r ≡ s
   pub record-once : (l m : List ℕ) (r : Record) → reading l ≡ Got r → reading m ≡ Got r → l ≡ m
   pub says : (l : List ℕ) → Says l (number (reading l)) (values (reading l))

@@ -4,8 +4,8 @@ ghost use mathlib.Core.Bool.{true};
 ghost use Prim.Native.Nat.{_+_, _*_, _<_, _≤_};
 ghost use lib.Dec.{leb};
 ghost use lib.ListN.{length, drop, getD};
-ghost use Rattle.lines.specs.Form.{slotMax, inSlot};
-ghost use Rattle.lines.specs.Reading.{isDigit, digits, ranged, slotAt, endedOr, heldOr, reading};
+ghost use Rattle.lines.specs.Form.{slot-max, in-slot};
+ghost use Rattle.lines.specs.Reading.{is-digit, digits, ranged, slot-at, ended-or, held-or, reading};
 ghost use Rattle.lines.specs.Place.{place, stripped, Sees};
 
 // One line: an input line (the first five) or an output line. A view is a 64-bit set, bit i standing for campaign i.
@@ -91,7 +91,7 @@ fn behind(s: &[u8], at: usize, word: &[u8]) -> usize
 }
 
 fn is_digit(b: u8) -> bool
-    ensures { λ r. ⌜ r ≡ isDigit b ⌝ }
+    ensures { λ r. ⌜ r ≡ is-digit b ⌝ }
 {
     match b {
         48..=57 => true,
@@ -107,7 +107,7 @@ fn wide(b: u8) -> u64
 
 // The greatest number in a slot: N, C, R, and M for all of 64 bits.
 fn slot_max(slot: u8) -> u64
-    ensures { λ r. ⌜ r ≡ slotMax slot ⌝ }
+    ensures { λ r. ⌜ r ≡ slot-max slot ⌝ }
 {
     match slot {
         b'N' => 4294967295,
@@ -119,7 +119,7 @@ fn slot_max(slot: u8) -> u64
 
 // Whether the number is in the range of the slot. A refusal number is not 0.
 pub fn in_slot(slot: u8, number: u64) -> bool
-    ensures { λ r. ⌜ r ≡ inSlot slot number ⌝ }
+    ensures { λ r. ⌜ r ≡ in-slot slot number ⌝ }
 {
     ((slot != b'R') | (1 <= number)) & (number <= slot_max(slot))
 }
@@ -140,7 +140,7 @@ fn has_room(n: u64, digit: u64, max: u64) -> bool
 
 // The numeral whose first digits, of the value first, end at the place at. A number that leaves the range ends the loop by a jump: the place behind the numeral waits for no number.
 fn more_digits(s: &[u8], at: usize, first: u64, slot: u8) -> Slot
-    requires { ⌜ (length (now s) ≤ 200) × (at ≤ length (now s)) × (1 ≤ first) × (first ≤ slotMax slot) ⌝ }
+    requires { ⌜ (length (now s) ≤ 200) × (at ≤ length (now s)) × (1 ≤ first) × (first ≤ slot-max slot) ⌝ }
     ensures { λ r. ⌜ Sees (now (s .entry)) r (ranged slot (digits first (drop at (now (s .entry))))) ⌝ }
 {
     let mut number = first;
@@ -163,7 +163,7 @@ fn more_digits(s: &[u8], at: usize, first: u64, slot: u8) -> Slot
 // The numeral at the place at, where it is in the range of the slot.
 fn number(s: &[u8], at: usize, slot: u8) -> Slot
     requires { ⌜ (length (now s) ≤ 200) × (slot < 83) ⌝ }
-    ensures { λ r. ⌜ Sees (now (s .entry)) r (slotAt slot (place (now (s .entry)) at)) ⌝ }
+    ensures { λ r. ⌜ Sees (now (s .entry)) r (slot-at slot (place (now (s .entry)) at)) ⌝ }
 {
     if at >= s.len() {
         return missing();
@@ -194,7 +194,7 @@ fn byte(s: &[u8], i: usize) -> u8
 // The names of a view, rising strictly, with a space before each.
 fn names(s: &[u8], at: usize) -> Slot
     requires { ⌜ length (now s) ≤ 200 ⌝ }
-    ensures { λ r. ⌜ Sees (now (s .entry)) r (slotAt 83 (place (now (s .entry)) at)) ⌝ }
+    ensures { λ r. ⌜ Sees (now (s .entry)) r (slot-at 83 (place (now (s .entry)) at)) ⌝ }
 {
     let mut set: u64 = 0;
     let mut i = at;
@@ -224,7 +224,7 @@ fn names(s: &[u8], at: usize) -> Slot
 // The word at the place at, and the slot behind it.
 fn field(s: &[u8], at: usize, word: &[u8], slot: u8) -> Slot
     requires { ⌜ (length (now s) ≤ 200) × (slot ≤ 83) ⌝ }
-    ensures { λ r. ⌜ Sees (now (s .entry)) r (slotAt slot (stripped (now (word .entry)) (place (now (s .entry)) at))) ⌝ }
+    ensures { λ r. ⌜ Sees (now (s .entry)) r (slot-at slot (stripped (now (word .entry)) (place (now (s .entry)) at))) ⌝ }
 {
     let at = behind(s, at, word);
     if slot == b'S' {
@@ -236,7 +236,7 @@ fn field(s: &[u8], at: usize, word: &[u8], slot: u8) -> Slot
 // The record r, where the line ends with the word at the place at.
 fn ended(s: &[u8], at: usize, word: &[u8], r: Record) -> Reading
     requires { ⌜ length (now s) ≤ 200 ⌝ }
-    ensures { λ a. ⌜ a ≡ endedOr (Reading.Refusal 17) (stripped (now (word .entry)) (place (now (s .entry)) at)) r ⌝ }
+    ensures { λ a. ⌜ a ≡ ended-or (Reading.Refusal 17) (stripped (now (word .entry)) (place (now (s .entry)) at)) r ⌝ }
 {
     if behind(s, at, word) == s.len() {
         return Reading::Got(r);
@@ -246,7 +246,7 @@ fn ended(s: &[u8], at: usize, word: &[u8], r: Record) -> Reading
 
 fn read_plan(s: &[u8]) -> Reading
     requires { ⌜ length (now s) ≤ 200 ⌝ }
-    ensures { λ r. ⌜ r ≡ heldOr (Reading.Refusal 17) (Record.Plan 0 0) (now (s .entry)) ⌝ }
+    ensures { λ r. ⌜ r ≡ held-or (Reading.Refusal 17) (Record.Plan 0 0) (now (s .entry)) ⌝ }
 {
     let depth = field(s, 0, b"(plan (depth ", b'N');
     let width = field(s, depth.end, b") (width ", b'N');
@@ -263,7 +263,7 @@ fn read_plan(s: &[u8]) -> Reading
 
 fn read_campaign(s: &[u8]) -> Reading
     requires { ⌜ length (now s) ≤ 200 ⌝ }
-    ensures { λ r. ⌜ r ≡ heldOr (Reading.Refusal 17) (Record.Campaign 0 0) (now (s .entry)) ⌝ }
+    ensures { λ r. ⌜ r ≡ held-or (Reading.Refusal 17) (Record.Campaign 0 0) (now (s .entry)) ⌝ }
 {
     let price = field(s, 0, b"(campaign (price ", b'N');
     let budget = field(s, price.end, b") (budget ", b'N');
@@ -280,7 +280,7 @@ fn read_campaign(s: &[u8]) -> Reading
 
 fn read_play(s: &[u8]) -> Reading
     requires { ⌜ length (now s) ≤ 200 ⌝ }
-    ensures { λ r. ⌜ r ≡ heldOr (Reading.Refusal 17) (Record.Play 0 0) (now (s .entry)) ⌝ }
+    ensures { λ r. ⌜ r ≡ held-or (Reading.Refusal 17) (Record.Play 0 0) (now (s .entry)) ⌝ }
 {
     let campaign = field(s, 0, b"(play ", b'C');
     let paid = field(s, campaign.end, b" (paid ", b'N');
@@ -297,7 +297,7 @@ fn read_play(s: &[u8]) -> Reading
 
 fn read_closed(s: &[u8]) -> Reading
     requires { ⌜ length (now s) ≤ 200 ⌝ }
-    ensures { λ r. ⌜ r ≡ heldOr (Reading.Refusal 17) (Record.Closed 0 0 0) (now (s .entry)) ⌝ }
+    ensures { λ r. ⌜ r ≡ held-or (Reading.Refusal 17) (Record.Closed 0 0 0) (now (s .entry)) ⌝ }
 {
     let takings = field(s, 0, b"(closed (takings ", b'M');
     let claim = field(s, takings.end, b") (claim ", b'M');
@@ -316,7 +316,7 @@ fn read_closed(s: &[u8]) -> Reading
 
 fn read_tally(s: &[u8]) -> Reading
     requires { ⌜ length (now s) ≤ 200 ⌝ }
-    ensures { λ r. ⌜ r ≡ heldOr (Reading.Refusal 17) (Record.Tally 0 0 0 0 0) (now (s .entry)) ⌝ }
+    ensures { λ r. ⌜ r ≡ held-or (Reading.Refusal 17) (Record.Tally 0 0 0 0 0) (now (s .entry)) ⌝ }
 {
     let campaign = field(s, 0, b"(tally ", b'C');
     let plays = field(s, campaign.end, b" (plays ", b'N');

@@ -8,7 +8,7 @@ use native.Mathlib.Numerals.{add-one}
 use lib.Dec.{ltb}
 use lib.ListN.{length, drop, take, getD, set, length-set, length-append}
 use lib.Seq.{take-suc, length-take-le}
-use Rattle.lines.specs.Numeral.{numeralIn, numeral}
+use Rattle.lines.specs.Numeral.{numeral-in, numeral}
 use Rattle.lines.proofs.Numerals.{numeral-more}
 use Rattle.print.specs.Buffer.{over, Put}
 use Rattle.print.proofs.Lengths.{len-more, name-one}
@@ -118,10 +118,10 @@ over-snoc d at w b = over-set (over d at w) (at + length w) b ∙ over-then d at
 
 -- a numeral has a digit, and a second one from 10 on
 pub numeral-some : (n : ℕ) → 0 < length (numeral n)
-unfolding numeral numeralIn
+unfolding numeral numeral-in
 numeral-some n = go (ltb n 10)
   where
-    go : (t : Bool) → 0 < length (cond t ((48 + n) ∷ []) (numeralIn 19 (n / 10) ++ ((48 + n % 10) ∷ [])))
+    go : (t : Bool) → 0 < length (cond t ((48 + n) ∷ []) (numeral-in 19 (n / 10) ++ ((48 + n % 10) ∷ [])))
     go true = omega arith
     go false = rw length-append (omega arith)
 

@@ -5,7 +5,7 @@ ghost use mathlib.Core.List.{_∷_, _++_};
 ghost use Prim.Native.Nat.{_+_, _<_, _≤_};
 ghost use lib.ListN.{length};
 ghost use Rattle.lines.specs.Numeral.{numeral};
-ghost use Rattle.lines.specs.Form.{inSlot, names, slotText};
+ghost use Rattle.lines.specs.Form.{in-slot, names-text, slot-text};
 ghost use Rattle.print.specs.Buffer.{Put};
 
 // Whether numbers are in the ranges of their slots, and the length of a line: as far as its slots are counted.
@@ -35,7 +35,7 @@ fn places(n: u64) -> usize
 
 // How many bytes the names of a set take: 3 for each, and 2 for a name below 10.
 fn names_len(set: u64) -> usize
-    ensures { λ r. ⌜ (r ≡ length (names 64 set)) × (r ≤ 192) ⌝ }
+    ensures { λ r. ⌜ (r ≡ length (names-text 64 set)) × (r ≤ 192) ⌝ }
 {
     let all = sets::count(set);
     let short = sets::count(set % 1024);
@@ -43,7 +43,7 @@ fn names_len(set: u64) -> usize
 }
 
 fn slot_len(slot: u8, n: u64) -> usize
-    ensures { λ r. ⌜ (r ≡ length (slotText slot n)) × (r ≤ 192) ⌝ }
+    ensures { λ r. ⌜ (r ≡ length (slot-text slot n)) × (r ≤ 192) ⌝ }
 {
     if slot == b'S' {
         return names_len(n);
@@ -62,7 +62,7 @@ impl Size {
     // One slot more, in front of those that are counted. `writer::size_of` counts at most five.
     pub fn slot(self, slot: u8, n: u64) -> Size
         requires { ⌜ self .len ≤ 1000 ⌝ }
-        ensures { λ r. ⌜ (r .ok ≡ (inSlot slot n && self .ok)) × (r .len ≡ length (slotText slot n) + self .len) × (r .len ≤ self .len + 192) ⌝ }
+        ensures { λ r. ⌜ (r .ok ≡ (in-slot slot n && self .ok)) × (r .len ≡ length (slot-text slot n) + self .len) × (r .len ≤ self .len + 192) ⌝ }
     {
         Size {
             ok: lines::in_slot(slot, n) & self.ok,
@@ -127,8 +127,8 @@ fn put_name(out: &mut [u8], at: usize, name: u64) -> usize
 
 // The names of a set at the place at: from its least member to the next.
 fn put_names(out: &mut [u8], at: usize, set: u64) -> usize
-    requires { ⌜ at + length (names 64 set) ≤ length (now out) ⌝ }
-    ensures { λ r. ⌜ Put (now (out .entry)) (now (out .exit)) at r (names 64 set) ⌝ }
+    requires { ⌜ at + length (names-text 64 set) ≤ length (now out) ⌝ }
+    ensures { λ r. ⌜ Put (now (out .entry)) (now (out .exit)) at r (names-text 64 set) ⌝ }
 {
     let mut to = at;
     let mut name = sets::next_from(set, 0);
@@ -141,8 +141,8 @@ fn put_names(out: &mut [u8], at: usize, set: u64) -> usize
 
 // The number n as its slot reads, ending at the place to; the forms of `writer` know the room.
 pub fn put_slot(out: &mut [u8], to: usize, slot: u8, n: u64) -> usize
-    requires { ⌜ (length (slotText slot n) ≤ to) × (to ≤ length (now out)) ⌝ }
-    ensures { λ r. ⌜ Put (now (out .entry)) (now (out .exit)) r to (slotText slot n) ⌝ }
+    requires { ⌜ (length (slot-text slot n) ≤ to) × (to ≤ length (now out)) ⌝ }
+    ensures { λ r. ⌜ Put (now (out .entry)) (now (out .exit)) r to (slot-text slot n) ⌝ }
 {
     if slot == b'S' {
         let at = to - names_len(n);
@@ -154,8 +154,8 @@ pub fn put_slot(out: &mut [u8], to: usize, slot: u8, n: u64) -> usize
 
 // A word and the slot behind it; the forms of `writer` know the room.
 pub fn put_field(out: &mut [u8], to: usize, word: &[u8], slot: u8, n: u64) -> usize
-    requires { ⌜ (length (now word) + length (slotText slot n) ≤ to) × (to ≤ length (now out)) ⌝ }
-    ensures { λ r. ⌜ Put (now (out .entry)) (now (out .exit)) r to (now (word .entry) ++ slotText slot n) ⌝ }
+    requires { ⌜ (length (now word) + length (slot-text slot n) ≤ to) × (to ≤ length (now out)) ⌝ }
+    ensures { λ r. ⌜ Put (now (out .entry)) (now (out .exit)) r to (now (word .entry) ++ slot-text slot n) ⌝ }
 {
     let to = put_slot(out, to, slot, n);
     put(out, to, word)

@@ -1,12 +1,12 @@
 -- What measuring a record tells.
 use mathlib.Core.Path.{_≡_}
 use lib.ListN.{length}
-use Rattle.lines.specs.Form.{inRange}
+use Rattle.lines.specs.Form.{in-range}
 use Rattle.lines.specs.declared.Record.{Record}
 use Rattle.print.specs.declared.Size.{Size}
 use Rattle.writer.specs.Writing.{line}
 
 -- z is whether the numbers of r are in their ranges, and the length of its line
 pub record Sized (r : Record) (z : Size) : Type 0 where
-  pub ok : z .ok ≡ inRange r
+  pub ok : z .ok ≡ in-range r
   pub len : z .len ≡ length (line r)

@@ -3,7 +3,7 @@ ghost use mathlib.Core.Path.{_≡_};
 ghost use mathlib.Core.List.{[], _∷_, _++_};
 ghost use Prim.Native.Nat.{_+_, _≤_};
 ghost use lib.ListN.{length};
-ghost use Rattle.lines.specs.Form.{slotText};
+ghost use Rattle.lines.specs.Form.{slot-text};
 ghost use Rattle.print.specs.Buffer.{Put};
 ghost use Rattle.writer.specs.Writing.{line, writing, written};
 ghost use Rattle.writer.specs.Inner.{Sized};
@@ -59,8 +59,8 @@ fn size_of(r: Record) -> Size
 
 // The line of a form with one slot, the last before the closing bracket.
 fn put_one(out: &mut [u8], to: usize, word: &[u8], slot: u8, n: u64) -> usize
-    requires { ⌜ (length (slotText slot n) + (length (now word) + 2) ≤ to) × (to ≤ length (now out)) ⌝ }
-    ensures { λ r. ⌜ Put (now (out .entry)) (now (out .exit)) r to ((now (word .entry) ++ slotText slot n) ++ (41 ∷ 10 ∷ [])) ⌝ }
+    requires { ⌜ (length (slot-text slot n) + (length (now word) + 2) ≤ to) × (to ≤ length (now out)) ⌝ }
+    ensures { λ r. ⌜ Put (now (out .entry)) (now (out .exit)) r to ((now (word .entry) ++ slot-text slot n) ++ (41 ∷ 10 ∷ [])) ⌝ }
 {
     let to = put(out, to, b")\n");
     put_field(out, to, word, slot, n)

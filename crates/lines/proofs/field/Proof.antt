@@ -1,7 +1,7 @@
 use mathlib.Core.Path.{ap, sym, _∙_, subst}
 use Prim.Native.Nat.{ℕ}
 use borrow.Author.Needs.{needs}
-use Rattle.lines.specs.Reading.{slotAt}
+use Rattle.lines.specs.Reading.{slot-at}
 use Rattle.lines.specs.Place.{place, Sees}
 use Rattle.lines.proofs.field.Statement.{statement}
 use Rattle.lines.proofs.field.Tie as tie
@@ -15,9 +15,9 @@ field-spec =
     (λ c.
     let a = c .before .before .before .before .before .args in
     let b = c .before .before .behind in
-    subst (Sees (a .s .now) (c .names .result)) (ap (λ (k : ℕ). slotAt k (place (a .s .now) (b .result))) (sym (c .before .if1 .taken)) ∙ ap (slotAt (a .slot)) (b .ensures)) (c .names .ensures))
+    subst (Sees (a .s .now) (c .names .result)) (ap (λ (k : ℕ). slot-at k (place (a .s .now) (b .result))) (sym (c .before .if1 .taken)) ∙ ap (slot-at (a .slot)) (b .ensures)) (c .names .ensures))
     (λ c κs. search needs)
     (λ c.
     let a = c .before .before .before .before .before .args in
     let b = c .before .before .behind in
-    subst (Sees (a .s .now) (c .number .result)) (ap (slotAt (a .slot)) (b .ensures)) (c .number .ensures)))
+    subst (Sees (a .s .now) (c .number .result)) (ap (slot-at (a .slot)) (b .ensures)) (c .number .ensures)))

@@ -4,8 +4,8 @@ use Prim.Native.Nat.{ℕ, _+_, _*_, _-_, _≤_}
 use native.Mathlib.Omega.{arith}
 use lib.ListN.{length, drop, getD}
 use borrow.Author.Tests.{not-true, not-false, leb-true, leb-false}
-use Rattle.lines.specs.Form.{slotMax}
-use Rattle.lines.specs.Reading.{value, isDigit, digits, ranged}
+use Rattle.lines.specs.Form.{slot-max}
+use Rattle.lines.specs.Reading.{value, is-digit, digits, ranged}
 use Rattle.lines.proofs.Digits.{digit-from, digits-least, max-range, slot-yes, ranged-above}
 use Rattle.lines.proofs.Places.{misses, sees-number, digits-step, digits-stop, digits-end}
 use Rattle.lines.proofs.more_digits.Statement.{statement}
@@ -13,7 +13,7 @@ use Rattle.lines.proofs.more_digits.Tie as tie
 
 abbrev Inv-loop : tie.InvT-loop
 Inv-loop s at first slot number₀ i₀ number i =
-    (i ≤ length s) × (digits number (drop i s) ≡ digits first (drop at s)) × (1 ≤ number) × (number ≤ slotMax slot)
+    (i ≤ length s) × (digits number (drop i s) ≡ digits first (drop at s)) × (1 ≤ number) × (number ≤ slot-max slot)
 
 abbrev μ-loop : tie.MeasureT-loop
 μ-loop s at first slot number₀ i₀ number i = length s - i
@@ -24,12 +24,12 @@ returns c =
     let a = c .before .before .before .before .before .before .args in
     let l = a .s .now in
     let o = c .before .before .before .before .loop in
-    let d : isDigit (getD l (o .i) 0) ≡ false = sym (c .before .is-digit .ensures) ∙ not-true _ (c .if1 .taken) in
+    let d : is-digit (getD l (o .i) 0) ≡ false = sym (c .before .is-digit .ensures) ∙ not-true _ (c .if1 .taken) in
     sees-number l (a .slot) (o .number) (o .i) (digits (a .first) (drop (a .at) l)) (slot-yes (a .slot) (o .number) (o .inv .2) (o .inv .3)) (omega arith)
     (sym (o .inv .1) ∙ digits-stop l (o .i) (o .number) d)
 
 -- the byte is a digit
-digit : (c : tie.Else1 Inv-loop μ-loop) → isDigit (getD (c .before .before .before .before .before .before .args .s .now) (c .before .before .before .before .loop .i) 0) ≡ true
+digit : (c : tie.Else1 Inv-loop μ-loop) → is-digit (getD (c .before .before .before .before .before .before .args .s .now) (c .before .before .before .before .loop .i) 0) ≡ true
 digit c = sym (c .before .is-digit .ensures) ∙ not-false _ (c .if1 .left)
 
 sub-wide : tie.Need-sub-wide Inv-loop μ-loop
@@ -58,12 +58,12 @@ returns-2 c =
 
 -- a further digit fits
 fits : (c : tie.Else2 Inv-loop μ-loop) → let e = c .before .before .before .before in
-    e .before .before .before .before .loop .number * 10 + c .before .before .before .wide .result ≤ slotMax (e .before .before .before .before .before .before .args .slot)
+    e .before .before .before .before .loop .number * 10 + c .before .before .before .wide .result ≤ slot-max (e .before .before .before .before .before .before .args .slot)
 fits c =
     let m = c .before .before .slot-max in
     omega (arith, leb-true _ (m .result) (sym (c .before .has-room .ensures) ∙ not-false _ (c .if2 .left)), m .ensures)
 
-small : (c : tie.Else2 Inv-loop μ-loop) → slotMax (c .before .before .before .before .before .before .before .before .before .before .args .slot) ≤ 18446744073709551615
+small : (c : tie.Else2 Inv-loop μ-loop) → slot-max (c .before .before .before .before .before .before .before .before .before .before .args .slot) ≤ 18446744073709551615
 small c = omega (arith, max-range (c .before .before .before .before .before .before .before .before .before .before .args .slot))
 
 loop-again : tie.Need-loop-again Inv-loop μ-loop

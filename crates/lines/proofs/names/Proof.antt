@@ -8,15 +8,15 @@ use lib.Dec.{ltb, lit<}
 use lib.ListN.{length, drop, getD, List·getD-eq-default}
 use lib.Pow.{pow-mono, shl-exact}
 use borrow.Author.Tests.{ltb-true, ltb-false}
-use Rattle.lines.specs.Reading.{unseen, joined, slotAt}
+use Rattle.lines.specs.Reading.{unseen, with-name, slot-at}
 use Rattle.lines.specs.Place.{place}
-use Rattle.lines.proofs.Places.{misses, seen-in, seen-out, name-small, joins, joins-not, namesFrom, names-all, names-out, names-stop, names-bad, names-next}
+use Rattle.lines.proofs.Places.{misses, seen-in, seen-out, name-small, joins, joins-not, names-from, names-all, names-out, names-stop, names-bad, names-next}
 use Rattle.lines.proofs.names.Statement.{statement}
 use Rattle.lines.proofs.names.Tie as tie
 
 abbrev Inv-loop : tie.InvT-loop
 Inv-loop s at set₀ i₀ left₀ set i left =
-    (namesFrom left set (place s i) ≡ slotAt 83 (place s at)) × (length s < i → set ≡ 0)
+    (names-from left set (place s i) ≡ slot-at 83 (place s at)) × (length s < i → set ≡ 0)
 
 abbrev μ-loop : tie.MeasureT-loop
 μ-loop s at set₀ i₀ left₀ set i left = left
@@ -34,7 +34,7 @@ returns : tie.Need-returns Inv-loop μ-loop
 returns c =
     let a = c .before .before .before .before .before .args in
     let o = c .before .before .before .loop in
-    names-stop (o .left) (o .set) (a .s .now) (o .i) (c .before .before .loop-test .taken) (slotAt 83 (place (a .s .now) (a .at))) (o .inv .0) (λ p. c .if1 .taken (c .before .byte .ensures ∙ p)) (o .inv .1)
+    names-stop (o .left) (o .set) (a .s .now) (o .i) (c .before .before .loop-test .taken) (slot-at 83 (place (a .s .now) (a .at))) (o .inv .0) (λ p. c .if1 .taken (c .before .byte .ensures ∙ p)) (o .inv .1)
 
 add-number : tie.Need-add-number Inv-loop μ-loop
 add-number c =
@@ -42,7 +42,7 @@ add-number c =
 
 -- what stands behind the space does not join the set
 ends : (c : tie.After-number Inv-loop μ-loop) → let l = c .before .before .before .before .before .before .args .s .now in let o = c .before .before .before .before .loop in
-    joined (o .set) (slotAt 67 (place l (o .i + 1))) ≡ unseen → slotAt 83 (place l (c .before .before .before .before .before .before .args .at)) ≡ unseen
+    with-name (o .set) (slot-at 67 (place l (o .i + 1))) ≡ unseen → slot-at 83 (place l (c .before .before .before .before .before .before .args .at)) ≡ unseen
 ends c q =
     let l = c .before .before .before .before .before .before .args .s .now in
     let o = c .before .before .before .before .loop in
@@ -56,8 +56,8 @@ returns-2 c =
     let l = a .s .now in
     let o = c .before .before .before .before .before .before .before .loop in
     let x = c .before .before .before .number in
-    misses l (c .missing .result) (slotAt 83 (place l (a .at))) (c .missing .ensures .0) (omega (arith, c .missing .ensures .1))
-    (ends (c .before .before .before) (ap (joined (o .set)) (seen-out l (x .result) (slotAt 67 (place l (o .i + 1))) (x .ensures) (c .before .if2 .taken))))
+    misses l (c .missing .result) (slot-at 83 (place l (a .at))) (c .missing .ensures .0) (omega (arith, c .missing .ensures .1))
+    (ends (c .before .before .before) (ap (with-name (o .set)) (seen-out l (x .result) (slot-at 67 (place l (o .i + 1))) (x .ensures) (c .before .if2 .taken))))
 
 shl-bit : tie.Need-shl-bit Inv-loop μ-loop
 shl-bit c =
@@ -79,9 +79,9 @@ returns-3 c =
     let r = place l (o .i + 1) in
     let n = x .result .number in
     let h = c .before .before .before .if2 .left in
-    misses l (c .missing2 .result) (slotAt 83 (place l (a .at))) (c .missing2 .ensures .0) (omega (arith, c .missing2 .ensures .1))
+    misses l (c .missing2 .result) (slot-at 83 (place l (a .at))) (c .missing2 .ensures .0) (omega (arith, c .missing2 .ensures .1))
     (ends (c .before .before .before .before .before)
-    (joins-not (o .set) (slotAt 67 r) n (drop (x .result .end) l) (seen-in l (x .result) (slotAt 67 r) (x .ensures) h) (omega (arith, bit n (name-small l (x .result) r (x .ensures) h)))))
+    (joins-not (o .set) (slot-at 67 r) n (drop (x .result .end) l) (seen-in l (x .result) (slot-at 67 r) (x .ensures) h) (omega (arith, bit n (name-small l (x .result) r (x .ensures) h)))))
 
 -- the name joins the set
 bit-of : (c : tie.Else3 Inv-loop μ-loop) → let n = c .before .before .before .before .number .result .number in ((1 * 2 ^ n) % 18446744073709551616 ≡ 2 ^ n) × (2 ^ n ≤ 2 ^ 63)
@@ -96,12 +96,12 @@ loop-again c =
     let l = c .before .before .before .before .before .before .before .before .before .before .args .s .now in
     let o = c .before .before .before .before .before .before .before .before .loop in
     let x = c .before .before .before .before .number in
-    let s = slotAt 67 (place l (o .i + 1)) in
+    let s = slot-at 67 (place l (o .i + 1)) in
     let b = c .before .before .before .before .before .before .byte in
     let t = c .before .before .before .before .before .if1 .left in
     let h = c .before .before .if2 .left in
     let e = bit-of c .0 in (
-      ap (λ (k : ℕ). namesFrom (o .left - 1) (o .set + k) (place l (x .result .end))) e
+      ap (λ (k : ℕ). names-from (o .left - 1) (o .set + k) (place l (x .result .end))) e
           ∙ sym (names-next (o .left) (o .set) l (o .i) (c .before .before .before .before .before .before .before .loop-test .taken) (inside l (o .i) (b .result) (b .ensures) t) (sym (b .ensures) ∙ t)
           (o .set + 2 ^ x .result .number) (x .result .end) h
           (joins (o .set) s (x .result .number) (drop (x .result .end) l) (seen-in l (x .result) s (x .ensures) h) (omega (arith, e)))) ∙ o .inv .0,
@@ -114,7 +114,7 @@ returns-4 c =
     let a = c .before .before .before .before .args in
     let l = a .s .now in
     let o = c .before .before .loop in
-    misses l (c .missing3 .result) (slotAt 83 (place l (a .at))) (c .missing3 .ensures .0) (omega (arith, c .missing3 .ensures .1))
+    misses l (c .missing3 .result) (slot-at 83 (place l (a .at))) (c .missing3 .ensures .0) (omega (arith, c .missing3 .ensures .1))
     (sym (o .inv .0) ∙ names-out (o .left) (o .set) (place l (o .i)) (omega arith))
 
 pub names-spec : {M : Type 1} → statement M

@@ -3,8 +3,8 @@ use mathlib.Core.Logic.{inl, inr, ⊎-elim}
 use Prim.Native.Nat.{ℕ, _+_}
 use native.Mathlib.Omega.{arith}
 use lib.ListN.{drop}
-use Rattle.lines.specs.Form.{inSlot}
-use Rattle.lines.specs.Reading.{seen, digits, ranged, slotAt}
+use Rattle.lines.specs.Form.{in-slot}
+use Rattle.lines.specs.Reading.{seen, digits, ranged, slot-at}
 use Rattle.lines.specs.Place.{place, Sees}
 use Rattle.lines.proofs.Digits.{max-range, slot-zero, ranged-no}
 use Rattle.lines.proofs.Places.{misses, sees-number, number-end, number-zero, number-lead, number-other}
@@ -16,18 +16,18 @@ returns : tie.Need-returns
 returns c =
     let a = c .before .before .before .args in
     let l = a .s .now in
-    misses l (c .missing .result) (slotAt (a .slot) (place l (a .at))) (c .missing .ensures .0) (omega (arith, c .missing .ensures .1))
+    misses l (c .missing .result) (slot-at (a .slot) (place l (a .at))) (c .missing .ensures .0) (omega (arith, c .missing .ensures .1))
     (number-end (a .slot) l (a .at) (λ p. omega arith) (c .before .if1 .taken))
 
 -- 0 is no refusal number
 returns-2 : tie.Need-returns-2
-unfolding inSlot
+unfolding in-slot
 returns-2 c =
     let a = c .before .before .before .before .before .before .args in
     let l = a .s .now in
-    misses l (c .missing2 .result) (slotAt (a .slot) (place l (a .at))) (c .missing2 .ensures .0) (omega (arith, c .missing2 .ensures .1))
+    misses l (c .missing2 .result) (slot-at (a .slot) (place l (a .at))) (c .missing2 .ensures .0) (omega (arith, c .missing2 .ensures .1))
     (number-zero (a .slot) l (a .at) (λ p. omega arith) (c .before .before .before .before .if1 .left) (c .before .before .match .keys1)
-    ∙ ranged-no (a .slot) 0 (drop (a .at + 1) l) (ap (λ (k : ℕ). inSlot k 0) (c .before .if2 .taken)))
+    ∙ ranged-no (a .slot) 0 (drop (a .at + 1) l) (ap (λ (k : ℕ). in-slot k 0) (c .before .if2 .taken)))
 
 -- 0 alone
 returns-3 : tie.Need-returns-3
@@ -52,7 +52,7 @@ returns-5 : tie.Need-returns-5
 returns-5 c =
     let a = c .before .before .before .before .before .before .args in
     let l = a .s .now in
-    misses l (c .missing3 .result) (slotAt (a .slot) (place l (a .at))) (c .missing3 .ensures .0) (omega (arith, c .missing3 .ensures .1))
+    misses l (c .missing3 .result) (slot-at (a .slot) (place l (a .at))) (c .missing3 .ensures .0) (omega (arith, c .missing3 .ensures .1))
     (number-other (a .slot) l (a .at) (λ p. omega arith) (c .before .before .before .before .if1 .left) (⊎-elim (λ w. inl (omega arith)) (λ w. inr (omega arith)) (c .before .if3 .came)))
 
 pub number-spec : {M : Type 1} → statement M

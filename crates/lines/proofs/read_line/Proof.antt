@@ -10,7 +10,7 @@ use Rattle.lines.specs.declared.Record.the-variants.{Plan, Campaign, Sta
 use Rattle.lines.specs.declared.Reading.{Reading}
 use Rattle.lines.specs.declared.Reading.the-variants.{Refusal}
 use Rattle.lines.specs.Form.{bytes, template}
-use Rattle.lines.specs.Reading.{Rest, some, step, restOf, numbersOf, made, endedOr, heldOr, reading}
+use Rattle.lines.specs.Reading.{Rest, some, step, rest-of, numbers-of, made, ended-or, held-or, reading}
 use Rattle.lines.specs.Place.{place, stripped}
 use Rattle.lines.proofs.Places.{place-start}
 use Rattle.lines.proofs.Choice.{leaves, chosen, first-chosen}
@@ -19,8 +19,8 @@ use Rattle.lines.proofs.read_line.Statement.{statement}
 use Rattle.lines.proofs.read_line.Tie as tie
 
 -- a is what the chosen form f reads
-answers : (l : List ℕ) (f : Record) {a : Reading} → length l ≤ 200 → chosen l ≡ f → a ≡ heldOr (Refusal 17) f l → a ≡ reading l
-answers l f h p q = q ∙ ap (λ (x : Record). heldOr (Refusal 17) x l) (sym p) ∙ sym (first-chosen l) ∙ sym (reading-short l h)
+answers : (l : List ℕ) (f : Record) {a : Reading} → length l ≤ 200 → chosen l ≡ f → a ≡ held-or (Refusal 17) f l → a ≡ reading l
+answers l f h p q = q ∙ ap (λ (x : Record). held-or (Refusal 17) x l) (sym p) ∙ sym (first-chosen l) ∙ sym (reading-short l h)
 
 -- the form is known from the byte at 1, or then from another
 first : (l : List ℕ) {r b : ℕ} → r ≡ getD l 1 0 → r ≡ b → chosen l ≡ leaves b (getD l 4 0) (getD l 6 0)
@@ -31,15 +31,15 @@ last : (b d e : ℕ) → (b ≡ 118 → ⊥) → (b ≡ 112 → ⊥) → (b ≡ 
 last b d e v p c s o n r = simp (ne-eqb b 118 v, ne-eqb b 112 p, ne-eqb b 99 c, ne-eqb b 115 s, ne-eqb b 111 o, ne-eqb b 110 n, ne-eqb b 114 r)
 
 -- a form without slots is its word
-word : (l w : List ℕ) (f : Record) {a : Reading} → a ≡ endedOr (Refusal 17) (stripped w (place l 0)) f → a ≡ endedOr (Refusal 17) (stripped w (some l)) f
-word l w f q = q ∙ ap (λ (x : Rest). endedOr (Refusal 17) (stripped w x) f) (place-start l)
+word : (l w : List ℕ) (f : Record) {a : Reading} → a ≡ ended-or (Refusal 17) (stripped w (place l 0)) f → a ≡ ended-or (Refusal 17) (stripped w (some l)) f
+word l w f q = q ∙ ap (λ (x : Rest). ended-or (Refusal 17) (stripped w x) f) (place-start l)
 
 too-long : tie.Need-returns
 unfolding reading
 too-long c = rw (lt-ltb 200 (length (c .before .before .args .s .now)) (c .if1 .taken))
 
 view : tie.Need-returns-2
-unfolding heldOr template restOf numbersOf step made stripped
+unfolding held-or template rest-of numbers-of step made stripped
 view c =
     let b = c .before .before .before .before in
     let l = b .before .before .before .before .args .s .now in
@@ -63,7 +63,7 @@ play c =
     ) (c .read-play .ensures)
 
 close : tie.Need-returns-5
-unfolding heldOr template restOf numbersOf step made stripped
+unfolding held-or template rest-of numbers-of step made stripped
 close c =
     let l = c .before .before .before .before .before .before .before .before .args .s .now in
     answers l Close (c .before .before .before .before .before .before .if1 .left) (
@@ -89,25 +89,25 @@ campaign c =
     ) (c .read-campaign .ensures)
 
 start : tie.Need-returns-8
-unfolding heldOr template restOf numbersOf step made stripped
+unfolding held-or template rest-of numbers-of step made stripped
 start c =
     let l = c .before .before .before .before .before .before .args .s .now in
     answers l Start (c .before .before .before .before .if1 .left) (first l (c .before .before .before .byte .ensures) (c .before .before .match .keys4)) (word l (bytes "(start)") Start (c .ended3 .ensures))
 
 ok : tie.Need-returns-9
-unfolding heldOr template restOf numbersOf step made stripped
+unfolding held-or template rest-of numbers-of step made stripped
 ok c =
     let l = c .before .before .before .before .before .before .args .s .now in
     answers l Done (c .before .before .before .before .if1 .left) (first l (c .before .before .before .byte .ensures) (c .before .before .match .keys5)) (word l (bytes "(ok)") Done (c .ended4 .ensures))
 
 nobody : tie.Need-returns-10
-unfolding heldOr template restOf numbersOf step made stripped
+unfolding held-or template rest-of numbers-of step made stripped
 nobody c =
     let l = c .before .before .before .before .before .before .args .s .now in
     answers l Nobody (c .before .before .before .before .if1 .left) (first l (c .before .before .before .byte .ensures) (c .before .before .match .keys6)) (word l (bytes "(nobody)") Nobody (c .ended5 .ensures))
 
 refused : tie.Need-returns-11
-unfolding heldOr template restOf numbersOf step made stripped
+unfolding held-or template rest-of numbers-of step made stripped
 refused c =
     let b = c .before .before .before .before in
     let l = b .before .before .before .before .args .s .now in

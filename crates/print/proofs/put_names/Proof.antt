@@ -8,7 +8,7 @@ use lib.ListN.{length, length-append}
 use Rattle.sets.specs.Set.{member, next}
 use Rattle.sets.proofs.Walk.{next-is}
 use Rattle.lines.specs.Numeral.{numeral}
-use Rattle.lines.specs.Form.{names}
+use Rattle.lines.specs.Form.{names-text}
 use Rattle.lines.proofs.NameSets.{names-here}
 use Rattle.print.specs.Buffer.{Put}
 use Rattle.print.proofs.Buffers.{put-none, then}
@@ -18,7 +18,7 @@ use Rattle.print.proofs.put_names.Tie as tie
 
 -- the names of the members below `name` stand
 record Names (out₀ : List ℕ) (at set : ℕ) (out : List ℕ) (to name : ℕ) : Type 0 where
-  stands : Put out₀ out at to (names name set)
+  stands : Put out₀ out at to (names-text name set)
   most : name ≤ 64
   here : name < 64 → member set name ≡ true
 
@@ -29,20 +29,20 @@ abbrev μ-loop : tie.MeasureT-loop
 μ-loop out₀ at set to₀ name₀ out to name = 64 - name
 
 -- the names below a go on to the next member from a on
-steps : {o : List ℕ} {at set : ℕ} {out : List ℕ} {to : ℕ} (a r : ℕ) → a ≤ 64 → r ≡ next set a → Put o out at to (names a set) → Names o at set out to r
+steps : {o : List ℕ} {at set : ℕ} {out : List ℕ} {to : ℕ} (a r : ℕ) → a ≤ 64 → r ≡ next set a → Put o out at to (names-text a set) → Names o at set out to r
 steps {o} {at} {set} {out} {to} a r h e p =
     let n = next-is set a h in
     subst (Names o at set out to) (sym e) (record { stands = subst (Put o out at to) (sym (names-next set a h)) p; most = n .high; here = n .here })
 
 -- the names up to and with a member
-with-name : (set name : ℕ) → member set name ≡ true → names (name + 1) set ≡ names name set ++ (32 ∷ numeral name)
-with-name set name h = ap (λ (k : ℕ). names k set) (add-one name) ∙ names-here name set h
+names-with : (set name : ℕ) → member set name ≡ true → names-text (name + 1) set ≡ names-text name set ++ (32 ∷ numeral name)
+names-with set name h = ap (λ (k : ℕ). names-text k set) (add-one name) ∙ names-here name set h
 
 -- there is room for a name
-room : (set name : ℕ) → name < 64 → member set name ≡ true → length (names name set) + length (32 ∷ numeral name) ≤ length (names 64 set)
+room : (set name : ℕ) → name < 64 → member set name ≡ true → length (names-text name set) + length (32 ∷ numeral name) ≤ length (names-text 64 set)
 room set name h m =
     let e : 63 - name + (name + 1) ≡ 64 = omega arith in
-    omega (arith, ap length (with-name set name m), length-append (names name set) (32 ∷ numeral name), names-less (63 - name) (name + 1) set, ap (λ (k : ℕ). length (names k set)) e)
+    omega (arith, ap length (names-with set name m), length-append (names-text name set) (32 ∷ numeral name), names-less (63 - name) (name + 1) set, ap (λ (k : ℕ). length (names-text k set)) e)
 
 put-name-requires : tie.Need-put-name-requires Inv-loop μ-loop
 put-name-requires c κs =
@@ -58,10 +58,10 @@ loop-again c =
     let h = c .before .before .before .before .before .loop-test .taken in
     let p = c .before .before .before .put-name .ensures in
     steps (o .name + 1) (c .next-from2 .result) (omega arith) (c .next-from2 .ensures)
-    (subst (Put (a .out .now) _ (a .at) _) (sym (with-name (a .set) (o .name) (o .inv .here h))) (then (o .inv .stands) p))
+    (subst (Put (a .out .now) _ (a .at) _) (sym (names-with (a .set) (o .name) (o .inv .here h))) (then (o .inv .stands) p))
 
 loop-holds : tie.Need-loop-holds Inv-loop μ-loop
-unfolding names
+unfolding names-text
 loop-holds c =
     let a = c .before .before .args in
     steps 0 (c .next-from .result) (omega arith) (c .next-from .ensures) (put-none (a .out .now) (a .at))
@@ -90,4 +90,4 @@ put-names-spec =
     let a = c .before .before .before .before .args in
     let o = c .before .loop in
     let e : o .name ≡ 64 = omega (arith, o .inv .most) in
-    subst (Put (a .out .now) _ (a .at) _) (ap (λ (k : ℕ). names k (a .set)) e) (o .inv .stands)))
+    subst (Put (a .out .now) _ (a .at) _) (ap (λ (k : ℕ). names-text k (a .set)) e) (o .inv .stands)))

@@ -2,7 +2,7 @@ use mathlib.Core.Path.{_≡_, refl, sym, subst}
 use Prim.Native.Nat.{ℕ, _+_, _≤_}
 use native.Mathlib.Omega.{arith}
 use lib.ListN.{length}
-use Rattle.lines.specs.Form.{slotText, template, numbers, piece, after, filled}
+use Rattle.lines.specs.Form.{slot-text, template, numbers, piece, numbers-after, filled}
 use Rattle.lines.specs.declared.Record.the-variants.{Campaign}
 use Rattle.print.specs.Buffer.{Put}
 use Rattle.print.proofs.Buffers.{Room, left, last, before}
@@ -14,9 +14,9 @@ use Rattle.writer.proofs.put_campaign.Tie as tie
 -- the length of the line, field by field
 sizes : (price budget : ℕ)
     → length (line (Campaign price budget)) ≡ field "(campaign (price " 78 price + field ") (budget " 78 budget + 3
-unfolding template numbers piece after
+unfolding template numbers piece numbers-after
 sizes price budget =
-    let e : length (line (Campaign price budget)) ≡ length (slotText 78 price) + (length (slotText 78 budget) + 30) =
+    let e : length (line (Campaign price budget)) ≡ length (slot-text 78 price) + (length (slot-text 78 budget) + 30) =
     line-slots (Campaign price budget) in
     omega (arith, e)
 
@@ -25,7 +25,7 @@ room : (c : tie.Start) → let a = c .args in
 room c = let a = c .args in (subst (λ (x : ℕ). x ≤ a .to) (sizes (a .price) (a .budget)) (c .pre .0), c .pre .1)
 
 pub put-campaign-spec : {M : Type 1} → statement M
-unfolding template numbers filled piece after
+unfolding template numbers filled piece numbers-after
 put-campaign-spec =
     tie.close
     (tie.spec

@@ -2,7 +2,7 @@ use mathlib.Core.Path.{_≡_, refl, sym, subst}
 use Prim.Native.Nat.{ℕ, _+_, _≤_}
 use native.Mathlib.Omega.{arith}
 use lib.ListN.{length}
-use Rattle.lines.specs.Form.{slotText, template, numbers, piece, after, filled}
+use Rattle.lines.specs.Form.{slot-text, template, numbers, piece, numbers-after, filled}
 use Rattle.lines.specs.declared.Record.the-variants.{Closed}
 use Rattle.print.specs.Buffer.{Put}
 use Rattle.print.proofs.Buffers.{Room, left, last, before}
@@ -14,9 +14,9 @@ use Rattle.writer.proofs.put_closed.Tie as tie
 -- the length of the line, field by field
 sizes : (takings claim full : ℕ)
     → length (line (Closed takings claim full)) ≡ field "(closed (takings " 77 takings + field ") (claim " 77 claim + field ") (full " 77 full + 3
-unfolding template numbers piece after
+unfolding template numbers piece numbers-after
 sizes takings claim full =
-    let e : length (line (Closed takings claim full)) ≡ length (slotText 77 takings) + (length (slotText 77 claim) + (length (slotText 77 full) + 37)) =
+    let e : length (line (Closed takings claim full)) ≡ length (slot-text 77 takings) + (length (slot-text 77 claim) + (length (slot-text 77 full) + 37)) =
     line-slots (Closed takings claim full) in
     omega (arith, e)
 
@@ -25,7 +25,7 @@ room : (c : tie.Start) → let a = c .args in
 room c = let a = c .args in (subst (λ (x : ℕ). x ≤ a .to) (sizes (a .takings) (a .claim) (a .full)) (c .pre .0), c .pre .1)
 
 pub put-closed-spec : {M : Type 1} → statement M
-unfolding template numbers filled piece after
+unfolding template numbers filled piece numbers-after
 put-closed-spec =
     tie.close
     (tie.spec

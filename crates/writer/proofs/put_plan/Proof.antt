@@ -2,7 +2,7 @@ use mathlib.Core.Path.{_≡_, refl, sym, subst}
 use Prim.Native.Nat.{ℕ, _+_, _≤_}
 use native.Mathlib.Omega.{arith}
 use lib.ListN.{length}
-use Rattle.lines.specs.Form.{slotText, template, numbers, piece, after, filled}
+use Rattle.lines.specs.Form.{slot-text, template, numbers, piece, numbers-after, filled}
 use Rattle.lines.specs.declared.Record.the-variants.{Plan}
 use Rattle.print.specs.Buffer.{Put}
 use Rattle.print.proofs.Buffers.{Room, left, last, before}
@@ -14,9 +14,9 @@ use Rattle.writer.proofs.put_plan.Tie as tie
 -- the length of the line, field by field
 sizes : (depth width : ℕ)
     → length (line (Plan depth width)) ≡ field "(plan (depth " 78 depth + field ") (width " 78 width + 3
-unfolding template numbers piece after
+unfolding template numbers piece numbers-after
 sizes depth width =
-    let e : length (line (Plan depth width)) ≡ length (slotText 78 depth) + (length (slotText 78 width) + 25) =
+    let e : length (line (Plan depth width)) ≡ length (slot-text 78 depth) + (length (slot-text 78 width) + 25) =
     line-slots (Plan depth width) in
     omega (arith, e)
 
@@ -25,7 +25,7 @@ room : (c : tie.Start) → let a = c .args in
 room c = let a = c .args in (subst (λ (x : ℕ). x ≤ a .to) (sizes (a .depth) (a .width)) (c .pre .0), c .pre .1)
 
 pub put-plan-spec : {M : Type 1} → statement M
-unfolding template numbers filled piece after
+unfolding template numbers filled piece numbers-after
 put-plan-spec =
     tie.close
     (tie.spec

@@ -2,7 +2,7 @@ use mathlib.Core.Path.{_≡_, refl, sym, subst}
 use Prim.Native.Nat.{ℕ, _+_, _≤_}
 use native.Mathlib.Omega.{arith}
 use lib.ListN.{length}
-use Rattle.lines.specs.Form.{slotText, template, numbers, piece, after, filled}
+use Rattle.lines.specs.Form.{slot-text, template, numbers, piece, numbers-after, filled}
 use Rattle.lines.specs.declared.Record.the-variants.{Play}
 use Rattle.print.specs.Buffer.{Put}
 use Rattle.print.proofs.Buffers.{Room, left, last, before}
@@ -14,9 +14,9 @@ use Rattle.writer.proofs.put_play.Tie as tie
 -- the length of the line, field by field
 sizes : (campaign paid : ℕ)
     → length (line (Play campaign paid)) ≡ field "(play " 67 campaign + field " (paid " 78 paid + 3
-unfolding template numbers piece after
+unfolding template numbers piece numbers-after
 sizes campaign paid =
-    let e : length (line (Play campaign paid)) ≡ length (slotText 67 campaign) + (length (slotText 78 paid) + 16) =
+    let e : length (line (Play campaign paid)) ≡ length (slot-text 67 campaign) + (length (slot-text 78 paid) + 16) =
     line-slots (Play campaign paid) in
     omega (arith, e)
 
@@ -25,7 +25,7 @@ room : (c : tie.Start) → let a = c .args in
 room c = let a = c .args in (subst (λ (x : ℕ). x ≤ a .to) (sizes (a .campaign) (a .paid)) (c .pre .0), c .pre .1)
 
 pub put-play-spec : {M : Type 1} → statement M
-unfolding template numbers filled piece after
+unfolding template numbers filled piece numbers-after
 put-play-spec =
     tie.close
     (tie.spec

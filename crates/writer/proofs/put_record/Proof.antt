@@ -2,13 +2,13 @@ use mathlib.Core.Path.{_≡_, refl, sym, subst}
 use mathlib.Core.List.{List}
 use Prim.Native.Nat.{ℕ, _+_}
 use lib.ListN.{length}
-use Rattle.lines.specs.Form.{template, numbers, piece, after, filled}
+use Rattle.lines.specs.Form.{template, numbers, piece, numbers-after, filled}
 use Rattle.lines.specs.declared.Record.{Record}
 use Rattle.lines.specs.declared.Record.the-variants.{Start, View, Close, Done, Nobody, Refused}
 use Rattle.print.specs.Buffer.{Put}
 use Rattle.print.proofs.Buffers.{Room}
 use Rattle.writer.specs.Writing.{line}
-use Rattle.writer.proofs.Lines.{ownSize, slotsSize, line-filled, line-slots}
+use Rattle.writer.proofs.Lines.{own-size, slots-size, line-filled, line-slots}
 use Rattle.writer.proofs.put_record.Statement.{statement}
 use Rattle.writer.proofs.put_record.Tie as tie
 
@@ -17,14 +17,14 @@ room : {r s : Record} {m to : ℕ} → r ≡ s → Room m to (length (line r)) �
 room {r} {s} {m} {to} e h = subst (λ (x : Record). Room m to (length (line x))) e h
 
 -- the same, slot by slot
-fits : (s : Record) {r : Record} {m to : ℕ} → r ≡ s → Room m to (length (line r)) → Room m to (slotsSize (template s) (numbers s) (ownSize (template s) + 1))
+fits : (s : Record) {r : Record} {m to : ℕ} → r ≡ s → Room m to (length (line r)) → Room m to (slots-size (template s) (numbers s) (own-size (template s) + 1))
 fits s {r} {m} {to} e h = subst (Room m to) (line-slots s) (room e h)
 
 puts : {r s : Record} {d e : List ℕ} {n to : ℕ} → r ≡ s → Put d e n to (line s) → Put d e n to (line r)
 puts {r} {s} {d} {e} {n} {to} q p = subst (λ (x : Record). Put d e n to (line x)) (sym q) p
 
 pub put-record-spec : {M : Type 1} → statement M
-unfolding template numbers piece after filled
+unfolding template numbers piece numbers-after filled
 put-record-spec =
     tie.close
     (tie.spec

@@ -2,7 +2,7 @@ use mathlib.Core.Path.{_≡_, refl, sym, subst}
 use Prim.Native.Nat.{ℕ, _+_, _≤_}
 use native.Mathlib.Omega.{arith}
 use lib.ListN.{length}
-use Rattle.lines.specs.Form.{slotText, template, numbers, piece, after, filled}
+use Rattle.lines.specs.Form.{slot-text, template, numbers, piece, numbers-after, filled}
 use Rattle.lines.specs.declared.Record.the-variants.{Tally}
 use Rattle.print.specs.Buffer.{Put}
 use Rattle.print.proofs.Buffers.{Room, left, last, before}
@@ -14,9 +14,9 @@ use Rattle.writer.proofs.put_tally.Tie as tie
 -- the length of the line, field by field
 sizes : (campaign plays turns age named : ℕ)
     → length (line (Tally campaign plays turns age named)) ≡ field "(tally " 67 campaign + field " (plays " 78 plays + field ") (turns " 78 turns + field ") (age " 78 age + field ") (named " 78 named + 3
-unfolding template numbers piece after
+unfolding template numbers piece numbers-after
 sizes campaign plays turns age named =
-    let e : length (line (Tally campaign plays turns age named)) ≡ length (slotText 67 campaign) + (length (slotText 78 plays) + (length (slotText 78 turns) + (length (slotText 78 age) + (length (slotText 78 named) + 43)))) =
+    let e : length (line (Tally campaign plays turns age named)) ≡ length (slot-text 67 campaign) + (length (slot-text 78 plays) + (length (slot-text 78 turns) + (length (slot-text 78 age) + (length (slot-text 78 named) + 43)))) =
     line-slots (Tally campaign plays turns age named) in
     omega (arith, e)
 
@@ -25,7 +25,7 @@ room : (c : tie.Start) → let a = c .args in
 room c = let a = c .args in (subst (λ (x : ℕ). x ≤ a .to) (sizes (a .campaign) (a .plays) (a .turns) (a .age) (a .named)) (c .pre .0), c .pre .1)
 
 pub put-tally-spec : {M : Type 1} → statement M
-unfolding template numbers filled piece after
+unfolding template numbers filled piece numbers-after
 put-tally-spec =
     tie.close
     (tie.spec

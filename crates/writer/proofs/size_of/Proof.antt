@@ -5,11 +5,11 @@ use native.Mathlib.Omega.{arith}
 use lib.Dec.{leb}
 use lib.ListN.{length}
 use borrow.Author.Tests.{leb-true}
-use Rattle.lines.specs.Form.{inSlot, slotText, template, numbers, piece, after, inSlots, inRange}
+use Rattle.lines.specs.Form.{in-slot, slot-text, template, numbers, piece, numbers-after, in-slots, in-range}
 use Rattle.lines.specs.declared.Record.{Record}
 use Rattle.print.specs.declared.Size.{Size}
 use Rattle.writer.specs.Inner.{Sized}
-use Rattle.writer.proofs.Lines.{ownSize, slotsSize, line-slots}
+use Rattle.writer.proofs.Lines.{own-size, slots-size, line-slots}
 use Rattle.writer.proofs.size_of.Statement.{statement}
 use Rattle.writer.proofs.size_of.Tie as tie
 
@@ -19,13 +19,13 @@ Counts z ok len = (z .ok ≡ ok) × (z .len ≡ len)
 
 -- what Size::slot makes of z
 abbrev Slot : Size → ℕ → ℕ → Size → Type 0
-Slot z slot n y = (y .ok ≡ (inSlot slot n && z .ok)) × (y .len ≡ length (slotText slot n) + z .len) × (y .len ≤ z .len + 192)
+Slot z slot n y = (y .ok ≡ (in-slot slot n && z .ok)) × (y .len ≡ length (slot-text slot n) + z .len) × (y .len ≤ z .len + 192)
 
-and-slot : (slot n : ℕ) {z y : Size} {ok : Bool} {len : ℕ} → Slot z slot n y → Counts z ok len → Counts y (inSlot slot n && ok) (length (slotText slot n) + len)
-and-slot slot n p q = (p .0 ∙ ap (λ (x : Bool). inSlot slot n && x) (q .0), p .1 ∙ ap (λ (x : ℕ). length (slotText slot n) + x) (q .1))
+and-slot : (slot n : ℕ) {z y : Size} {ok : Bool} {len : ℕ} → Slot z slot n y → Counts z ok len → Counts y (in-slot slot n && ok) (length (slot-text slot n) + len)
+and-slot slot n p q = (p .0 ∙ ap (λ (x : Bool). in-slot slot n && x) (q .0), p .1 ∙ ap (λ (x : ℕ). length (slot-text slot n) + x) (q .1))
 
 -- z is the size of r, which is s
-sized : {r s : Record} {z : Size} → r ≡ s → Counts z (inRange s) (slotsSize (template s) (numbers s) (ownSize (template s) + 1)) → Sized r z
+sized : {r s : Record} {z : Size} → r ≡ s → Counts z (in-range s) (slots-size (template s) (numbers s) (own-size (template s) + 1)) → Sized r z
 sized {r} {s} {z} e p = subst (λ (x : Record). Sized x z) (sym e) (record { ok = p .0; len = p .1 ∙ sym (line-slots s) })
 
 -- A slot is asked for while few bytes are counted.
@@ -39,7 +39,7 @@ few : {a m : ℕ} → leb m 1000 ≡ true → a ≤ m → a ≤ 1000
 few {a} {m} h p = omega (arith, leb-true m 1000 h)
 
 pub size-of-spec : {M : Type 1} → statement M
-unfolding template numbers piece after inSlots inRange
+unfolding template numbers piece numbers-after in-slots in-range
 size-of-spec =
     tie.close
     (tie.spec

@@ -7,7 +7,7 @@ use lib.Dec.{leb}
 use lib.ListN.{length}
 use borrow.Author.Needs.{needs}
 use borrow.Author.Tests.{le-leb, lt-leb, not-true, not-false}
-use Rattle.lines.specs.Form.{inRange}
+use Rattle.lines.specs.Form.{in-range}
 use Rattle.lines.specs.declared.Record.{Record}
 use Rattle.writer.specs.declared.Writing.the-variants.{Length, Refusal}
 use Rattle.print.specs.declared.Size.{Size}
@@ -22,19 +22,19 @@ use Rattle.writer.proofs.write_line.Tie as tie
 module _ (r : Record) (z : Size) (d : List ℕ) (p : Sized r z) where
   out-of-range : z .ok ≡ false → (Refusal 17 ≡ writing r d) × (d ≡ written r d)
   unfolding writing written question
-  out-of-range h = let e : inRange r ≡ false = sym (p .ok) ∙ h in (rw e, rw e)
+  out-of-range h = let e : in-range r ≡ false = sym (p .ok) ∙ h in (rw e, rw e)
 
   no-room : z .ok ≡ true → length d < z .len → (Refusal 18 ≡ writing r d) × (d ≡ written r d)
   unfolding writing written question
   no-room h l =
-      let e : inRange r ≡ true = sym (p .ok) ∙ h in
+      let e : in-range r ≡ true = sym (p .ok) ∙ h in
       let f : leb (length (line r)) (length d) ≡ false = lt-leb (length (line r)) (length d) (omega (arith, p .len)) in
       (rw (e, f), rw (e, f))
 
   wrote : {out : List ℕ} {at : ℕ} → z .ok ≡ true → z .len ≤ length d → Put d out at (z .len) (line r) → (Length (z .len) ≡ writing r d) × (out ≡ written r d)
   unfolding writing written question
   wrote {out} {at} h l q =
-      let e : inRange r ≡ true = sym (p .ok) ∙ h in
+      let e : in-range r ≡ true = sym (p .ok) ∙ h in
       let b : length (line r) ≤ length d = omega (arith, p .len) in
       let f : leb (length (line r)) (length d) ≡ true = le-leb (length (line r)) (length d) b in
       let front : at ≡ 0 = omega (arith, p .len, q .next) in
