@@ -10,10 +10,11 @@ use lib.ListN.{length, getD}
 use Rattle.lines.specs.declared.Record.{Record}
 use Rattle.lines.specs.declared.Record.the-variants.{Plan, Campaign, Start, View, Close, Done, Play, Nobody, Refused, Closed, Tally}
 use Rattle.lines.specs.declared.Reading.the-variants.{Got, Refusal}
-use Rattle.lines.specs.Form.{template, numbers, piece, numbers-after, filled, in-slots, text, in-range}
+use Rattle.lines.specs.Limits.{max-line, max-answer}
+use Rattle.lines.specs.Form.{is-output, template, numbers, piece, numbers-after, filled, in-slots, text, in-range}
 use Rattle.lines.specs.OneText.{Is}
 use Rattle.lines.specs.Reading.{Rest, none, some, is-digit, rest-of, numbers-of, made, is-end, ended-or, held-or, forms, first-of}
-use Rattle.lines.proofs.Digits.{apart}
+use Rattle.lines.proofs.Digits.{clash, apart}
 use Rattle.lines.proofs.Templates.{fair, taken, most, sound, complete, filled-most}
 use Rattle.lines.proofs.Plain.{plain, plain-at, filled-plain}
 
@@ -60,10 +61,10 @@ all-forms =
     (form (λ _. refl, λ _. refl, λ _. refl)
     (form (λ _. refl, λ _. refl, λ _. refl) done)))))))))))
 
--- each slot of r's template can be told from what follows, no text of it is over 200 bytes, and r is made from its form and its numbers; the bytes of its text choose its form; no byte of its template is 10
+-- each slot of r's template can be told from what follows, no text of it is longer than a line, and r is made from its form and its numbers; the bytes of its text choose its form; no byte of its template is 10
 abbrev Known : Record → Type 0
 Known r =
-    (fair (template r) ≡ true) × (most (template r) ≤ 200) × (template (made r []) ≡ template r)
+    (fair (template r) ≡ true) × (most (template r) ≤ max-line) × (template (made r []) ≡ template r)
     × (made (made r []) (taken (template r) (numbers r)) ≡ r) × (chosen (text r) ≡ made r []) × (plain (template r) ≡ true)
 
 known : (r : Record) → Known r
@@ -80,10 +81,29 @@ known (Refused _) = (refl, lit≤ tt, refl, refl, refl, refl)
 known (Closed _ _ _) = (refl, lit≤ tt, refl, refl, refl, refl)
 known (Tally _ _ _ _ _) = (refl, lit≤ tt, refl, refl, refl, refl)
 
--- the text of a record has at most 200 bytes
-pub text-most : (r : Record) → length (text r) ≤ 200
+-- the text of a record is no longer than a line that is read
+pub text-most : (r : Record) → length (text r) ≤ max-line
 unfolding text
 text-most r = le-trans (filled-most (template r) (numbers r)) (known r .1)
+
+-- and that of an output form no longer than an answer
+answer-template : (r : Record) → is-output r ≡ true → most (template r) ≤ max-answer
+unfolding template
+answer-template (Plan _ _) h = apart h
+answer-template (Campaign _ _) h = apart h
+answer-template Start h = apart h
+answer-template (View _) h = apart h
+answer-template Close h = apart h
+answer-template Done h = lit≤ tt
+answer-template (Play _ _) h = lit≤ tt
+answer-template Nobody h = lit≤ tt
+answer-template (Refused _) h = lit≤ tt
+answer-template (Closed _ _ _) h = lit≤ tt
+answer-template (Tally _ _ _ _ _) h = lit≤ tt
+
+pub answer-most : (r : Record) → is-output r ≡ true → length (text r) ≤ max-answer
+unfolding text
+answer-most r h = le-trans (filled-most (template r) (numbers r)) (answer-template r h)
 
 -- the text of a record has no byte 10
 pub text-plain : (r : Record) (i : ℕ) → getD (text r) i 0 ≡ 10 → ⊥
@@ -199,7 +219,7 @@ held-is l r h = go (fills (chosen l) l) refl (sym (first-chosen l) ∙ h)
         subst (Is l) y (read-is (chosen l) l (form-of all-forms (chosen-in l)) e)
     go false e q =
         let z : Refusal 17 ≡ Got r = ap (λ (t : Bool). cond t (Got (read (chosen l) l)) (Refusal 17)) (sym e) ∙ q in
-        let y : _≡_ {A = ℕ} 0 1 = cc in absurd (omega arith)
+        clash (cc)
 
 pub held-text : (r : Record) → in-range r ≡ true → first-of forms (text r) ≡ Got r
 unfolding held-or ended-or
@@ -214,5 +234,5 @@ unfolding held-or ended-or
 held-number l n h = go (fills (chosen l) l) (sym (first-chosen l) ∙ h)
   where
     go : (t : Bool) → cond t (Got (read (chosen l) l)) (Refusal 17) ≡ Refusal n → n ≡ 17
-    go true q = let y : _≡_ {A = ℕ} 0 1 = cc in absurd (omega arith)
+    go true q = clash (cc)
     go false q = let y : 17 ≡ n = cc in sym y

@@ -1,4 +1,5 @@
--- Laws of digits and of the slots' ranges.
+-- Laws of digits and of the slots' ranges, and two ways out of what cannot be.
+-- Each law on a test splits on that test; the ranges go by the slots' letters, one row for each.
 use mathlib.Core.Path.{_≡_, refl, sym, ap, _∙_}
 use mathlib.Core.Bool.{Bool, true, false, cond, not, _&&_, _||_}
 use mathlib.Core.List.{List, [], _∷_}
@@ -7,11 +8,15 @@ use native.Mathlib.Omega.{arith}
 use lib.Dec.{leb, eqb}
 use borrow.Author.Tests.{leb-true, leb-false, le-leb, lt-leb, eqb-true, eqb-false, ne-eqb}
 use Rattle.finite.proofs.Tests.{both-left, both-right}
-use Rattle.lines.specs.Form.{slot-max, in-slot}
+use Rattle.lines.specs.Limits.{max-input, max-output, max-campaign, max-question, max-u64}
+use Rattle.lines.specs.Form.{input-slot, output-slot, campaign-slot, refusal-slot, slot-max, in-slot}
 use Rattle.lines.specs.Reading.{Seen, seen, unseen, value, is-digit, digits, ranged}
 
+pub clash : {A : Type 0} → _≡_ {A = ℕ} 0 1 → A
+clash h = absurd (omega arith)
+
 pub apart : {A : Type 0} → false ≡ true → A
-apart h = let z : _≡_ {A = ℕ} 0 1 = cc in absurd (omega arith)
+apart h = clash (cc)
 
 pub digit-yes : (b : ℕ) → 48 ≤ b → b ≤ 57 → is-digit b ≡ true
 unfolding is-digit
@@ -50,32 +55,35 @@ digits-least (b ∷ l) a = go (is-digit b) (digits-least l (a * 10 + (b - 48)))
 
 -- every slot has room for a digit, and stays within 64 bits
 pub max-range : (slot : ℕ) → (9 ≤ slot-max slot) × (slot-max slot < 2 ^ 64)
-max-range slot = go (eqb slot 78) (eqb slot 67) (eqb slot 82)
+max-range slot = go (eqb slot input-slot) (eqb slot output-slot) (eqb slot campaign-slot) (eqb slot refusal-slot)
   where
-    go : (x y z : Bool) → let m : ℕ = cond x 4294967295 (cond y 63 (cond z 18 18446744073709551615)) in (9 ≤ m) × (m < 2 ^ 64)
-    go true y z = (omega arith, omega arith)
-    go false true z = (omega arith, omega arith)
-    go false false true = (omega arith, omega arith)
-    go false false false = (omega arith, omega arith)
+    go : (i n c r : Bool)
+        → let m : ℕ = cond i max-input (cond n max-output (cond c max-campaign (cond r max-question max-u64))) in
+        (9 ≤ m) × (m < 2 ^ 64)
+    go true n c r = (omega arith, omega arith)
+    go false true c r = (omega arith, omega arith)
+    go false false true r = (omega arith, omega arith)
+    go false false false true = (omega arith, omega arith)
+    go false false false false = (omega arith, omega arith)
 
 pub slot-most : (slot n : ℕ) → in-slot slot n ≡ true → n ≤ slot-max slot
 unfolding in-slot
-slot-most slot n h = leb-true n (slot-max slot) (both-right (not (eqb slot 82) || leb 1 n) (leb n (slot-max slot)) h)
+slot-most slot n h = leb-true n (slot-max slot) (both-right (not (eqb slot refusal-slot) || leb 1 n) (leb n (slot-max slot)) h)
 
 pub slot-small : (slot n : ℕ) → in-slot slot n ≡ true → n < 2 ^ 64
 slot-small slot n h = omega (arith, slot-most slot n h, max-range slot)
 
 pub slot-yes : (slot n : ℕ) → 1 ≤ n → n ≤ slot-max slot → in-slot slot n ≡ true
 unfolding in-slot
-slot-yes slot n h m = go (not (eqb slot 82))
+slot-yes slot n h m = go (not (eqb slot refusal-slot))
   where
     go : (t : Bool) → ((t || leb 1 n) && leb n (slot-max slot)) ≡ true
     go true = le-leb n (slot-max slot) m
     go false = simp (le-leb 1 n h) (le-leb n (slot-max slot) m)
 
-pub slot-zero : (slot : ℕ) → (slot ≡ 82 → ⊥) → in-slot slot 0 ≡ true
+pub slot-zero : (slot : ℕ) → (slot ≡ refusal-slot → ⊥) → in-slot slot 0 ≡ true
 unfolding in-slot
-slot-zero slot h = ap (λ (t : Bool). (not t || leb 1 0) && leb 0 (slot-max slot)) (ne-eqb slot 82 h) ∙ le-leb 0 (slot-max slot) (omega arith)
+slot-zero slot h = ap (λ (t : Bool). (not t || leb 1 0) && leb 0 (slot-max slot)) (ne-eqb slot refusal-slot h) ∙ le-leb 0 (slot-max slot) (omega arith)
 
 pub ranged-yes : (slot n : ℕ) (l : List ℕ) → in-slot slot n ≡ true → ranged slot (seen n l) ≡ seen n l
 ranged-yes slot n l e = simp e

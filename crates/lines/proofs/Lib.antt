@@ -1,5 +1,6 @@
 pub mod Digits
 pub mod Places
+pub mod Fields
 pub mod Numerals
 pub mod NameSets
 pub mod Templates

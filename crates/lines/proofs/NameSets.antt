@@ -13,7 +13,7 @@ use Rattle.sets.specs.Set.{member}
 use Rattle.lines.specs.Numeral.{numeral}
 use Rattle.lines.specs.Form.{in-slot, names-text}
 use Rattle.lines.specs.Reading.{Seen, seen, unseen, is-digit, numeral-at, ranged, with-name, and-then, names-at}
-use Rattle.lines.proofs.Digits.{ranged-yes}
+use Rattle.lines.proofs.Digits.{clash, ranged-yes}
 use Rattle.lines.proofs.Numerals.{stops, numeral-one, numeral-more, numeral-sound, numeral-back}
 
 -- Members of a sum of powers of two.
@@ -91,7 +91,7 @@ same-set v l u m h e = let a : v ≡ u = cc in let b : l ≡ m = cc in (ap₂ (�
 
 names-sound : (k v : ℕ) (l : List ℕ) (u : ℕ) (m : List ℕ) → v < 2 ^ 64 → names-at k v l ≡ seen u m → Read v l u m
 unfolding names-at
-names-sound zero v l u m h e = let y : _≡_ {A = ℕ} 0 1 = cc in absurd (omega arith)
+names-sound zero v l u m h e = clash (cc)
 names-sound (suc k) v [] u m h e = same-set v [] u m h e
 names-sound (suc k) v (b ∷ l) u m h e = go (eqb b 32) refl e (λ x l′. names-sound k x l′ u m)
   where
@@ -101,14 +101,14 @@ names-sound (suc k) v (b ∷ l) u m h e = go (eqb b 32) refl e (λ x l′. names
     go true q e ih = by (numeral-at l) refl e
       where
         by : (s : Seen) → numeral-at l ≡ s → and-then (with-name v (ranged 67 s)) (names-at k) ≡ seen u m → Read v (b ∷ l) u m
-        by unseen p e = let y : _≡_ {A = ℕ} 0 1 = cc in absurd (omega arith)
+        by unseen p e = clash (cc)
         by (seen n l′) p e = rises (in-slot 67 n) (ltb v (2 ^ n)) refl refl e
           where
             rises : (x t : Bool) → in-slot 67 n ≡ x → ltb v (2 ^ n) ≡ t → and-then (with-name v (cond x (seen n l′) unseen)) (names-at k) ≡ seen u m → Read v (b ∷ l) u m
-            rises false t f g e = let y : _≡_ {A = ℕ} 0 1 = cc in absurd (omega arith)
+            rises false t f g e = clash (cc)
             rises true false f g e =
                 let z : unseen ≡ seen u m = ap (λ (t : Bool). and-then (cond t (seen (v + 2 ^ n) l′) unseen) (names-at k)) (sym g) ∙ e in
-                let y : _≡_ {A = ℕ} 0 1 = cc in absurd (omega arith)
+                clash (cc)
             rises true true f g e =
                 let low : v < 2 ^ n = ltb-true v (2 ^ n) g in
                 let sm : n < 64 = name-below n f in

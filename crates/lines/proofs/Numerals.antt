@@ -11,7 +11,7 @@ use borrow.Author.Tests.{ltb-true, ltb-false, lt-ltb, le-ltb, leb-true, le-leb, 
 use Rattle.finite.proofs.Tests.{both-left, both-right}
 use Rattle.lines.specs.Numeral.{numeral-in, numeral}
 use Rattle.lines.specs.Reading.{seen, unseen, value, is-digit, digits, numeral-at}
-use Rattle.lines.proofs.Digits.{apart, digit-yes, digit-from, digits-least}
+use Rattle.lines.proofs.Digits.{clash, apart, digit-yes, digit-from, digits-least}
 
 -- Digit by digit.
 
@@ -79,7 +79,7 @@ digits-sound (c ∷ l) a n m h b e = go (is-digit c) refl e (λ k p q. digits-so
 
 pub numeral-sound : (l : List ℕ) (n : ℕ) (m : List ℕ) → n < 2 ^ 64 → numeral-at l ≡ seen n m → l ≡ numeral n ++ m
 unfolding numeral-at
-numeral-sound [] n m b e = let y : _≡_ {A = ℕ} 0 1 = cc in absurd (omega arith)
+numeral-sound [] n m b e = clash (cc)
 numeral-sound (c ∷ l) n m b e = go (eqb c 48) (is-digit c) refl refl e
   where
     go : (z t : Bool) → eqb c 48 ≡ z → is-digit c ≡ t → cond z (seen 0 l) (cond t (digits (c - 48) l) unseen) ≡ seen n m → c ∷ l ≡ numeral n ++ m
@@ -93,7 +93,7 @@ numeral-sound (c ∷ l) n m b e = go (eqb c 48) (is-digit c) refl refl e
         let d : 48 + (c - 48) ≡ c = omega arith in
         ap (λ (x : ℕ). x ∷ l) (sym d) ∙ ap (λ (x : List ℕ). x ++ l) (sym (numeral-one (c - 48) (omega arith)))
         ∙ digits-sound l (c - 48) n m (omega (arith, eqb-false c 48 ez)) b q
-    go false false ez et q = let y : _≡_ {A = ℕ} 0 1 = cc in absurd (omega arith)
+    go false false ez et q = clash (cc)
 
 -- The numeral is read as its number.
 

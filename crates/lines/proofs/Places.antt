@@ -11,12 +11,12 @@ use lib.ListN.{length, drop, getD, drop-of-length-le}
 use lib.Seq.{drop-cons, drop-length}
 use borrow.Author.Tests.{lt-ltb, le-ltb, le-leb, lt-leb, leb-true, leb-false, eq-eqb, ne-eqb}
 use Rattle.lines.specs.Form.{in-slot}
-use Rattle.lines.specs.declared.Slot.{Slot}
+use Rattle.lines.specs.declared.scan.Slot.{Slot}
 use Rattle.lines.specs.declared.Record.{Record}
 use Rattle.lines.specs.declared.Reading.the-variants.{Got, Refusal}
 use Rattle.lines.specs.Reading.{Rest, none, some, Seen, seen, unseen, value, behind, is-digit, digits, numeral-at, ranged, with-name, and-then, names-at, slot-at, strip, is-end, ended-or}
-use Rattle.lines.specs.Place.{place, stripped, Sees}
-use Rattle.lines.proofs.Digits.{digit-yes, digit-below, digit-above, ranged-yes}
+use Rattle.lines.specs.Contracts.{place, stripped, Sees}
+use Rattle.lines.proofs.Digits.{clash, digit-yes, digit-below, digit-above, ranged-yes}
 
 pub place-in : (l : List ℕ) (at : ℕ) → at ≤ length l → place l at ≡ some (drop at l)
 unfolding place
@@ -108,13 +108,13 @@ module _ (l : List ℕ) (x : Slot) (s : Seen) where
       where
         go : (s : Seen) → none ≡ behind s → s ≡ unseen
         go unseen e = refl
-        go (seen n m) e = let y : _≡_ {A = ℕ} 0 1 = cc in absurd (omega arith)
+        go (seen n m) e = clash (cc)
 
     pub seen-in : x .end ≤ length l → s ≡ seen (x .number) (drop (x .end) l)
     seen-in h = go s (p .number) (sym (place-in l (x .end) h) ∙ p .end)
       where
         go : (s : Seen) → x .number ≡ value s → some (drop (x .end) l) ≡ behind s → s ≡ seen (x .number) (drop (x .end) l)
-        go unseen a e = let y : _≡_ {A = ℕ} 0 1 = cc in absurd (omega arith)
+        go unseen a e = clash (cc)
         go (seen n m) a e = cc
 
 -- Digits.
@@ -184,16 +184,16 @@ module _ (slot : ℕ) (l : List ℕ) (at : ℕ) where
 -- the number that is seen in a slot is in its range
 pub slot-range : (slot : ℕ) (r : Rest) (n : ℕ) (m : List ℕ) → (slot ≡ 83 → ⊥) → slot-at slot r ≡ seen n m → in-slot slot n ≡ true
 unfolding slot-at
-slot-range slot none n m h e = let y : _≡_ {A = ℕ} 0 1 = cc in absurd (omega arith)
+slot-range slot none n m h e = clash (cc)
 slot-range slot (some l) n m h e = go (numeral-at l) (sym (slot-number slot l 0 h l) ∙ e)
   where
     go : (s : Seen) → ranged slot s ≡ seen n m → in-slot slot n ≡ true
-    go unseen q = let y : _≡_ {A = ℕ} 0 1 = cc in absurd (omega arith)
+    go unseen q = clash (cc)
     go (seen k l) q = by (in-slot slot k) refl q
       where
         by : (t : Bool) → in-slot slot k ≡ t → cond t (seen k l) unseen ≡ seen n m → in-slot slot n ≡ true
         by true f q = let z : k ≡ n = ap value q in ap (in-slot slot) (sym z) ∙ f
-        by false f q = let y : _≡_ {A = ℕ} 0 1 = cc in absurd (omega arith)
+        by false f q = clash (cc)
 
 pub name-small : (l : List ℕ) (x : Slot) (r : Rest) → Sees l x (slot-at 67 r) → x .end ≤ length l → x .number < 64
 unfolding in-slot

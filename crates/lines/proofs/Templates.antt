@@ -11,7 +11,7 @@ use Rattle.finite.proofs.Tests.{both-left, both-right}
 use Rattle.lines.specs.Numeral.{numeral}
 use Rattle.lines.specs.Form.{is-slot, in-slot, names-text, slot-text, piece, numbers-after, filled, in-slots}
 use Rattle.lines.specs.Reading.{Rest, none, some, Seen, seen, unseen, numeral-at, ranged, names-at, slot-at, strip, step, rest-of, slot-then, numbers-of}
-use Rattle.lines.proofs.Digits.{slot-small, ranged-yes}
+use Rattle.lines.proofs.Digits.{clash, slot-small, ranged-yes}
 use Rattle.lines.proofs.Places.{strip-hit}
 use Rattle.lines.proofs.Numerals.{stops, numeral-most, numeral-sound, numeral-back}
 use Rattle.lines.proofs.NameSets.{ends, set-sound, set-back, names-most}
@@ -31,12 +31,12 @@ slot-back slot n m h f = go (eqb slot 83) (both-right (stops m) (cond (eqb slot 
     go false e = ap (ranged slot) (numeral-back n m (slot-small slot n h) (both-left (stops m) (cond (eqb slot 83) (ends m) true) f)) ∙ ranged-yes slot n m h
 
 ranged-sound : (slot n : ℕ) (m : List ℕ) (s : Seen) → ranged slot s ≡ seen n m → (s ≡ seen n m) × (in-slot slot n ≡ true)
-ranged-sound slot n m unseen e = let y : _≡_ {A = ℕ} 0 1 = cc in absurd (omega arith)
+ranged-sound slot n m unseen e = clash (cc)
 ranged-sound slot n m (seen k l) e = go (in-slot slot k) refl e
   where
     go : (t : Bool) → in-slot slot k ≡ t → cond t (seen k l) unseen ≡ seen n m → (seen k l ≡ seen n m) × (in-slot slot n ≡ true)
     go true f q = let z : k ≡ n = cc in (q, ap (in-slot slot) (sym z) ∙ f)
-    go false f q = let y : _≡_ {A = ℕ} 0 1 = cc in absurd (omega arith)
+    go false f q = clash (cc)
 
 pub slot-sound : (slot n : ℕ) (l m : List ℕ) → slot-at slot (some l) ≡ seen n m → (l ≡ slot-text slot n ++ m) × (in-slot slot n ≡ true)
 unfolding slot-at slot-text in-slot
@@ -107,7 +107,7 @@ module _ (b : ℕ) (t : List ℕ) where
 -- What is read fills the template.
 
 never : {A : Type 0} (l : List ℕ) → none ≡ some l → A
-never l e = let y : _≡_ {A = ℕ} 0 1 = cc in absurd (omega arith)
+never l e = clash (cc)
 
 strip-sound : (b : ℕ) (l m : List ℕ) → strip b (some l) ≡ some m → l ≡ b ∷ m
 unfolding strip

@@ -2,24 +2,55 @@
 use Prim.Native.Nat.{ℕ, zero, suc}
 use Prim.Native.Char.{code}
 use Prim.Native.String.{String, [] as []ˢ, _∷_ as _∷ˢ_}
-use mathlib.Core.Bool.{Bool, true, cond, not, _&&_, _||_}
+use mathlib.Core.Bool.{Bool, true, false, cond, not, _&&_, _||_}
 use mathlib.Core.List.{List, [], _∷_, _++_}
 use lib.Dec.{leb, eqb}
 use lib.ListN.{getD, drop}
 use Rattle.sets.specs.Set.{member}
+use Rattle.lines.specs.Limits.{max-input, max-output, max-campaign, set-bits, max-question, max-u64}
 use Rattle.lines.specs.Numeral.{numeral}
 use Rattle.lines.specs.declared.Record.{Record}
-use Rattle.lines.specs.declared.Record.the-variants.{Plan, Campaign, Start, View, Close, Done, Play, Nobody, Refused, Closed, Tally}
+use Rattle.lines.specs.declared.Record.the-variants.{
+  Plan, Campaign, Start, View, Close, Done, Play, Nobody, Refused, Closed, Tally
+}
+
+-- A slot of a form is an upper-case letter.
+
+-- I: a number of an input line
+abbrev pub input-slot : ℕ
+input-slot = 73
+
+-- N: a number of an output line
+abbrev pub output-slot : ℕ
+output-slot = 78
+
+-- C: a campaign number
+abbrev pub campaign-slot : ℕ
+campaign-slot = 67
+
+-- R: a refusal number
+abbrev pub refusal-slot : ℕ
+refusal-slot = 82
+
+-- M: takings, claim or full
+abbrev pub money-slot : ℕ
+money-slot = 77
+
+-- S: the names of a view
+abbrev pub names-slot : ℕ
+names-slot = 83
+
+abbrev pub is-slot : ℕ → Bool
+is-slot b = leb 65 b && leb b 90
 
 abbrev pub bytes : String → List ℕ
 bytes []ˢ = []
 bytes (c ∷ˢ s) = code c ∷ bytes s
 
--- A form's template: its line as it reads, with an upper-case letter for each slot.
---   N a number, C a campaign number, R a refusal number, M takings, claim or full, S the names of a view
+-- a form's template: its line as it reads, with the letter of each slot in its place
 unfoldable pub template : Record → List ℕ
-template (Plan _ _) = bytes "(plan (depth N) (width N))"
-template (Campaign _ _) = bytes "(campaign (price N) (budget N))"
+template (Plan _ _) = bytes "(plan (depth I) (width I))"
+template (Campaign _ _) = bytes "(campaign (price I) (budget I))"
 template Start = bytes "(start)"
 template (View _) = bytes "(viewS)"
 template Close = bytes "(close)"
@@ -44,17 +75,32 @@ numbers (Refused number) = number ∷ []
 numbers (Closed takings claim full) = takings ∷ claim ∷ full ∷ []
 numbers (Tally campaign plays turns age named) = campaign ∷ plays ∷ turns ∷ age ∷ named ∷ []
 
--- an upper-case letter
-abbrev pub is-slot : ℕ → Bool
-is-slot b = leb 65 b && leb b 90
+-- whether a record is one of the six kinds of output line; the others are the five kinds of input line
+abbrev pub is-output : Record → Bool
+is-output (Plan _ _) = false
+is-output (Campaign _ _) = false
+is-output Start = false
+is-output (View _) = false
+is-output Close = false
+is-output Done = true
+is-output (Play _ _) = true
+is-output Nobody = true
+is-output (Refused _) = true
+is-output (Closed _ _ _) = true
+is-output (Tally _ _ _ _ _) = true
 
--- the greatest number in each slot: N 4294967295, C 63, R 18, M and S of 64 bits
+-- the greatest number in each slot; M and S have all of 64 bits
 abbrev pub slot-max : ℕ → ℕ
-slot-max slot = cond (eqb slot 78) 4294967295 (cond (eqb slot 67) 63 (cond (eqb slot 82) 18 18446744073709551615))
+slot-max slot =
+    cond (eqb slot input-slot) max-input
+    (cond (eqb slot output-slot) max-output
+    (cond (eqb slot campaign-slot) max-campaign
+    (cond (eqb slot refusal-slot) max-question
+    max-u64)))
 
 -- the range of each slot: up to its greatest number, and R from 1
 unfoldable pub in-slot : ℕ → ℕ → Bool
-in-slot slot n = (not (eqb slot 82) || leb 1 n) && leb n (slot-max slot)
+in-slot slot n = (not (eqb slot refusal-slot) || leb 1 n) && leb n (slot-max slot)
 
 -- the names of the set's members below n, rising, with a space before each
 unfoldable pub names-text : ℕ → ℕ → List ℕ
@@ -63,7 +109,7 @@ names-text (suc i) set = names-text i set ++ cond (member set i) (32 ∷ numeral
 
 -- the text of the number n in a slot
 unfoldable pub slot-text : ℕ → ℕ → List ℕ
-slot-text slot n = cond (eqb slot 83) (names-text 64 n) (numeral n)
+slot-text slot n = cond (eqb slot names-slot) (names-text set-bits n) (numeral n)
 
 -- A template is filled from the left: a slot takes the next number, any other byte stands for itself.
 unfoldable pub piece : ℕ → List ℕ → List ℕ

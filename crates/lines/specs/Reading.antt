@@ -1,12 +1,16 @@
--- What reading a line answers: the record whose text it is, 16 or 17. Each form is tried in turn; OneText says that this is the inverse of `text`.
+-- What reading a line answers: the record whose text it is, 16 or 17. Each form is tried in turn; OneText says that this
+-- is the inverse of `text`.
 use Prim.Native.Nat.{ℕ, zero, suc, _+_, _*_, _-_, _^_}
 use mathlib.Core.Bool.{Bool, true, false, cond, _&&_}
 use mathlib.Core.List.{List, [], _∷_}
 use lib.Dec.{ltb, leb, eqb}
 use lib.ListN.{length, getD}
-use Rattle.lines.specs.Form.{template, is-slot, in-slot}
+use Rattle.lines.specs.Limits.{max-line, set-bits}
+use Rattle.lines.specs.Form.{campaign-slot, names-slot, is-slot, template, in-slot}
 use Rattle.lines.specs.declared.Record.{Record}
-use Rattle.lines.specs.declared.Record.the-variants.{Plan, Campaign, Start, View, Close, Done, Play, Nobody, Refused, Closed, Tally}
+use Rattle.lines.specs.declared.Record.the-variants.{
+  Plan, Campaign, Start, View, Close, Done, Play, Nobody, Refused, Closed, Tally
+}
 use Rattle.lines.specs.declared.Reading.{Reading}
 use Rattle.lines.specs.declared.Reading.the-variants.{Got, Refusal}
 
@@ -60,12 +64,13 @@ and-then (seen n l) f = f n l
 unfoldable pub names-at : ℕ → ℕ → List ℕ → Seen
 names-at zero set l = unseen
 names-at (suc k) set [] = seen set []
-names-at (suc k) set (b ∷ l) = cond (eqb b 32) (and-then (with-name set (ranged 67 (numeral-at l))) (names-at k)) (seen set (b ∷ l))
+names-at (suc k) set (b ∷ l) =
+    cond (eqb b 32) (and-then (with-name set (ranged campaign-slot (numeral-at l))) (names-at k)) (seen set (b ∷ l))
 
 -- what stands in a slot
 unfoldable pub slot-at : ℕ → Rest → Seen
 slot-at slot none = unseen
-slot-at slot (some l) = cond (eqb slot 83) (names-at 65 0 l) (ranged slot (numeral-at l))
+slot-at slot (some l) = cond (eqb slot names-slot) (names-at (suc set-bits) 0 l) (ranged slot (numeral-at l))
 
 -- the line without the byte b at its front
 unfoldable pub strip : ℕ → Rest → Rest
@@ -127,4 +132,4 @@ first-of [] l = Refusal 17
 first-of (f ∷ fs) l = held-or (first-of fs l) f l
 
 unfoldable pub reading : List ℕ → Reading
-reading l = cond (ltb 200 (length l)) (Refusal 16) (first-of forms l)
+reading l = cond (ltb max-line (length l)) (Refusal 16) (first-of forms l)

@@ -1,4 +1,5 @@
--- How the contracts of the reader's inner functions speak of a line: by places in it. A place behind the line's end stands for none.
+-- How the contracts of the reader's inner functions speak of a line: by places in it. A place behind the line's end
+-- stands for none. Nothing that a caller of the crate relies on is defined here.
 use Prim.Native.Nat.{ℕ}
 use mathlib.Core.Path.{_≡_}
 use mathlib.Core.Bool.{cond}
@@ -6,7 +7,7 @@ use mathlib.Core.List.{List, [], _∷_}
 use lib.Dec.{leb}
 use lib.ListN.{length, drop}
 use Rattle.lines.specs.Reading.{Rest, none, some, Seen, value, behind, strip}
-use Rattle.lines.specs.declared.Slot.{Slot}
+use Rattle.lines.specs.declared.scan.Slot.{Slot}
 
 -- what is left of l from the place at on
 unfoldable pub place : List ℕ → ℕ → Rest

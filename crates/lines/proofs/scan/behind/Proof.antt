@@ -3,10 +3,10 @@ use Prim.Native.Nat.{ℕ, _+_, _-_, _≤_}
 use native.Mathlib.Omega.{arith}
 use lib.ListN.{length, drop, length-drop}
 use Rattle.lines.specs.Reading.{some}
-use Rattle.lines.specs.Place.{place, stripped}
+use Rattle.lines.specs.Contracts.{place, stripped}
 use Rattle.lines.proofs.Places.{place-in, place-out, stripped-none, stripped-short, stripped-step, stripped-miss, stripped-end}
-use Rattle.lines.proofs.behind.Statement.{statement}
-use Rattle.lines.proofs.behind.Tie as tie
+use Rattle.lines.proofs.scan.behind.Statement.{statement}
+use Rattle.lines.proofs.scan.behind.Tie as tie
 
 abbrev Inv-loop : tie.InvT-loop
 Inv-loop s at word i₀ i =

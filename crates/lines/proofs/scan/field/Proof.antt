@@ -2,9 +2,9 @@ use mathlib.Core.Path.{ap, sym, _∙_, subst}
 use Prim.Native.Nat.{ℕ}
 use borrow.Author.Needs.{needs}
 use Rattle.lines.specs.Reading.{slot-at}
-use Rattle.lines.specs.Place.{place, Sees}
-use Rattle.lines.proofs.field.Statement.{statement}
-use Rattle.lines.proofs.field.Tie as tie
+use Rattle.lines.specs.Contracts.{place, Sees}
+use Rattle.lines.proofs.scan.field.Statement.{statement}
+use Rattle.lines.proofs.scan.field.Tie as tie
 
 pub field-spec : {M : Type 1} → statement M
 field-spec =

@@ -3,8 +3,8 @@ use mathlib.Core.Bool.{not, _&&_, _||_}
 use Prim.Native.Nat.{ℕ}
 use lib.Dec.{leb, eqb}
 use Rattle.lines.specs.Form.{in-slot}
-use Rattle.lines.proofs.in_slot.Statement.{statement}
-use Rattle.lines.proofs.in_slot.Tie as tie
+use Rattle.lines.proofs.slots.in_slot.Statement.{statement}
+use Rattle.lines.proofs.slots.in_slot.Tie as tie
 
 pub in-slot-spec : {M : Type 1} → statement M
 unfolding in-slot

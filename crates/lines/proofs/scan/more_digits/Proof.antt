@@ -8,8 +8,8 @@ use Rattle.lines.specs.Form.{slot-max}
 use Rattle.lines.specs.Reading.{value, is-digit, digits, ranged}
 use Rattle.lines.proofs.Digits.{digit-from, digits-least, max-range, slot-yes, ranged-above}
 use Rattle.lines.proofs.Places.{misses, sees-number, digits-step, digits-stop, digits-end}
-use Rattle.lines.proofs.more_digits.Statement.{statement}
-use Rattle.lines.proofs.more_digits.Tie as tie
+use Rattle.lines.proofs.scan.more_digits.Statement.{statement}
+use Rattle.lines.proofs.scan.more_digits.Tie as tie
 
 abbrev Inv-loop : tie.InvT-loop
 Inv-loop s at first slot number₀ i₀ number i =

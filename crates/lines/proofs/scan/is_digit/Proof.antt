@@ -1,8 +1,8 @@
 use native.Mathlib.Omega.{arith}
 use mathlib.Core.Path.{sym}
 use Rattle.lines.proofs.Digits.{digit-yes, digit-below, digit-above}
-use Rattle.lines.proofs.is_digit.Statement.{statement}
-use Rattle.lines.proofs.is_digit.Tie as tie
+use Rattle.lines.proofs.scan.is_digit.Statement.{statement}
+use Rattle.lines.proofs.scan.is_digit.Tie as tie
 
 pub is-digit-spec : {M : Type 1} → statement M
 is-digit-spec =

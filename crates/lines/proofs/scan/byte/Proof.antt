@@ -1,8 +1,8 @@
 use mathlib.Core.Path.{sym}
 use lib.ListN.{List·getD-eq-default}
 use borrow.Author.Needs.{needs}
-use Rattle.lines.proofs.byte.Statement.{statement}
-use Rattle.lines.proofs.byte.Tie as tie
+use Rattle.lines.proofs.scan.byte.Statement.{statement}
+use Rattle.lines.proofs.scan.byte.Tie as tie
 
 pub byte-spec : {M : Type 1} → statement M
 byte-spec =

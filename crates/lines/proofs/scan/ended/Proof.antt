@@ -1,8 +1,8 @@
 use borrow.Author.Needs.{needs}
 use Rattle.lines.proofs.Places.{ends, ends-not}
-use Rattle.lines.specs.Place.{place, stripped}
-use Rattle.lines.proofs.ended.Statement.{statement}
-use Rattle.lines.proofs.ended.Tie as tie
+use Rattle.lines.specs.Contracts.{place, stripped}
+use Rattle.lines.proofs.scan.ended.Statement.{statement}
+use Rattle.lines.proofs.scan.ended.Tie as tie
 
 pub ended-spec : {M : Type 1} → statement M
 ended-spec =

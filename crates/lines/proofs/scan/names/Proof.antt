@@ -9,10 +9,10 @@ use lib.ListN.{length, drop, getD, List·getD-eq-default}
 use lib.Pow.{pow-mono, shl-exact}
 use borrow.Author.Tests.{ltb-true, ltb-false}
 use Rattle.lines.specs.Reading.{unseen, with-name, slot-at}
-use Rattle.lines.specs.Place.{place}
+use Rattle.lines.specs.Contracts.{place}
 use Rattle.lines.proofs.Places.{misses, seen-in, seen-out, name-small, joins, joins-not, names-from, names-all, names-out, names-stop, names-bad, names-next}
-use Rattle.lines.proofs.names.Statement.{statement}
-use Rattle.lines.proofs.names.Tie as tie
+use Rattle.lines.proofs.scan.names.Statement.{statement}
+use Rattle.lines.proofs.scan.names.Tie as tie
 
 abbrev Inv-loop : tie.InvT-loop
 Inv-loop s at set₀ i₀ left₀ set i left =

@@ -5,11 +5,11 @@ use native.Mathlib.Omega.{arith}
 use lib.ListN.{drop}
 use Rattle.lines.specs.Form.{in-slot}
 use Rattle.lines.specs.Reading.{seen, digits, ranged, slot-at}
-use Rattle.lines.specs.Place.{place, Sees}
+use Rattle.lines.specs.Contracts.{place, Sees}
 use Rattle.lines.proofs.Digits.{max-range, slot-zero, ranged-no}
 use Rattle.lines.proofs.Places.{misses, sees-number, number-end, number-zero, number-lead, number-other}
-use Rattle.lines.proofs.number.Statement.{statement}
-use Rattle.lines.proofs.number.Tie as tie
+use Rattle.lines.proofs.scan.number.Statement.{statement}
+use Rattle.lines.proofs.scan.number.Tie as tie
 
 -- the line has ended
 returns : tie.Need-returns

@@ -3,8 +3,8 @@ use Prim.Native.Nat.{_+_, _*_}
 use native.Mathlib.Omega.{arith}
 use borrow.Author.Tests.{le-leb}
 use Rattle.lines.proofs.Digits.{last-digit}
-use Rattle.lines.proofs.has_room.Statement.{statement}
-use Rattle.lines.proofs.has_room.Tie as tie
+use Rattle.lines.proofs.scan.has_room.Statement.{statement}
+use Rattle.lines.proofs.scan.has_room.Tie as tie
 
 pub has-room-spec : {M : Type 1} → statement M
 has-room-spec =
