@@ -67,17 +67,17 @@ module _ {l d : List ℕ} {to : ℕ} {e : List ℕ} {at : ℕ} {front : List ℕ
         omega (arith, b .stands .next, b .stands .same, h .1),
       )
 
--- the last of them are put
-pub backward-step : {l d : List ℕ} {to : ℕ} {e f : List ℕ} {at at′ : ℕ} {u w : List ℕ}
-    → Backward l d to e at (u ++ w) → Put e f at′ at w → Backward l d to f at′ u
-backward-step {u = u} {w} b p = record {
-  tail = w ++ b .tail;
-  stands = put-before (b .stands) p;
-  whole = b .whole ∙ append-assoc u w (b .tail);
+-- the last of them, the byte c, is put
+pub backward-byte : {l d : List ℕ} {to : ℕ} {e : List ℕ} {at : ℕ} {u : List ℕ} (c : ℕ)
+    → Backward l d to e at (u ++ (c ∷ [])) → 0 < at → at ≤ length d → Backward l d to (set e (at - 1) c) (at - 1) u
+backward-byte {u = u} c b h k = record {
+  tail = c ∷ b .tail;
+  stands = put-byte c (b .stands) h k;
+  whole = b .whole ∙ append-assoc u (c ∷ []) (b .tail);
 }
 
--- all stand
-pub backward-end : {l d : List ℕ} {to : ℕ} {e f : List ℕ} {at at′ : ℕ} {w : List ℕ}
-    → Backward l d to e at w → Put e f at′ at w → Put d f at′ to l
-backward-end {l} {d} {to} {e} {f} {at} {at′} {w} b p =
-    subst (Put d f at′ to) (sym (b .whole)) (put-before (b .stands) p)
+-- and with the first byte all stand
+pub backward-last : {l d : List ℕ} {to : ℕ} {e : List ℕ} {at : ℕ} (c : ℕ)
+    → Backward l d to e at (c ∷ []) → 0 < at → at ≤ length d → Put d (set e (at - 1) c) (at - 1) to l
+backward-last {l} {d} {to} {e} {at} c b h k =
+    subst (Put d (set e (at - 1) c) (at - 1) to) (sym (b .whole)) (put-byte c (b .stands) h k)

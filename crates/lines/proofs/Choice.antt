@@ -1,4 +1,5 @@
--- The first bytes of a line leave one form, and reading is trying that one.
+-- The first bytes of a line leave one form, and reading is trying that one: the text of a record has the bytes that leave
+-- its form, so a form whose template the line fills is the one that is left.
 use mathlib.Core.Path.{_≡_, refl, sym, ap, _∙_, subst}
 use mathlib.Core.Bool.{Bool, true, false, cond}
 use mathlib.Core.List.{List, [], _∷_, append-nil}
@@ -18,7 +19,8 @@ use Rattle.lines.proofs.Digits.{clash, apart}
 use Rattle.lines.proofs.Templates.{fair, taken, most, sound, complete, filled-most}
 use Rattle.lines.proofs.Plain.{plain, plain-at, filled-plain}
 
--- the form that the bytes b, d and e leave, where they stand at 1, 4 and 6
+-- the form that the bytes b, d and e leave, where they stand at 1, 4 and 6:
+--   118 v, 112 p (110 n), 99 c (41 a bracket, 100 d), 115 s, 111 o, 110 n, 114 r, and else t
 abbrev pub leaves : ℕ → ℕ → ℕ → Record
 leaves b d e =
     cond (eqb b 118) (View 0)

@@ -1,4 +1,4 @@
--- Reading is the inverse of `text`.
+-- Reading is the inverse of `text`: the laws of Choice, with the length of the line asked first. `one-text` is demand 2.
 use mathlib.Core.Path.{_≡_, refl, sym, ap, _∙_, subst}
 use mathlib.Core.Bool.{Bool, true, false, cond}
 use mathlib.Core.List.{List, [], _∷_}

@@ -1,4 +1,5 @@
 -- A numeral is read as its number, and what is read as a number is its numeral.
+-- Both go digit by digit from the last: a number of several digits is its tenth with one digit behind it.
 use mathlib.Core.Path.{_≡_, refl, sym, ap, _∙_, subst}
 use mathlib.Core.Bool.{Bool, true, false, cond, not, _&&_}
 use mathlib.Core.List.{List, [], _∷_, _++_, append-assoc}
@@ -9,6 +10,7 @@ use lib.Dec.{ltb, leb, eqb, lit<}
 use lib.ListN.{length, length-append}
 use borrow.Author.Tests.{ltb-true, ltb-false, lt-ltb, le-ltb, leb-true, le-leb, eqb-true, eqb-false, ne-eqb, not-true}
 use Rattle.finite.proofs.Tests.{both-left, both-right}
+use Rattle.lines.specs.Limits.{max-digits}
 use Rattle.lines.specs.Numeral.{numeral-in, numeral}
 use Rattle.lines.specs.Reading.{seen, unseen, value, is-digit, digits, numeral-at}
 use Rattle.lines.proofs.Digits.{clash, apart, digit-yes, digit-from, digits-least}
@@ -54,9 +56,9 @@ most-digits (suc k) n = go (ltb n 10) (most-digits k (n / 10))
     go true ih = omega arith
     go false ih = rw length-append (omega arith)
 
-pub numeral-most : (n : ℕ) → length (numeral n) ≤ 20
+pub numeral-most : (n : ℕ) → length (numeral n) ≤ max-digits
 unfolding numeral
-numeral-most n = most-digits 20 n
+numeral-most n = most-digits max-digits n
 
 -- What is read is the numeral.
 

@@ -1,4 +1,5 @@
--- Laws of the reader, one place of a line at a time.
+-- Laws of the reader, one place of a line at a time: words, the end, digits, a slot and the names of a view.
+-- Each takes what the definition finds at a place apart by whether the place is in the line, and by the byte there.
 use mathlib.Core.Path.{_≡_, refl, sym, ap, _∙_, subst}
 use mathlib.Core.Bool.{Bool, true, false, cond}
 use mathlib.Core.List.{List, [], _∷_}
@@ -10,7 +11,8 @@ use lib.Dec.{leb, eqb}
 use lib.ListN.{length, drop, getD, drop-of-length-le}
 use lib.Seq.{drop-cons, drop-length}
 use borrow.Author.Tests.{lt-ltb, le-ltb, le-leb, lt-leb, leb-true, leb-false, eq-eqb, ne-eqb}
-use Rattle.lines.specs.Form.{in-slot}
+use Rattle.lines.specs.Limits.{max-line, max-campaign, set-bits}
+use Rattle.lines.specs.Form.{campaign-slot, names-slot, in-slot}
 use Rattle.lines.specs.declared.scan.Slot.{Slot}
 use Rattle.lines.specs.declared.Record.{Record}
 use Rattle.lines.specs.declared.Reading.the-variants.{Got, Refusal}
@@ -117,6 +119,11 @@ module _ (l : List ℕ) (x : Slot) (s : Seen) where
         go unseen a e = clash (cc)
         go (seen n m) a e = cc
 
+-- what the code's `missing` gives
+pub missed : {l : List ℕ} {x : Slot} {s : Seen} → length l ≤ max-line → (x .number ≡ 0) × (x .end ≡ max-line + 1)
+    → s ≡ unseen → Sees l x s
+missed {l} {x} {s} h p e = misses l x s (p .0) (omega (arith, p .1)) e
+
 -- Digits.
 
 module _ (l : List ℕ) (i : ℕ) (h : i < length l) (a : ℕ) where
@@ -128,9 +135,9 @@ pub digits-end : (l : List ℕ) (i a : ℕ) → length l ≤ i → digits a (dro
 unfolding digits
 digits-end l i a h = subst (λ (m : List ℕ). digits a m ≡ seen a m) (sym (drop-of-length-le l h)) refl
 
-pub digits-stop : (l : List ℕ) (i a : ℕ) → is-digit (getD l i 0) ≡ false → digits a (drop i l) ≡ seen a (drop i l)
+pub digits-halt : (l : List ℕ) (i a : ℕ) → is-digit (getD l i 0) ≡ false → digits a (drop i l) ≡ seen a (drop i l)
 unfolding digits
-digits-stop l i a e = go (leb (i + 1) (length l)) refl
+digits-halt l i a e = go (leb (i + 1) (length l)) refl
   where
     go : (t : Bool) → leb (i + 1) (length l) ≡ t → digits a (drop i l) ≡ seen a (drop i l)
     go true q =
@@ -149,10 +156,10 @@ module _ (slot : ℕ) (l : List ℕ) (at : ℕ) where
   unfolding slot-at
   slot-out h = ap (slot-at slot) (place-out l at h)
 
-  module _ (number : (slot ≡ 83 → ⊥)) where
+  module _ (number : (slot ≡ names-slot → ⊥)) where
     slot-number : (m : List ℕ) → slot-at slot (some m) ≡ ranged slot (numeral-at m)
     unfolding slot-at
-    slot-number m = simp (ne-eqb slot 83 number)
+    slot-number m = simp (ne-eqb slot names-slot number)
 
     pub number-end : length l ≤ at → slot-at slot (place l at) ≡ unseen
     unfolding numeral-at
@@ -182,7 +189,7 @@ module _ (slot : ℕ) (l : List ℕ) (at : ℕ) where
 -- Names.
 
 -- the number that is seen in a slot is in its range
-pub slot-range : (slot : ℕ) (r : Rest) (n : ℕ) (m : List ℕ) → (slot ≡ 83 → ⊥) → slot-at slot r ≡ seen n m → in-slot slot n ≡ true
+pub slot-range : (slot : ℕ) (r : Rest) (n : ℕ) (m : List ℕ) → (slot ≡ names-slot → ⊥) → slot-at slot r ≡ seen n m → in-slot slot n ≡ true
 unfolding slot-at
 slot-range slot none n m h e = clash (cc)
 slot-range slot (some l) n m h e = go (numeral-at l) (sym (slot-number slot l 0 h l) ∙ e)
@@ -195,9 +202,9 @@ slot-range slot (some l) n m h e = go (numeral-at l) (sym (slot-number slot l 0 
         by true f q = let z : k ≡ n = ap value q in ap (in-slot slot) (sym z) ∙ f
         by false f q = clash (cc)
 
-pub name-small : (l : List ℕ) (x : Slot) (r : Rest) → Sees l x (slot-at 67 r) → x .end ≤ length l → x .number < 64
+pub name-small : (l : List ℕ) (x : Slot) (r : Rest) → Sees l x (slot-at campaign-slot r) → x .end ≤ length l → x .number < set-bits
 unfolding in-slot
-name-small l x r p h = omega (arith, leb-true (x .number) 63 (slot-range 67 r (x .number) (drop (x .end) l) (λ q. omega arith) (seen-in l x (slot-at 67 r) p h)))
+name-small l x r p h = omega (arith, leb-true (x .number) max-campaign (slot-range campaign-slot r (x .number) (drop (x .end) l) (λ q. omega arith) (seen-in l x (slot-at campaign-slot r) p h)))
 
 pub joins : (set : ℕ) (s : Seen) (n : ℕ) (m : List ℕ) → s ≡ seen n m → set < 2 ^ n → with-name set s ≡ seen (set + 2 ^ n) m
 joins set s n m e h = ap (with-name set) e ∙ simp (lt-ltb set (2 ^ n) h)
@@ -210,7 +217,7 @@ unfoldable pub names-from : ℕ → ℕ → Rest → Seen
 names-from k set none = unseen
 names-from k set (some l) = names-at k set l
 
-pub names-all : (r : Rest) → names-from 65 0 r ≡ slot-at 83 r
+pub names-all : (r : Rest) → names-from (suc set-bits) 0 r ≡ slot-at names-slot r
 unfolding names-from slot-at
 names-all none = refl
 names-all (some l) = refl
@@ -248,15 +255,15 @@ module _ (k set : ℕ) (l : List ℕ) (i : ℕ) (hk : 0 < k) where
 
   -- a name that follows joins the set
   module _ (h : i < length l) (e : getD l i 0 ≡ 32) where
-    names-name : names-from k set (place l i) ≡ and-then (with-name set (slot-at 67 (place l (i + 1)))) (names-at (k - 1))
+    names-name : names-from k set (place l i) ≡ and-then (with-name set (slot-at campaign-slot (place l (i + 1)))) (names-at (k - 1))
     unfolding names-at slot-at
     names-name =
         names-from-at h ∙ simp (eq-eqb (getD l i 0) 32 e)
-        (ap (λ (r : Rest). and-then (with-name set (slot-at 67 r)) (names-at (k - 1))) (sym (place-in l (i + 1) (omega arith))))
+        (ap (λ (r : Rest). and-then (with-name set (slot-at campaign-slot r)) (names-at (k - 1))) (sym (place-in l (i + 1) (omega arith))))
 
-    pub names-bad : with-name set (slot-at 67 (place l (i + 1))) ≡ unseen → names-from k set (place l i) ≡ unseen
+    pub names-bad : with-name set (slot-at campaign-slot (place l (i + 1))) ≡ unseen → names-from k set (place l i) ≡ unseen
     names-bad q = names-name ∙ ap (λ (s : Seen). and-then s (names-at (k - 1))) q
 
-    pub names-next : (n j : ℕ) → j ≤ length l → with-name set (slot-at 67 (place l (i + 1))) ≡ seen n (drop j l) → names-from k set (place l i) ≡ names-from (k - 1) n (place l j)
+    pub names-join : (n j : ℕ) → j ≤ length l → with-name set (slot-at campaign-slot (place l (i + 1))) ≡ seen n (drop j l) → names-from k set (place l i) ≡ names-from (k - 1) n (place l j)
     unfolding names-from
-    names-next n j b q = names-name ∙ ap (λ (s : Seen). and-then s (names-at (k - 1))) q ∙ sym (ap (names-from (k - 1) n) (place-in l j b))
+    names-join n j b q = names-name ∙ ap (λ (s : Seen). and-then s (names-at (k - 1))) q ∙ sym (ap (names-from (k - 1) n) (place-in l j b))

@@ -1,4 +1,4 @@
--- The text of a record has no byte 10.
+-- The text of a record has no byte 10: none of its pieces has, and a template has none of its own.
 use mathlib.Core.Path.{_≡_, refl}
 use mathlib.Core.Bool.{Bool, true, false, cond, not, _&&_}
 use mathlib.Core.List.{List, [], _∷_, _++_}
@@ -9,8 +9,9 @@ use lib.ListN.{getD}
 use borrow.Author.Tests.{eqb-false, ne-eqb, not-true}
 use Rattle.finite.proofs.Tests.{both-left, both-right, both-join}
 use Rattle.sets.specs.Set.{member}
+use Rattle.lines.specs.Limits.{max-digits, set-bits}
 use Rattle.lines.specs.Numeral.{numeral-in, numeral}
-use Rattle.lines.specs.Form.{is-slot, names-text, slot-text, piece, numbers-after, filled}
+use Rattle.lines.specs.Form.{names-slot, is-slot, names-text, slot-text, piece, numbers-after, filled}
 
 -- no byte of the list is 10
 abbrev pub plain : List ℕ → Bool
@@ -40,7 +41,7 @@ digits-plain (suc k) n = go (ltb n 10) (append-plain (numeral-in k (n / 10)) ((4
 
 numeral-plain : (n : ℕ) → plain (numeral n) ≡ true
 unfolding numeral
-numeral-plain n = digits-plain 20 n
+numeral-plain n = digits-plain max-digits n
 
 names-plain : (n set : ℕ) → plain (names-text n set) ≡ true
 unfolding names-text
@@ -53,10 +54,10 @@ names-plain (suc i) set = append-plain (names-text i set) (cond (member set i) (
 
 slot-plain : (slot n : ℕ) → plain (slot-text slot n) ≡ true
 unfolding slot-text
-slot-plain slot n = go (eqb slot 83)
+slot-plain slot n = go (eqb slot names-slot)
   where
-    go : (t : Bool) → plain (cond t (names-text 64 n) (numeral n)) ≡ true
-    go true = names-plain 64 n
+    go : (t : Bool) → plain (cond t (names-text set-bits n) (numeral n)) ≡ true
+    go true = names-plain set-bits n
     go false = numeral-plain n
 
 -- slots bring no byte 10 into a template

@@ -1,15 +1,18 @@
 -- A template that is filled with numbers in their ranges is read as those numbers, and what is read fills it.
+-- Both go along the template: a slot by the laws of numerals and names, any other byte by itself. A slot ends where no
+-- byte that could belong to it follows, `fair`.
 use mathlib.Core.Path.{_≡_, refl, sym, ap, ap₂, _∙_}
 use mathlib.Core.Bool.{Bool, true, false, cond, not, _&&_}
 use mathlib.Core.List.{List, [], _∷_, _++_, append-assoc}
-use Prim.Native.Nat.{ℕ, _+_, _≤_}
+use Prim.Native.Nat.{ℕ, suc, _+_, _≤_}
 use native.Mathlib.Omega.{arith}
 use lib.Dec.{eqb}
 use lib.ListN.{length, getD, drop, length-append}
 use borrow.Author.Tests.{le-leb, eqb-true, not-true}
 use Rattle.finite.proofs.Tests.{both-left, both-right}
+use Rattle.lines.specs.Limits.{set-bits, max-u64, max-digits, max-names}
 use Rattle.lines.specs.Numeral.{numeral}
-use Rattle.lines.specs.Form.{is-slot, in-slot, names-text, slot-text, piece, numbers-after, filled, in-slots}
+use Rattle.lines.specs.Form.{names-slot, is-slot, in-slot, names-text, slot-text, piece, numbers-after, filled, in-slots}
 use Rattle.lines.specs.Reading.{Rest, none, some, Seen, seen, unseen, numeral-at, ranged, names-at, slot-at, strip, step, rest-of, slot-then, numbers-of}
 use Rattle.lines.proofs.Digits.{clash, slot-small, ranged-yes}
 use Rattle.lines.proofs.Places.{strip-hit}
@@ -20,15 +23,15 @@ use Rattle.lines.proofs.NameSets.{ends, set-sound, set-back, names-most
 
 -- what may stand behind a slot: no digit, and behind names no space
 abbrev pub follows : ℕ → List ℕ → Bool
-follows slot l = stops l && cond (eqb slot 83) (ends l) true
+follows slot l = stops l && cond (eqb slot names-slot) (ends l) true
 
 pub slot-back : (slot n : ℕ) (m : List ℕ) → in-slot slot n ≡ true → follows slot m ≡ true → slot-at slot (some (slot-text slot n ++ m)) ≡ seen n m
 unfolding slot-at slot-text
-slot-back slot n m h f = go (eqb slot 83) (both-right (stops m) (cond (eqb slot 83) (ends m) true) f)
+slot-back slot n m h f = go (eqb slot names-slot) (both-right (stops m) (cond (eqb slot names-slot) (ends m) true) f)
   where
-    go : (t : Bool) → cond t (ends m) true ≡ true → cond t (names-at 65 0 (cond t (names-text 64 n) (numeral n) ++ m)) (ranged slot (numeral-at (cond t (names-text 64 n) (numeral n) ++ m))) ≡ seen n m
-    go true e = set-back n m (slot-small slot n h) (both-left (stops m) (cond (eqb slot 83) (ends m) true) f) e
-    go false e = ap (ranged slot) (numeral-back n m (slot-small slot n h) (both-left (stops m) (cond (eqb slot 83) (ends m) true) f)) ∙ ranged-yes slot n m h
+    go : (t : Bool) → cond t (ends m) true ≡ true → cond t (names-at (suc set-bits) 0 (cond t (names-text set-bits n) (numeral n) ++ m)) (ranged slot (numeral-at (cond t (names-text set-bits n) (numeral n) ++ m))) ≡ seen n m
+    go true e = set-back n m (slot-small slot n h) (both-left (stops m) (cond (eqb slot names-slot) (ends m) true) f) e
+    go false e = ap (ranged slot) (numeral-back n m (slot-small slot n h) (both-left (stops m) (cond (eqb slot names-slot) (ends m) true) f)) ∙ ranged-yes slot n m h
 
 ranged-sound : (slot n : ℕ) (m : List ℕ) (s : Seen) → ranged slot s ≡ seen n m → (s ≡ seen n m) × (in-slot slot n ≡ true)
 ranged-sound slot n m unseen e = clash (cc)
@@ -40,12 +43,12 @@ ranged-sound slot n m (seen k l) e = go (in-slot slot k) refl e
 
 pub slot-sound : (slot n : ℕ) (l m : List ℕ) → slot-at slot (some l) ≡ seen n m → (l ≡ slot-text slot n ++ m) × (in-slot slot n ≡ true)
 unfolding slot-at slot-text in-slot
-slot-sound slot n l m e = go (eqb slot 83) refl e
+slot-sound slot n l m e = go (eqb slot names-slot) refl e
   where
-    go : (t : Bool) → eqb slot 83 ≡ t → cond t (names-at 65 0 l) (ranged slot (numeral-at l)) ≡ seen n m → (l ≡ cond t (names-text 64 n) (numeral n) ++ m) × (in-slot slot n ≡ true)
+    go : (t : Bool) → eqb slot names-slot ≡ t → cond t (names-at (suc set-bits) 0 l) (ranged slot (numeral-at l)) ≡ seen n m → (l ≡ cond t (names-text set-bits n) (numeral n) ++ m) × (in-slot slot n ≡ true)
     go true f q =
         let s = set-sound l n m q in
-        (s .0, ap (λ (k : ℕ). in-slot k n) (eqb-true slot 83 f) ∙ le-leb n 18446744073709551615 (omega (arith, s .1)))
+        (s .0, ap (λ (k : ℕ). in-slot k n) (eqb-true slot names-slot f) ∙ le-leb n max-u64 (omega (arith, s .1)))
     go false f q =
         let s = ranged-sound slot n m (numeral-at l) q in
         (numeral-sound l n m (slot-small slot n (s .1)) (s .0), s .1)
@@ -177,7 +180,7 @@ taken (b ∷ t) ns = slot-then (is-slot b) (getD ns 0 0) (taken t (numbers-after
 
 next-filled : (slot : ℕ) (t ns : List ℕ) → next slot t ≡ true → follows slot (filled t ns) ≡ true
 unfolding filled
-next-filled slot [] ns h = go (eqb slot 83)
+next-filled slot [] ns h = go (eqb slot names-slot)
   where
     go : (x : Bool) → cond x true true ≡ true
     go true = refl
@@ -226,15 +229,15 @@ complete (b ∷ t) ns g f = go (is-slot b) refl (λ ms. complete t ms (both-righ
 -- no text of the template is longer than this
 abbrev pub most : List ℕ → ℕ
 most [] = 0
-most (b ∷ t) = cond (is-slot b) (cond (eqb b 83) 192 20) 1 + most t
+most (b ∷ t) = cond (is-slot b) (cond (eqb b names-slot) max-names max-digits) 1 + most t
 
 pub filled-most : (t ns : List ℕ) → length (filled t ns) ≤ most t
 unfolding filled piece slot-text
 filled-most [] ns = omega arith
-filled-most (b ∷ t) ns = rw length-append (go (is-slot b) (eqb b 83) (filled-most t (numbers-after b ns)))
+filled-most (b ∷ t) ns = rw length-append (go (is-slot b) (eqb b names-slot) (filled-most t (numbers-after b ns)))
   where
     go : (x y : Bool) → length (filled t (numbers-after b ns)) ≤ most t
-        → length (cond x (cond y (names-text 64 (getD ns 0 0)) (numeral (getD ns 0 0))) (b ∷ [])) + length (filled t (numbers-after b ns)) ≤ cond x (cond y 192 20) 1 + most t
-    go true true ih = omega (arith, names-most 64 (getD ns 0 0) (omega arith))
+        → length (cond x (cond y (names-text set-bits (getD ns 0 0)) (numeral (getD ns 0 0))) (b ∷ [])) + length (filled t (numbers-after b ns)) ≤ cond x (cond y max-names max-digits) 1 + most t
+    go true true ih = omega (arith, names-most set-bits (getD ns 0 0) (omega arith))
     go true false ih = omega (arith, numeral-most (getD ns 0 0))
     go false y ih = omega arith

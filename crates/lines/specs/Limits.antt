@@ -1,19 +1,19 @@
 -- The limits of document 01's lines, each by its name. The code's constants are proved to have these values.
-use Prim.Native.Nat.{ℕ}
+use Prim.Native.Nat.{ℕ, _+_}
 
 -- the longest line that is read, and a buffer for it with its byte 10
 abbrev pub max-line : ℕ
 max-line = 200
 
 abbrev pub line-buffer : ℕ
-line-buffer = 201
+line-buffer = max-line + 1
 
 -- the longest line that is written as an answer, and its room with the byte 10
 abbrev pub max-answer : ℕ
 max-answer = 200
 
 abbrev pub answer-room : ℕ
-answer-room = 201
+answer-room = max-answer + 1
 
 -- the greatest number of an input line: depth, width, price, budget
 abbrev pub max-input : ℕ

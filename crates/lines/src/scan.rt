@@ -1,9 +1,9 @@
 // Reading along a line: words, numerals and names at a place of it.
 use crate::Reading;
 use crate::Record;
-use crate::slots::MAX_CAMPAIGN;
 use crate::slots::MAX_INPUT;
 use crate::slots::MAX_LINE;
+use crate::slots::SET_BITS;
 use crate::slots::slot_max;
 ghost use mathlib.Core.Path.{_≡_};
 ghost use Prim.Native.Nat.{_+_, _*_, _<_, _≤_};
@@ -141,7 +141,7 @@ pub fn byte(s: &[u8], i: usize) -> u8
 }
 
 // A view names each campaign once at most, and one turn more finds the end.
-const MOST_TURNS: u64 = MAX_CAMPAIGN + 2;
+const MOST_TURNS: u64 = SET_BITS + 1;
 
 // The names of a view, rising strictly, with a space before each.
 fn names(s: &[u8], at: usize) -> Slot

@@ -14,9 +14,12 @@ pub const MAX_INPUT: u64 = 4_294_967_295;
 
 pub const MAX_OUTPUT: u64 = 4_294_967_295;
 
-// The greatest campaign number, and the highest refusal number.
+// The greatest campaign number; a view's set has a bit for each.
 pub const MAX_CAMPAIGN: u64 = 63;
 
+pub const SET_BITS: u64 = MAX_CAMPAIGN + 1;
+
+// The highest refusal number.
 pub const MAX_QUESTION: u64 = 18;
 
 // Takings, claim and full, and the set of a view: all of 64 bits.

@@ -1,4 +1,5 @@
--- How long numerals and names are.
+-- How long numerals and names are: a numeral by its tenth, names by the count of the set's members, three bytes for each
+-- and two for each below 10.
 use mathlib.Core.Path.{_≡_, refl, sym, ap, _∙_}
 use mathlib.Core.Bool.{Bool, true, false, cond}
 use mathlib.Core.List.{List, [], _∷_, _++_}
@@ -12,8 +13,9 @@ use Rattle.finite.specs.Finite.{one-if, count}
 use Rattle.finite.proofs.Sums.{sum-zero, sum-eq, count-suc, count-skip}
 use Rattle.sets.specs.Set.{member, size, next}
 use Rattle.sets.proofs.Walk.{next-is}
+use Rattle.lines.specs.Limits.{set-bits}
 use Rattle.lines.specs.Numeral.{numeral}
-use Rattle.lines.specs.Form.{names-text, slot-text}
+use Rattle.lines.specs.Form.{names-slot, names-text, slot-text}
 use Rattle.lines.proofs.Numerals.{numeral-one, numeral-more}
 use Rattle.lines.proofs.NameSets.{above, names-skip}
 
@@ -101,7 +103,7 @@ low-size v =
     count-skip 54 10 (member (v % 1024)) (λ i p q. above (v % 1024) 10 (omega arith) i p)
     ∙ sum-eq 10 (λ i. one-if (member (v % 1024) i)) (λ i. one-if (member v i)) (λ i h. ap one-if (low-member v i h))
 
-pub names-size : (v : ℕ) → length (names-text 64 v) + size (v % 1024) ≡ 3 * size v
+pub names-size : (v : ℕ) → length (names-text set-bits v) + size (v % 1024) ≡ 3 * size v
 unfolding size
 names-size v = omega (arith, names-long 54 v (omega arith), low-size v)
 
@@ -113,13 +115,13 @@ count-most (suc n) p = go (p n) refl (count-most n p)
     go true e ih = omega (arith, count-suc n p, ap one-if e)
     go false e ih = omega (arith, count-suc n p, ap one-if e)
 
-pub size-most : (v : ℕ) → size v ≤ 64
+pub size-most : (v : ℕ) → size v ≤ set-bits
 unfolding size
-size-most v = count-most 64 (member v)
+size-most v = count-most set-bits (member v)
 
 -- Up to the next member no name is added.
 
-pub names-next : (set a : ℕ) → a ≤ 64 → names-text (next set a) set ≡ names-text a set
+pub names-next : (set a : ℕ) → a ≤ set-bits → names-text (next set a) set ≡ names-text a set
 names-next set a h =
     let n = next-is set a h in
     let e : next set a - a + a ≡ next set a = omega (arith, n .low) in
@@ -134,10 +136,10 @@ names-less (suc k) n v =
 
 -- A slot.
 
-pub text-names : (slot n : ℕ) → slot ≡ 83 → slot-text slot n ≡ names-text 64 n
+pub text-names : (slot n : ℕ) → slot ≡ names-slot → slot-text slot n ≡ names-text set-bits n
 unfolding slot-text
-text-names slot n e = simp (eq-eqb slot 83 e)
+text-names slot n e = simp (eq-eqb slot names-slot e)
 
-pub text-number : (slot n : ℕ) → (slot ≡ 83 → ⊥) → slot-text slot n ≡ numeral n
+pub text-number : (slot n : ℕ) → (slot ≡ names-slot → ⊥) → slot-text slot n ≡ numeral n
 unfolding slot-text
-text-number slot n e = simp (ne-eqb slot 83 e)
+text-number slot n e = simp (ne-eqb slot names-slot e)

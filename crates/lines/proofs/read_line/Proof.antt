@@ -1,4 +1,4 @@
--- A line of at most 200 bytes: the bytes at 1, 4 and 6 leave one form, `leaves` of Choice, and only that one is read.
+-- A line that is not too long: the bytes at 1, 4 and 6 leave one form, `leaves` of Choice, and only that one is read.
 -- Each arm shows which form its bytes leave (`first`, and `other` where an arm takes the rest), and that its code holds
 -- the line to that form (`reads`); `answers` joins the two.
 use mathlib.Core.Path.{_≡_, refl, ap, sym, _∙_}

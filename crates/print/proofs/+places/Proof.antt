@@ -1,3 +1,4 @@
+-- The digits of a numeral, four a call: the number falls, and each case is a law of Lengths.
 use native.Mathlib.Omega.{arith}
 use Prim.Native.Nat.{_/_, _+_, ℕ, _<_}
 use mathlib.Core.Path.{sym, ap, _∙_}

@@ -1,3 +1,4 @@
+-- Three bytes for each member, and one less for each below 10: `names-size`.
 use native.Mathlib.Omega.{arith}
 use Rattle.print.proofs.Lengths.{names-size, size-most}
 use Rattle.print.proofs.names_len.Statement.{statement}

@@ -1,11 +1,12 @@
+-- A word that ends at a place. The loop puts it byte by byte; its invariant: the bytes so far lie over the buffer.
 use mathlib.Core.Path.{_≡_, refl, ap, sym, _∙_}
 use mathlib.Core.List.{List}
 use Prim.Native.Nat.{ℕ, _+_, _-_, _≤_}
 use native.Mathlib.Omega.{arith}
 use lib.ListN.{length, take, getD, set, length-set}
 use lib.Seq.{take-length}
-use Rattle.print.specs.Buffer.{over}
-use Rattle.print.proofs.Buffers.{over-none, over-next}
+use Rattle.buffer.specs.Buffer.{over}
+use Rattle.buffer.proofs.Over.{over-none, over-next}
 use Rattle.print.proofs.put.Statement.{statement}
 use Rattle.print.proofs.put.Tie as tie
 

@@ -1,3 +1,5 @@
+-- The names of a set, from the least member to the next. The loop's invariant, `Names`: the names of the members below
+-- `name` stand, and `name` is a member or the end.
 use mathlib.Core.Path.{_≡_, ap, sym, _∙_, subst}
 use mathlib.Core.Bool.{true}
 use mathlib.Core.List.{List, _∷_, _++_}
@@ -10,8 +12,9 @@ use Rattle.sets.proofs.Walk.{next-is}
 use Rattle.lines.specs.Numeral.{numeral}
 use Rattle.lines.specs.Form.{names-text}
 use Rattle.lines.proofs.NameSets.{names-here}
-use Rattle.print.specs.Buffer.{Put}
-use Rattle.print.proofs.Buffers.{put-none, then}
+use Rattle.buffer.specs.Buffer.{Put}
+use Rattle.buffer.proofs.Puts.{put-none, put-then}
+use Rattle.lines.specs.Limits.{max-campaign, set-bits}
 use Rattle.print.proofs.Lengths.{names-next, names-less}
 use Rattle.print.proofs.put_names.Statement.{statement}
 use Rattle.print.proofs.put_names.Tie as tie
@@ -19,17 +22,17 @@ use Rattle.print.proofs.put_names.Tie as tie
 -- the names of the members below `name` stand
 record Names (out₀ : List ℕ) (at set : ℕ) (out : List ℕ) (to name : ℕ) : Type 0 where
   stands : Put out₀ out at to (names-text name set)
-  most : name ≤ 64
-  here : name < 64 → member set name ≡ true
+  most : name ≤ set-bits
+  here : name < set-bits → member set name ≡ true
 
 abbrev Inv-loop : tie.InvT-loop
 Inv-loop out₀ at set to₀ name₀ out to name = Names out₀ at set out to name
 
 abbrev μ-loop : tie.MeasureT-loop
-μ-loop out₀ at set to₀ name₀ out to name = 64 - name
+μ-loop out₀ at set to₀ name₀ out to name = set-bits - name
 
 -- the names below a go on to the next member from a on
-steps : {o : List ℕ} {at set : ℕ} {out : List ℕ} {to : ℕ} (a r : ℕ) → a ≤ 64 → r ≡ next set a → Put o out at to (names-text a set) → Names o at set out to r
+steps : {o : List ℕ} {at set : ℕ} {out : List ℕ} {to : ℕ} (a r : ℕ) → a ≤ set-bits → r ≡ next set a → Put o out at to (names-text a set) → Names o at set out to r
 steps {o} {at} {set} {out} {to} a r h e p =
     let n = next-is set a h in
     subst (Names o at set out to) (sym e) (record { stands = subst (Put o out at to) (sym (names-next set a h)) p; most = n .high; here = n .here })
@@ -39,10 +42,10 @@ names-with : (set name : ℕ) → member set name ≡ true → names-text (name 
 names-with set name h = ap (λ (k : ℕ). names-text k set) (add-one name) ∙ names-here name set h
 
 -- there is room for a name
-room : (set name : ℕ) → name < 64 → member set name ≡ true → length (names-text name set) + length (32 ∷ numeral name) ≤ length (names-text 64 set)
+room : (set name : ℕ) → name < set-bits → member set name ≡ true → length (names-text name set) + length (32 ∷ numeral name) ≤ length (names-text set-bits set)
 room set name h m =
-    let e : 63 - name + (name + 1) ≡ 64 = omega arith in
-    omega (arith, ap length (names-with set name m), length-append (names-text name set) (32 ∷ numeral name), names-less (63 - name) (name + 1) set, ap (λ (k : ℕ). length (names-text k set)) e)
+    let e : max-campaign - name + (name + 1) ≡ set-bits = omega arith in
+    omega (arith, ap length (names-with set name m), length-append (names-text name set) (32 ∷ numeral name), names-less (max-campaign - name) (name + 1) set, ap (λ (k : ℕ). length (names-text k set)) e)
 
 put-name-requires : tie.Need-put-name-requires Inv-loop μ-loop
 put-name-requires c κs =
@@ -58,7 +61,7 @@ loop-again c =
     let h = c .before .before .before .before .before .loop-test .taken in
     let p = c .before .before .before .put-name .ensures in
     steps (o .name + 1) (c .next-from2 .result) (omega arith) (c .next-from2 .ensures)
-    (subst (Put (a .out .now) _ (a .at) _) (sym (names-with (a .set) (o .name) (o .inv .here h))) (then (o .inv .stands) p))
+    (subst (Put (a .out .now) _ (a .at) _) (sym (names-with (a .set) (o .name) (o .inv .here h))) (put-then (o .inv .stands) p))
 
 loop-holds : tie.Need-loop-holds Inv-loop μ-loop
 unfolding names-text
@@ -89,5 +92,5 @@ put-names-spec =
     (λ c.
     let a = c .before .before .before .before .args in
     let o = c .before .loop in
-    let e : o .name ≡ 64 = omega (arith, o .inv .most) in
+    let e : o .name ≡ set-bits = omega (arith, o .inv .most) in
     subst (Put (a .out .now) _ (a .at) _) (ap (λ (k : ℕ). names-text k (a .set)) e) (o .inv .stands)))

@@ -1,8 +1,9 @@
+-- The number as its slot reads: the names of a set, put forward from where they begin, or the numeral.
 use mathlib.Core.Path.{ap, sym, subst}
 use native.Mathlib.Omega.{arith}
 use lib.ListN.{length}
 use borrow.Author.Needs.{needs}
-use Rattle.print.specs.Buffer.{Put}
+use Rattle.buffer.specs.Buffer.{Put}
 use Rattle.print.proofs.Lengths.{text-names, text-number}
 use Rattle.print.proofs.put_slot.Statement.{statement}
 use Rattle.print.proofs.put_slot.Tie as tie

@@ -1,3 +1,4 @@
+-- The length of the names or of the numeral; neither is longer than the names of a full set.
 use mathlib.Core.Path.{ap, sym, _∙_}
 use native.Mathlib.Omega.{arith}
 use lib.ListN.{length}

@@ -1,3 +1,4 @@
+-- The byte at a place; behind the line, where the code gives 0, so does the definition.
 use mathlib.Core.Path.{sym}
 use lib.ListN.{List·getD-eq-default}
 use borrow.Author.Needs.{needs}

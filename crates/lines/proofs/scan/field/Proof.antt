@@ -1,3 +1,4 @@
+-- A word and the slot behind it: what `names` or `number` saw at the place behind the word is what stands in the slot.
 use mathlib.Core.Path.{ap, sym, _∙_, subst}
 use Prim.Native.Nat.{ℕ}
 use borrow.Author.Needs.{needs}
@@ -13,11 +14,15 @@ field-spec =
     (λ c κs. search needs)
     (λ c κs. search needs)
     (λ c.
-    let a = c .before .before .before .before .before .args in
-    let b = c .before .before .behind in
-    subst (Sees (a .s .now) (c .names .result)) (ap (λ (k : ℕ). slot-at k (place (a .s .now) (b .result))) (sym (c .before .if1 .taken)) ∙ ap (slot-at (a .slot)) (b .ensures)) (c .names .ensures))
+    let b = c .before .before in
+    let a = b .before .before .before .args in
+    let l = a .s .now in
+    let p = place l (b .behind .result) in
+    subst (Sees l (c .names .result))
+    (ap (λ (k : ℕ). slot-at k p) (sym (c .before .if1 .taken)) ∙ ap (slot-at (a .slot)) (b .behind .ensures))
+    (c .names .ensures))
     (λ c κs. search needs)
     (λ c.
-    let a = c .before .before .before .before .before .args in
-    let b = c .before .before .behind in
-    subst (Sees (a .s .now) (c .number .result)) (ap (slot-at (a .slot)) (b .ensures)) (c .number .ensures)))
+    let b = c .before .before in
+    let a = b .before .before .before .args in
+    subst (Sees (a .s .now) (c .number .result)) (ap (slot-at (a .slot)) (b .behind .ensures)) (c .number .ensures)))

@@ -1,3 +1,5 @@
+-- Whether one digit more stays in the range: one comparison where nothing can wrap, and else by the quotient and the
+-- rest of the greatest number, `last-digit`.
 use mathlib.Core.Path.{refl, sym}
 use Prim.Native.Nat.{_+_, _*_}
 use native.Mathlib.Omega.{arith}

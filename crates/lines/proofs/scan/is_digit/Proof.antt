@@ -1,3 +1,4 @@
+-- The match is the definition: a byte from 48 to 57, one below, one above.
 use native.Mathlib.Omega.{arith}
 use mathlib.Core.Path.{sym}
 use Rattle.lines.proofs.Digits.{digit-yes, digit-below, digit-above}

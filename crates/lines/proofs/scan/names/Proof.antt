@@ -1,22 +1,29 @@
+-- The names of a view. The loop's invariant: the names that are left, read from here on into the set so far, give what
+-- the whole slot gives; behind the line the set is empty. A turn reads a space and a name, whose bit is above the set.
 use mathlib.Core.Path.{_≡_, refl, ap, sym, _∙_}
 use mathlib.Core.Bool.{Bool, true, false}
 use mathlib.Core.List.{List}
-use Prim.Native.Nat.{ℕ, _+_, _*_, _-_, _%_, _^_, _≤_, _<_}
+use Prim.Native.Nat.{ℕ, suc, _+_, _*_, _-_, _%_, _^_, _≤_, _<_}
 use native.Mathlib.Nat.{one-mul}
 use native.Mathlib.Omega.{arith}
 use lib.Dec.{ltb, lit<}
 use lib.ListN.{length, drop, getD, List·getD-eq-default}
 use lib.Pow.{pow-mono, shl-exact}
 use borrow.Author.Tests.{ltb-true, ltb-false}
+use Rattle.lines.specs.Limits.{max-campaign, set-bits, max-u64}
+use Rattle.lines.specs.Form.{campaign-slot, names-slot}
 use Rattle.lines.specs.Reading.{unseen, with-name, slot-at}
 use Rattle.lines.specs.Contracts.{place}
-use Rattle.lines.proofs.Places.{misses, seen-in, seen-out, name-small, joins, joins-not, names-from, names-all, names-out, names-stop, names-bad, names-next}
+use Rattle.lines.proofs.Places.{
+  missed, seen-in, seen-out, name-small, joins, joins-not, names-from, names-all, names-out, names-stop, names-bad,
+  names-join
+}
 use Rattle.lines.proofs.scan.names.Statement.{statement}
 use Rattle.lines.proofs.scan.names.Tie as tie
 
 abbrev Inv-loop : tie.InvT-loop
 Inv-loop s at set₀ i₀ left₀ set i left =
-    (names-from left set (place s i) ≡ slot-at 83 (place s at)) × (length s < i → set ≡ 0)
+    (names-from left set (place s i) ≡ slot-at names-slot (place s at)) × (length s < i → set ≡ 0)
 
 abbrev μ-loop : tie.MeasureT-loop
 μ-loop s at set₀ i₀ left₀ set i left = left
@@ -32,90 +39,118 @@ inside l i b e h = go (ltb i (length l)) refl
 -- no name follows
 returns : tie.Need-returns Inv-loop μ-loop
 returns c =
-    let a = c .before .before .before .before .before .args in
-    let o = c .before .before .before .loop in
-    names-stop (o .left) (o .set) (a .s .now) (o .i) (c .before .before .loop-test .taken) (slot-at 83 (place (a .s .now) (a .at))) (o .inv .0) (λ p. c .if1 .taken (c .before .byte .ensures ∙ p)) (o .inv .1)
+    let turn = c .before .before .before in
+    let a = turn .before .before .args in
+    let l = a .s .now in
+    let o = turn .loop in
+    names-stop (o .left) (o .set) l (o .i) (c .before .before .loop-test .taken) (slot-at names-slot (place l (a .at)))
+    (o .inv .0) (λ p. c .if1 .taken (c .before .byte .ensures ∙ p)) (o .inv .1)
 
 add-number : tie.Need-add-number Inv-loop μ-loop
 add-number c =
-    omega (arith, inside (c .before .before .before .before .before .args .s .now) (c .before .before .before .loop .i) (c .before .byte .result) (c .before .byte .ensures) (c .if1 .left))
+    let turn = c .before .before .before in
+    let b = c .before .byte in
+    omega (arith, inside (turn .before .before .args .s .now) (turn .loop .i) (b .result) (b .ensures) (c .if1 .left))
 
 -- what stands behind the space does not join the set
-ends : (c : tie.After-number Inv-loop μ-loop) → let l = c .before .before .before .before .before .before .args .s .now in let o = c .before .before .before .before .loop in
-    with-name (o .set) (slot-at 67 (place l (o .i + 1))) ≡ unseen → slot-at 83 (place l (c .before .before .before .before .before .before .args .at)) ≡ unseen
+ends : (c : tie.After-number Inv-loop μ-loop) → let turn = c .before .before .before .before in
+    let a = turn .before .before .args in
+    let l = a .s .now in
+    with-name (turn .loop .set) (slot-at campaign-slot (place l (turn .loop .i + 1))) ≡ unseen
+    → slot-at names-slot (place l (a .at)) ≡ unseen
 ends c q =
-    let l = c .before .before .before .before .before .before .args .s .now in
-    let o = c .before .before .before .before .loop in
+    let turn = c .before .before .before .before in
+    let l = turn .before .before .args .s .now in
+    let o = turn .loop in
     let b = c .before .before .byte in
-    sym (o .inv .0) ∙ names-bad (o .left) (o .set) l (o .i) (c .before .before .before .loop-test .taken) (inside l (o .i) (b .result) (b .ensures) (c .before .if1 .left)) (sym (b .ensures) ∙ c .before .if1 .left) q
+    let space = c .before .if1 .left in
+    let in-line = inside l (o .i) (b .result) (b .ensures) space in
+    let more = c .before .before .before .loop-test .taken in
+    sym (o .inv .0) ∙ names-bad (o .left) (o .set) l (o .i) more in-line (sym (b .ensures) ∙ space) q
 
 -- no name is there
 returns-2 : tie.Need-returns-2 Inv-loop μ-loop
 returns-2 c =
-    let a = c .before .before .before .before .before .before .before .before .before .args in
-    let l = a .s .now in
-    let o = c .before .before .before .before .before .before .before .loop in
-    let x = c .before .before .before .number in
-    misses l (c .missing .result) (slot-at 83 (place l (a .at))) (c .missing .ensures .0) (omega (arith, c .missing .ensures .1))
-    (ends (c .before .before .before) (ap (with-name (o .set)) (seen-out l (x .result) (slot-at 67 (place l (o .i + 1))) (x .ensures) (c .before .if2 .taken))))
+    let name = c .before .before .before in
+    let turn = name .before .before .before .before in
+    let l = turn .before .before .args .s .now in
+    let o = turn .loop in
+    let x = name .number in
+    let s = slot-at campaign-slot (place l (o .i + 1)) in
+    missed (omega arith) (c .missing .ensures)
+    (ends name (ap (with-name (o .set)) (seen-out l (x .result) s (x .ensures) (c .before .if2 .taken))))
 
 shl-bit : tie.Need-shl-bit Inv-loop μ-loop
 shl-bit c =
-    let l = c .before .before .before .before .before .before .before .before .before .args .s .now in
-    let x = c .before .before .before .number in
-    omega (arith, name-small l (x .result) (place l (c .before .before .before .before .before .before .before .loop .i + 1)) (x .ensures) (c .before .if2 .left))
+    let name = c .before .before .before in
+    let turn = name .before .before .before .before in
+    let l = turn .before .before .args .s .now in
+    let x = name .number in
+    omega (arith, name-small l (x .result) (place l (turn .loop .i + 1)) (x .ensures) (c .before .if2 .left))
 
 -- a name's bit fits 64 bits
-bit : (n : ℕ) → n < 64 → (1 * 2 ^ n) % 18446744073709551616 ≡ 2 ^ n
-bit n h = shl-exact {a = 1} 1 n 64 (lit< tt) (omega arith) ∙ one-mul (2 ^ n)
+bit : (n : ℕ) → n < set-bits → (1 * 2 ^ n) % suc max-u64 ≡ 2 ^ n
+bit n h = shl-exact {a = 1} 1 n set-bits (lit< tt) (omega arith) ∙ one-mul (2 ^ n)
 
 -- the name is not above the others
 returns-3 : tie.Need-returns-3 Inv-loop μ-loop
 returns-3 c =
-    let a = c .before .before .before .before .before .before .before .before .before .before .before .args in
-    let l = a .s .now in
-    let o = c .before .before .before .before .before .before .before .before .before .loop in
-    let x = c .before .before .before .before .before .number in
-    let r = place l (o .i + 1) in
+    let name = c .before .before .before .before .before in
+    let turn = name .before .before .before .before in
+    let l = turn .before .before .args .s .now in
+    let o = turn .loop in
+    let x = name .number in
     let n = x .result .number in
+    let r = place l (o .i + 1) in
+    let s = slot-at campaign-slot r in
     let h = c .before .before .before .if2 .left in
-    misses l (c .missing2 .result) (slot-at 83 (place l (a .at))) (c .missing2 .ensures .0) (omega (arith, c .missing2 .ensures .1))
-    (ends (c .before .before .before .before .before)
-    (joins-not (o .set) (slot-at 67 r) n (drop (x .result .end) l) (seen-in l (x .result) (slot-at 67 r) (x .ensures) h) (omega (arith, bit n (name-small l (x .result) r (x .ensures) h)))))
+    let low = bit n (name-small l (x .result) r (x .ensures) h) in
+    missed (omega arith) (c .missing2 .ensures)
+    (ends name
+    (joins-not (o .set) s n (drop (x .result .end) l) (seen-in l (x .result) s (x .ensures) h) (omega (arith, low))))
 
 -- the name joins the set
-bit-of : (c : tie.Else3 Inv-loop μ-loop) → let n = c .before .before .before .before .number .result .number in ((1 * 2 ^ n) % 18446744073709551616 ≡ 2 ^ n) × (2 ^ n ≤ 2 ^ 63)
+bit-of : (c : tie.Else3 Inv-loop μ-loop) → let n = c .before .before .before .before .number .result .number in
+    ((1 * 2 ^ n) % suc max-u64 ≡ 2 ^ n) × (2 ^ n ≤ 2 ^ max-campaign)
 bit-of c =
-    let l = c .before .before .before .before .before .before .before .before .before .before .args .s .now in
-    let x = c .before .before .before .before .number in
-    let h = name-small l (x .result) (place l (c .before .before .before .before .before .before .before .before .loop .i + 1)) (x .ensures) (c .before .before .if2 .left) in
-    (bit (x .result .number) h, pow-mono {i = x .result .number} {j = 63} (omega arith))
+    let name = c .before .before .before .before in
+    let turn = name .before .before .before .before in
+    let l = turn .before .before .args .s .now in
+    let x = name .number in
+    let n = x .result .number in
+    let h = name-small l (x .result) (place l (turn .loop .i + 1)) (x .ensures) (c .before .before .if2 .left) in
+    (bit n h, pow-mono {i = n} {j = max-campaign} (omega arith))
 
 loop-again : tie.Need-loop-again Inv-loop μ-loop
 loop-again c =
-    let l = c .before .before .before .before .before .before .before .before .before .before .args .s .now in
-    let o = c .before .before .before .before .before .before .before .before .loop in
-    let x = c .before .before .before .before .number in
-    let s = slot-at 67 (place l (o .i + 1)) in
-    let b = c .before .before .before .before .before .before .byte in
-    let t = c .before .before .before .before .before .if1 .left in
+    let name = c .before .before .before .before in
+    let turn = name .before .before .before .before in
+    let l = turn .before .before .args .s .now in
+    let o = turn .loop in
+    let x = name .number in
+    let n = x .result .number in
+    let to = x .result .end in
+    let s = slot-at campaign-slot (place l (o .i + 1)) in
+    let b = name .before .before .byte in
+    let space = name .before .if1 .left in
+    let in-line = inside l (o .i) (b .result) (b .ensures) space in
+    let more = name .before .before .before .loop-test .taken in
     let h = c .before .before .if2 .left in
-    let e = bit-of c .0 in (
-      ap (λ (k : ℕ). names-from (o .left - 1) (o .set + k) (place l (x .result .end))) e
-          ∙ sym (names-next (o .left) (o .set) l (o .i) (c .before .before .before .before .before .before .before .loop-test .taken) (inside l (o .i) (b .result) (b .ensures) t) (sym (b .ensures) ∙ t)
-          (o .set + 2 ^ x .result .number) (x .result .end) h
-          (joins (o .set) s (x .result .number) (drop (x .result .end) l) (seen-in l (x .result) s (x .ensures) h) (omega (arith, e)))) ∙ o .inv .0,
+    let e = bit-of c .0 in
+    let joined = joins (o .set) s n (drop to l) (seen-in l (x .result) s (x .ensures) h) (omega (arith, e)) in (
+      ap (λ (k : ℕ). names-from (o .left - 1) (o .set + k) (place l to)) e
+          ∙ sym (names-join (o .left) (o .set) l (o .i) more in-line (sym (b .ensures) ∙ space) (o .set + 2 ^ n) to h joined)
+          ∙ o .inv .0,
       λ q. absurd (omega arith),
     )
 
 -- more names than a set has members
 returns-4 : tie.Need-returns-4 Inv-loop μ-loop
 returns-4 c =
-    let a = c .before .before .before .before .args in
-    let l = a .s .now in
-    let o = c .before .before .loop in
-    misses l (c .missing3 .result) (slot-at 83 (place l (a .at))) (c .missing3 .ensures .0) (omega (arith, c .missing3 .ensures .1))
-    (sym (o .inv .0) ∙ names-out (o .left) (o .set) (place l (o .i)) (omega arith))
+    let turn = c .before .before in
+    let o = turn .loop in
+    missed (omega arith) (c .missing3 .ensures)
+    (sym (o .inv .0) ∙ names-out (o .left) (o .set) (place (turn .before .before .args .s .now) (o .i)) (omega arith))
 
 pub names-spec : {M : Type 1} → statement M
 names-spec =
@@ -127,7 +162,7 @@ names-spec =
     (λ c κs. tt)
     returns
     add-number
-    (λ c κs. (c .before .before .before .before .before .pre, omega arith))
+    (λ c κs. omega arith)
     (λ c κs. tt)
     returns-2
     shl-bit

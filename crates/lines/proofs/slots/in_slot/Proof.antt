@@ -1,8 +1,9 @@
+-- The two tests are the definition's, with the greatest number as `slot_max` gives it.
 use mathlib.Core.Path.{ap}
 use mathlib.Core.Bool.{not, _&&_, _||_}
 use Prim.Native.Nat.{ℕ}
 use lib.Dec.{leb, eqb}
-use Rattle.lines.specs.Form.{in-slot}
+use Rattle.lines.specs.Form.{refusal-slot, in-slot}
 use Rattle.lines.proofs.slots.in_slot.Statement.{statement}
 use Rattle.lines.proofs.slots.in_slot.Tie as tie
 
@@ -12,4 +13,7 @@ in-slot-spec =
     tie.close
     (tie.spec
     (λ c κs. tt)
-    (λ c. let a = c .before .args in ap (λ (m : ℕ). (not (eqb (a .slot) 82) || leb 1 (a .number)) && leb (a .number) m) (c .slot-max .ensures)))
+    (λ c.
+    let a = c .before .args in
+    let n = a .number in
+    ap (λ (m : ℕ). (not (eqb (a .slot) refusal-slot) || leb 1 n) && leb n m) (c .slot-max .ensures)))
