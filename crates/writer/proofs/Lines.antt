@@ -1,15 +1,14 @@
--- How long lines are.
+-- A line is its form's template, filled, with a byte 10 behind it: what the puts of a form make (`puts-line`), and how long
+-- it is, its own bytes and those of its slots (`line-slots`). Both hold for every form: a new one needs no law of its own.
 use mathlib.Core.Path.{_≡_, refl, sym, ap, _∙_, subst}
 use mathlib.Core.Bool.{Bool, true, false, cond, not}
 use mathlib.Core.List.{List, [], _∷_, _++_, append-assoc}
 use Prim.Native.Nat.{ℕ, _+_}
-use Prim.Native.String.{String}
 use native.Mathlib.Omega.{arith}
 use lib.ListN.{length, length-append, getD}
-use Rattle.lines.specs.Form.{bytes, is-slot, slot-text, template, numbers, piece, numbers-after, filled, text}
+use Rattle.lines.specs.Form.{is-slot, slot-text, template, numbers, piece, numbers-after, filled, text}
 use Rattle.lines.specs.declared.Record.{Record}
-use Rattle.print.specs.Buffer.{Put}
-use Rattle.print.proofs.Buffers.{Room, left}
+use Rattle.buffer.specs.Buffer.{Put}
 use Rattle.writer.specs.Writing.{line}
 
 filled-end : (t ns : List ℕ) → filled (t ++ (10 ∷ [])) ns ≡ filled t ns ++ (10 ∷ [])
@@ -56,11 +55,7 @@ pub line-slots : (r : Record) → length (line r) ≡ slots-size (template r) (n
 unfolding line text
 line-slots r = length-append (text r) (10 ∷ []) ∙ slots-counted (template r) (numbers r) 1
 
--- a word and a slot behind it
-abbrev pub field : String → ℕ → ℕ → ℕ
-field word slot n = length (bytes word) + length (slot-text slot n)
-
--- the room that is left before them
-pub left-field : (k : ℕ) (word : String) (slot n : ℕ) {d e : List ℕ} {at to : ℕ}
-    → Put d e at to (bytes word ++ slot-text slot n) → Room (length d) to (k + field word slot n) → Room (length e) at k
-left-field k word slot n {d} {e} {at} {to} p h = left k p (subst (λ (x : ℕ). Room (length d) to (k + x)) (sym (length-append (bytes word) (slot-text slot n))) h)
+-- a form that was put whole
+pub puts-line : (r : Record) {d e : List ℕ} {at to : ℕ} → Put d e at to (filled (template r ++ (10 ∷ [])) (numbers r))
+    → Put d e at to (line r)
+puts-line r {d} {e} {at} {to} p = subst (Put d e at to) (sym (line-filled r)) p

@@ -1,4 +1,4 @@
--- The number of an answer is that of the first question that fails, or 0.
+-- The number of an answer is that of the first question that fails, or 0: each answer is one arm of one test.
 use mathlib.Core.Path.{_≡_, refl, sym}
 use mathlib.Core.Bool.{Bool, true, false, cond}
 use mathlib.Core.List.{List, [], _∷_}

@@ -1,3 +1,5 @@
+-- The two questions, then the line. `size_of` has measured the record before the buffer is touched, so each way out is a
+-- case of the definitions; a line that ends where it is long begins at the front.
 use mathlib.Core.Path.{_≡_, ap, sym, _∙_}
 use mathlib.Core.Bool.{true, false}
 use mathlib.Core.List.{List}
@@ -11,10 +13,10 @@ use Rattle.lines.specs.Form.{in-range}
 use Rattle.lines.specs.declared.Record.{Record}
 use Rattle.writer.specs.declared.Writing.the-variants.{Length, Refusal}
 use Rattle.print.specs.declared.Size.{Size}
-use Rattle.print.specs.Buffer.{over, Put}
-use Rattle.writer.specs.Inner.{Sized}
+use Rattle.buffer.specs.Buffer.{over, Put}
+use Rattle.writer.specs.Contracts.{Sized}
 use Rattle.writer.specs.Writing.{line, question, writing, written}
-use Rattle.print.proofs.Buffers.{over-front}
+use Rattle.buffer.proofs.Over.{over-front}
 use Rattle.writer.proofs.write_line.Statement.{statement}
 use Rattle.writer.proofs.write_line.Tie as tie
 
@@ -46,17 +48,24 @@ write-line-spec =
     (tie.spec
     (λ c κs. tt)
     (λ c.
-    let a = c .before .before .before .before .args in
-    let z = c .before .before .size-of in
+    let measured = c .before .before in
+    let a = measured .before .before .args in
+    let z = measured .size-of in
     out-of-range (a .r) (z .result) (a .out .now) (z .ensures) (not-true _ (c .if1 .taken)))
     (λ c.
-    let a = c .before .before .before .before .before .before .args in
-    let z = c .before .before .before .before .size-of in
-    no-room (a .r) (z .result) (a .out .now) (z .ensures) (not-false _ (c .before .before .if1 .left)) (c .if2 .taken))
-    (λ c κs. omega (arith, c .before .before .before .before .before .size-of .ensures .len))
+    let in-ranges = c .before .before in
+    let measured = in-ranges .before .before in
+    let a = measured .before .before .args in
+    let z = measured .size-of in
+    no-room (a .r) (z .result) (a .out .now) (z .ensures) (not-false _ (in-ranges .if1 .left)) (c .if2 .taken))
+    (λ c κs. let measured = c .before .before .before .before .before in omega (arith, measured .size-of .ensures .len))
     (λ c. search needs)
     (λ c.
-    let a = c .before .before .before .before .before .before .before .before .before .before .args in
-    let z = c .before .before .before .before .before .before .before .before .size-of in
-    wrote (a .r) (z .result) (a .out .now) (z .ensures)
-    (not-false _ (c .before .before .before .before .before .before .if1 .left)) (c .before .before .before .before .if2 .left) (c .before .before .put-record .ensures)))
+    let put = c .before .before in
+    let enough = put .before .before in
+    let in-ranges = enough .before .before in
+    let measured = in-ranges .before .before in
+    let a = measured .before .before .args in
+    let z = measured .size-of in
+    wrote (a .r) (z .result) (a .out .now) (z .ensures) (not-false _ (in-ranges .if1 .left)) (enough .if2 .left)
+    (put .put-record .ensures)))

@@ -1,4 +1,4 @@
--- What measuring a record tells.
+-- How the contracts of the inner functions speak of measuring a record. Nothing that a caller relies on is defined here.
 use mathlib.Core.Path.{_≡_}
 use lib.ListN.{length}
 use Rattle.lines.specs.Form.{in-range}
