@@ -1,5 +1,5 @@
--- The first bytes of a line leave one form, and reading is trying that one: the text of a record has the bytes that leave
--- its form, so a form whose template the line fills is the one that is left.
+-- The first bytes of a line leave one form, and reading is trying that one: the text of a record has the bytes that
+-- leave its form, so a form whose template the line fills is the one that is left.
 use mathlib.Core.Path.{_≡_, refl, sym, ap, _∙_, subst}
 use mathlib.Core.Bool.{Bool, true, false, cond}
 use mathlib.Core.List.{List, [], _∷_, append-nil}
@@ -9,12 +9,14 @@ use native.Mathlib.Nat.{le-trans}
 use lib.Dec.{eqb, lit<, lit≤}
 use lib.ListN.{length, getD}
 use Rattle.lines.specs.declared.Record.{Record}
-use Rattle.lines.specs.declared.Record.the-variants.{Plan, Campaign, Start, View, Close, Done, Play, Nobody, Refused, Closed, Tally}
+use Rattle.lines.specs.declared.Record.the-variants.{Plan, Campaign, Start, View, Close, Done, Play, Nobody}
+use Rattle.lines.specs.declared.Record.the-variants.{Refused, Closed, Tally}
 use Rattle.lines.specs.declared.Reading.the-variants.{Got, Refusal}
 use Rattle.lines.specs.Limits.{max-line, max-answer}
 use Rattle.lines.specs.Form.{is-output, template, numbers, piece, numbers-after, filled, in-slots, text, in-range}
 use Rattle.lines.specs.OneText.{Is}
-use Rattle.lines.specs.Reading.{Rest, none, some, is-digit, rest-of, numbers-of, made, is-end, ended-or, held-or, forms, first-of}
+use Rattle.lines.specs.Reading.{Rest, none, some, is-digit, rest-of, numbers-of, made, is-end, ended-or, held-or}
+use Rattle.lines.specs.Reading.{forms, first-of}
 use Rattle.lines.proofs.Digits.{clash, apart}
 use Rattle.lines.proofs.Templates.{fair, taken, most, sound, complete, filled-most}
 use Rattle.lines.proofs.Plain.{plain, plain-at, filled-plain}
@@ -63,11 +65,13 @@ all-forms =
     (form (λ _. refl, λ _. refl, λ _. refl)
     (form (λ _. refl, λ _. refl, λ _. refl) done)))))))))))
 
--- each slot of r's template can be told from what follows, no text of it is longer than a line, and r is made from its form and its numbers; the bytes of its text choose its form; no byte of its template is 10
+-- Each slot of r's template can be told from what follows, no text of it is longer than a line, and r is made from its
+-- form and its numbers; the bytes of its text choose its form; no byte of its template is 10.
 abbrev Known : Record → Type 0
 Known r =
     (fair (template r) ≡ true) × (most (template r) ≤ max-line) × (template (made r []) ≡ template r)
-    × (made (made r []) (taken (template r) (numbers r)) ≡ r) × (chosen (text r) ≡ made r []) × (plain (template r) ≡ true)
+    × (made (made r []) (taken (template r) (numbers r)) ≡ r) × (chosen (text r) ≡ made r [])
+    × (plain (template r) ≡ true)
 
 known : (r : Record) → Known r
 unfolding template numbers made text filled piece numbers-after is-digit chosen
@@ -131,9 +135,12 @@ read-is : (f : Record) (l : List ℕ) → Form f → fills f l ≡ true → Is l
 unfolding text in-range
 read-is f l p h =
     let s = sound (template f) l [] (end-of (rest-of (template f) (some l)) h) in
-    let t : (ns : List ℕ) → filled (template f) ns ≡ filled (template (read f l)) ns = λ ns. ap (λ (x : List ℕ). filled x ns) (sym (p .0 (numbers-of (template f) (some l)))) in (
-      ap (λ (x : List ℕ). in-slots x (numbers (read f l))) (p .0 (numbers-of (template f) (some l))) ∙ ap (in-slots (template f)) (p .1 (some l)) ∙ s .range,
-      s .text ∙ append-nil (filled (template f) (numbers-of (template f) (some l))) ∙ ap (filled (template f)) (sym (p .1 (some l))) ∙ t (numbers (read f l)),
+    let t : (ns : List ℕ) → filled (template f) ns ≡ filled (template (read f l)) ns =
+    λ ns. ap (λ (x : List ℕ). filled x ns) (sym (p .0 (numbers-of (template f) (some l)))) in (
+      ap (λ (x : List ℕ). in-slots x (numbers (read f l))) (p .0 (numbers-of (template f) (some l)))
+          ∙ ap (in-slots (template f)) (p .1 (some l)) ∙ s .range,
+      s .text ∙ append-nil (filled (template f) (numbers-of (template f) (some l)))
+          ∙ ap (filled (template f)) (sym (p .1 (some l))) ∙ t (numbers (read f l)),
     )
 
 -- the text of a record fills the template of its form, and reads as the record
@@ -143,12 +150,14 @@ text-read r h =
     let k = known r in
     let c = complete (template r) (numbers r) (k .0) h in (
       ap (λ (t : List ℕ). is-end (rest-of t (some (text r)))) (k .2) ∙ ap is-end (c .all),
-      ap (λ (t : List ℕ). made (made r []) (numbers-of t (some (text r)))) (k .2) ∙ ap (made (made r [])) (c .numbers) ∙ k .3,
+      ap (λ (t : List ℕ). made (made r []) (numbers-of t (some (text r)))) (k .2) ∙ ap (made (made r [])) (c .numbers)
+          ∙ k .3,
     )
 
 -- a form whose template the line fills is the chosen one
 fills-chosen : (f : Record) (l : List ℕ) → Form f → fills f l ≡ true → f ≡ chosen l
-fills-chosen f l p h = sym (p .2 (numbers-of (template f) (some l))) ∙ sym (known (read f l) .4) ∙ ap chosen (sym (read-is f l p h .1))
+fills-chosen f l p h =
+    sym (p .2 (numbers-of (template f) (some l))) ∙ sym (known (read f l) .4) ∙ ap chosen (sym (read-is f l p h .1))
 
 -- All forms.
 
@@ -162,15 +171,18 @@ module _ (l : List ℕ) where
   none-fills done h = refl
   none-fills (form {f} {fs} p a) h = go (fills f l) refl (none-fills a h)
     where
-      go : (t : Bool) → fills f l ≡ t → first-of fs l ≡ Refusal 17 → cond t (Got (read f l)) (first-of fs l) ≡ Refusal 17
+      go : (t : Bool) → fills f l ≡ t → first-of fs l ≡ Refusal 17
+          → cond t (Got (read f l)) (first-of fs l) ≡ Refusal 17
       go true e ih = apart (sym h ∙ ap (λ (x : Record). fills x l) (sym (fills-chosen f l p e)) ∙ e)
       go false e ih = ih
 
-  one-fills : {fs : List Record} → All-forms fs → In (chosen l) fs → fills (chosen l) l ≡ true → first-of fs l ≡ Got (read (chosen l) l)
+  one-fills : {fs : List Record} → All-forms fs → In (chosen l) fs → fills (chosen l) l ≡ true
+      → first-of fs l ≡ Got (read (chosen l) l)
   unfolding first-of held-or ended-or
   one-fills (form {f} {fs} p a) i h = go (fills f l) refl i (λ j. one-fills a j h)
     where
-      go : (t : Bool) → fills f l ≡ t → In (chosen l) (f ∷ fs) → (In (chosen l) fs → first-of fs l ≡ Got (read (chosen l) l))
+      go : (t : Bool) → fills f l ≡ t → In (chosen l) (f ∷ fs)
+          → (In (chosen l) fs → first-of fs l ≡ Got (read (chosen l) l))
           → cond t (Got (read f l)) (first-of fs l) ≡ Got (read (chosen l) l)
       go true e i ih = ap (λ (x : Record). Got (read x l)) (fills-chosen f l p e)
       go false e (here q) ih = apart (sym e ∙ ap (λ (x : Record). fills x l) (sym q) ∙ h)
@@ -190,7 +202,9 @@ unfolding chosen forms
 chosen-in l =
     either (eqb (getD l 1 0) 118) (nth forms 3 (lit< tt))
     (either (eqb (getD l 1 0) 112) (either (eqb (getD l 4 0) 110) (nth forms 0 (lit< tt)) (nth forms 6 (lit< tt)))
-    (either (eqb (getD l 1 0) 99) (either (eqb (getD l 6 0) 41) (nth forms 4 (lit< tt)) (either (eqb (getD l 6 0) 100) (nth forms 9 (lit< tt)) (nth forms 1 (lit< tt))))
+    (either (eqb (getD l 1 0) 99)
+    (either (eqb (getD l 6 0) 41) (nth forms 4 (lit< tt))
+    (either (eqb (getD l 6 0) 100) (nth forms 9 (lit< tt)) (nth forms 1 (lit< tt))))
     (either (eqb (getD l 1 0) 115) (nth forms 2 (lit< tt))
     (either (eqb (getD l 1 0) 111) (nth forms 5 (lit< tt))
     (either (eqb (getD l 1 0) 110) (nth forms 7 (lit< tt))
@@ -205,7 +219,8 @@ pub first-chosen : (l : List ℕ) → first-of forms l ≡ held-or (Refusal 17) 
 unfolding held-or ended-or
 first-chosen l = go (fills (chosen l) l) refl
   where
-    go : (t : Bool) → fills (chosen l) l ≡ t → first-of forms l ≡ cond (fills (chosen l) l) (Got (read (chosen l) l)) (Refusal 17)
+    go : (t : Bool) → fills (chosen l) l ≡ t
+        → first-of forms l ≡ cond (fills (chosen l) l) (Got (read (chosen l) l)) (Refusal 17)
     go true e = one-fills l all-forms (chosen-in l) e ∙ rw e
     go false e = none-fills l all-forms e ∙ rw e
 
@@ -214,9 +229,11 @@ pub held-is : (l : List ℕ) (r : Record) → first-of forms l ≡ Got r → Is 
 unfolding held-or ended-or
 held-is l r h = go (fills (chosen l) l) refl (sym (first-chosen l) ∙ h)
   where
-    go : (t : Bool) → fills (chosen l) l ≡ t → cond (fills (chosen l) l) (Got (read (chosen l) l)) (Refusal 17) ≡ Got r → Is l r
+    go : (t : Bool) → fills (chosen l) l ≡ t → cond (fills (chosen l) l) (Got (read (chosen l) l)) (Refusal 17) ≡ Got r
+        → Is l r
     go true e q =
-        let z : Got (read (chosen l) l) ≡ Got r = ap (λ (t : Bool). cond t (Got (read (chosen l) l)) (Refusal 17)) (sym e) ∙ q in
+        let z : Got (read (chosen l) l) ≡ Got r =
+        ap (λ (t : Bool). cond t (Got (read (chosen l) l)) (Refusal 17)) (sym e) ∙ q in
         let y : read (chosen l) l ≡ r = cc in
         subst (Is l) y (read-is (chosen l) l (form-of all-forms (chosen-in l)) e)
     go false e q =

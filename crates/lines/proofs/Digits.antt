@@ -49,7 +49,8 @@ unfolding digits
 digits-least [] a = omega arith
 digits-least (b ∷ l) a = go (is-digit b) (digits-least l (a * 10 + (b - 48)))
   where
-    go : (t : Bool) → a * 10 + (b - 48) ≤ value (digits (a * 10 + (b - 48)) l) → a ≤ value (cond t (digits (a * 10 + (b - 48)) l) (seen a (b ∷ l)))
+    go : (t : Bool) → a * 10 + (b - 48) ≤ value (digits (a * 10 + (b - 48)) l)
+        → a ≤ value (cond t (digits (a * 10 + (b - 48)) l) (seen a (b ∷ l)))
     go true ih = omega arith
     go false ih = omega arith
 
@@ -68,7 +69,8 @@ max-range slot = go (eqb slot input-slot) (eqb slot output-slot) (eqb slot campa
 
 pub slot-most : (slot n : ℕ) → in-slot slot n ≡ true → n ≤ slot-max slot
 unfolding in-slot
-slot-most slot n h = leb-true n (slot-max slot) (both-right (not (eqb slot refusal-slot) || leb 1 n) (leb n (slot-max slot)) h)
+slot-most slot n h =
+    leb-true n (slot-max slot) (both-right (not (eqb slot refusal-slot) || leb 1 n) (leb n (slot-max slot)) h)
 
 pub slot-small : (slot n : ℕ) → in-slot slot n ≡ true → n < 2 ^ 64
 slot-small slot n h = omega (arith, slot-most slot n h, max-range slot)
@@ -83,7 +85,9 @@ slot-yes slot n h m = go (not (eqb slot refusal-slot))
 
 pub slot-zero : (slot : ℕ) → (slot ≡ refusal-slot → ⊥) → in-slot slot 0 ≡ true
 unfolding in-slot
-slot-zero slot h = ap (λ (t : Bool). (not t || leb 1 0) && leb 0 (slot-max slot)) (ne-eqb slot refusal-slot h) ∙ le-leb 0 (slot-max slot) (omega arith)
+slot-zero slot h =
+    ap (λ (t : Bool). (not t || leb 1 0) && leb 0 (slot-max slot)) (ne-eqb slot refusal-slot h)
+    ∙ le-leb 0 (slot-max slot) (omega arith)
 
 pub ranged-yes : (slot n : ℕ) (l : List ℕ) → in-slot slot n ≡ true → ranged slot (seen n l) ≡ seen n l
 ranged-yes slot n l e = simp e

@@ -1,6 +1,6 @@
--- A form is read field by field, a word and the slot behind it. `reads` turns what the code saw, for any number of slots,
--- into what holding the line to the form's template gives: a form's proof cites it with its fields.
--- The idea: a template is its first word, its first slot and the rest, and holding a line to it passes over them in turn.
+-- A form is read field by field, a word and the slot behind it. `reads` turns what the code saw, for any number of
+-- slots, into what holding the line to the form's template gives: a form's proof cites it with its fields.
+-- The idea: a template is its first word, its first slot and the rest, and a line held to it is held to these in turn.
 use mathlib.Core.Path.{_≡_, refl, sym, ap, ap₂, _∙_}
 use mathlib.Core.Bool.{Bool, true, false, cond, _||_}
 use mathlib.Core.List.{List, [], _∷_}
@@ -10,9 +10,8 @@ use Rattle.lines.specs.declared.Reading.{Reading}
 use Rattle.lines.specs.declared.Reading.the-variants.{Refusal}
 use Rattle.lines.specs.declared.scan.Slot.{Slot}
 use Rattle.lines.specs.Form.{is-slot, template}
-use Rattle.lines.specs.Reading.{
-  Rest, some, value, behind, slot-at, strip, step, rest-of, slot-then, numbers-of, made, ended-or, held-or
-}
+use Rattle.lines.specs.Reading.{Rest, some, value, behind, slot-at, strip, step, rest-of, slot-then, numbers-of}
+use Rattle.lines.specs.Reading.{made, ended-or, held-or}
 use Rattle.lines.specs.Contracts.{place, stripped, Sees}
 use Rattle.lines.proofs.Digits.{apart}
 use Rattle.lines.proofs.Places.{place-start}
@@ -91,8 +90,8 @@ numbers-field (b ∷ t) r h = go (is-slot b) h (numbers-field t (strip b r))
     go true h ih = refl
     go false h ih = ih h
 
--- The line l from r on was read by the template t: a field for each slot, and then the last word. The numbers are ns, and
--- what is left is a.
+-- The line l from r on was read by the template t: a field for each slot, and then the last word. The numbers are ns,
+-- and what is left is a.
 pub data Scanned (l : List ℕ) : List ℕ → Rest → List ℕ → Rest → Type 0 where
   last-word : {t : List ℕ} {r : Rest} → has-slot t ≡ false → Scanned l t r [] (stripped t r)
   field : {t : List ℕ} {r a : Rest} {ns : List ℕ} {x : Slot} → has-slot t ≡ true
@@ -117,7 +116,7 @@ unfolding held-or
 reads f {l} {ns} {a} s e =
     let i = scanned-is s in
     let from : (r : Rest) → r ≡ place l 0 → ended-or (Refusal 17) a (made f ns)
-        ≡ ended-or (Refusal 17) (rest-of (template f) r) (made f (numbers-of (template f) r)) =
+    ≡ ended-or (Refusal 17) (rest-of (template f) r) (made f (numbers-of (template f) r)) =
     λ r q. ap₂ (λ (x : Rest) (m : List ℕ). ended-or (Refusal 17) x (made f m))
     (sym (ap (rest-of (template f)) q ∙ i .0)) (sym (ap (numbers-of (template f)) q ∙ i .1)) in
     e ∙ from (some l) (sym (place-start l))

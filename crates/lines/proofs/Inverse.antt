@@ -1,4 +1,5 @@
--- Reading is the inverse of `text`: the laws of Choice, with the length of the line asked first. `one-text` is demand 2.
+-- Reading is the inverse of `text`: the laws of Choice, with the length of the line asked first. `one-text` is what
+-- demand 2 says of lines.
 use mathlib.Core.Path.{_≡_, refl, sym, ap, _∙_, subst}
 use mathlib.Core.Bool.{Bool, true, false, cond}
 use mathlib.Core.List.{List, [], _∷_}
@@ -45,24 +46,26 @@ pub record-once : (l m : List ℕ) (r : Record) → reading l ≡ Got r → read
 record-once l m r p q = read-text l r p .1 ∙ sym (read-text m r q .1)
 
 -- a line is refused with 16 if it is too long, else with 17 and only where it is no record's text
-pub refused : (l : List ℕ) (n : ℕ) → reading l ≡ Refusal n
-    → ((n ≡ 16) × (max-line < length l)) ⊎ ((n ≡ 17) × (length l ≤ max-line) × ((r : Record) → Is l r → ⊥))
+abbrev pub Refuses : List ℕ → ℕ → Type 0
+Refuses l n = ((n ≡ 16) × (max-line < length l)) ⊎ ((n ≡ 17) × (length l ≤ max-line) × ((r : Record) → Is l r → ⊥))
+
+pub refused : (l : List ℕ) (n : ℕ) → reading l ≡ Refusal n → Refuses l n
 unfolding reading
 refused l n e = go (ltb max-line (length l)) refl e
   where
-    go : (t : Bool) → ltb max-line (length l) ≡ t → cond t (Refusal 16) (first-of forms l) ≡ Refusal n → ((n ≡ 16) × (max-line < length l)) ⊎ ((n ≡ 17) × (length l ≤ max-line) × ((r : Record) → Is l r → ⊥))
+    go : (t : Bool) → ltb max-line (length l) ≡ t → cond t (Refusal 16) (first-of forms l) ≡ Refusal n → Refuses l n
     go true f q = let y : 16 ≡ n = cc in inl (sym y, ltb-true max-line (length l) f)
     go false f q = inr (held-number l n q, ltb-false max-line (length l) f, λ r p. other r p)
       where
         other : (r : Record) → Is l r → ⊥
         other r p =
             let z : Refusal n ≡ Got r = sym q ∙ ap (first-of forms) (p .1) ∙ held-text r (p .0) in
-            let y : _≡_ {A = ℕ} 0 1 = cc in omega arith
+            clash (cc)
 
 says : (l : List ℕ) → Says l (number (reading l)) (values (reading l))
 says l = go (reading l) refl
   where
-    by : (n : ℕ) → ((n ≡ 16) × (max-line < length l)) ⊎ ((n ≡ 17) × (length l ≤ max-line) × ((r : Record) → Is l r → ⊥)) → Says l n (n ∷ [])
+    by : (n : ℕ) → Refuses l n → Says l n (n ∷ [])
     by n (inl p) = subst (λ (x : ℕ). Says l x (x ∷ [])) (sym (p .0)) (too-long (p .1))
     by n (inr p) = subst (λ (x : ℕ). Says l x (x ∷ [])) (sym (p .0)) (no-text (p .1) (p .2))
 
@@ -71,4 +74,14 @@ says l = go (reading l) refl
     go (Refusal n) e = by n (refused l n e)
 
 pub one-text : One-text
-one-text = record { most = text-most; most-answer = answer-most; plain = text-plain; reads = text-reads; is-read = read-text; text-once = text-once; record-once = record-once; says = says }
+one-text =
+    record {
+      most = text-most;
+      most-answer = answer-most;
+      plain = text-plain;
+      reads = text-reads;
+      is-read = read-text;
+      text-once = text-once;
+      record-once = record-once;
+      says = says;
+    }

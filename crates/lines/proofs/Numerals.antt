@@ -33,7 +33,9 @@ spare : (k n : ℕ) → n < 10 ^ suc k → numeral-in (suc (suc k)) n ≡ numera
 spare zero n h = one-digit 1 n h ∙ sym (one-digit 0 n h)
 spare (suc k) n h = go (ltb n 10) refl (λ p. spare k (n / 10) p)
   where
-    go : (t : Bool) → ltb n 10 ≡ t → (n / 10 < 10 ^ suc k → numeral-in (suc (suc k)) (n / 10) ≡ numeral-in (suc k) (n / 10)) → numeral-in (suc (suc (suc k))) n ≡ numeral-in (suc (suc k)) n
+    go : (t : Bool) → ltb n 10 ≡ t
+        → (n / 10 < 10 ^ suc k → numeral-in (suc (suc k)) (n / 10) ≡ numeral-in (suc k) (n / 10))
+        → numeral-in (suc (suc (suc k))) n ≡ numeral-in (suc (suc k)) n
     go true e ih = one-digit (suc (suc k)) n (ltb-true n 10 e) ∙ sym (one-digit (suc k) n (ltb-true n 10 e))
     go false e ih =
         last-of (suc (suc k)) n (ltb-false n 10 e) ∙ ap (λ (l : List ℕ). l ++ ((48 + n % 10) ∷ [])) (ih (tenth k n h))
@@ -45,14 +47,16 @@ numeral-one n h = one-digit 19 n h
 
 pub numeral-more : (n : ℕ) → 10 ≤ n → n < 2 ^ 64 → numeral n ≡ numeral (n / 10) ++ ((48 + n % 10) ∷ [])
 unfolding numeral
-numeral-more n h b = last-of 19 n h ∙ ap (λ (l : List ℕ). l ++ ((48 + n % 10) ∷ [])) (sym (spare 18 (n / 10) (omega arith)))
+numeral-more n h b =
+    last-of 19 n h ∙ ap (λ (l : List ℕ). l ++ ((48 + n % 10) ∷ [])) (sym (spare 18 (n / 10) (omega arith)))
 
 most-digits : (k n : ℕ) → length (numeral-in k n) ≤ k
 unfolding numeral-in
 most-digits zero n = omega arith
 most-digits (suc k) n = go (ltb n 10) (most-digits k (n / 10))
   where
-    go : (t : Bool) → length (numeral-in k (n / 10)) ≤ k → length (cond t ((48 + n) ∷ []) (numeral-in k (n / 10) ++ ((48 + n % 10) ∷ []))) ≤ suc k
+    go : (t : Bool) → length (numeral-in k (n / 10)) ≤ k
+        → length (cond t ((48 + n) ∷ []) (numeral-in k (n / 10) ++ ((48 + n % 10) ∷ []))) ≤ suc k
     go true ih = omega arith
     go false ih = rw length-append (omega arith)
 
@@ -62,20 +66,23 @@ numeral-most n = most-digits max-digits n
 
 -- What is read is the numeral.
 
-digits-sound : (l : List ℕ) (a n : ℕ) (m : List ℕ) → 1 ≤ a → n < 2 ^ 64 → digits a l ≡ seen n m → numeral a ++ l ≡ numeral n ++ m
+digits-sound : (l : List ℕ) (a n : ℕ) (m : List ℕ) → 1 ≤ a → n < 2 ^ 64 → digits a l ≡ seen n m
+    → numeral a ++ l ≡ numeral n ++ m
 unfolding digits
 digits-sound [] a n m h b e = let p : a ≡ n = cc in let q : [] ≡ m = cc in cc
 digits-sound (c ∷ l) a n m h b e = go (is-digit c) refl e (λ k p q. digits-sound l k n m p b q)
   where
     go : (t : Bool) → is-digit c ≡ t → cond t (digits (a * 10 + (c - 48)) l) (seen a (c ∷ l)) ≡ seen n m
-        → ((k : ℕ) → 1 ≤ k → digits k l ≡ seen n m → numeral k ++ l ≡ numeral n ++ m) → numeral a ++ (c ∷ l) ≡ numeral n ++ m
+        → ((k : ℕ) → 1 ≤ k → digits k l ≡ seen n m → numeral k ++ l ≡ numeral n ++ m)
+        → numeral a ++ (c ∷ l) ≡ numeral n ++ m
     go true d q ih =
         let f = digit-from c d in
         let k = a * 10 + (c - 48) in
         let tens : k / 10 ≡ a = omega arith in
         let ones : 48 + k % 10 ≡ c = omega arith in
         let longer : numeral k ≡ numeral a ++ (c ∷ []) =
-        numeral-more k (omega arith) (omega (arith, digits-least l k, ap value q)) ∙ ap (λ (x : ℕ). numeral x ++ ((48 + k % 10) ∷ [])) tens ∙ ap (λ (x : ℕ). numeral a ++ (x ∷ [])) ones in
+        numeral-more k (omega arith) (omega (arith, digits-least l k, ap value q))
+        ∙ ap (λ (x : ℕ). numeral x ++ ((48 + k % 10) ∷ [])) tens ∙ ap (λ (x : ℕ). numeral a ++ (x ∷ [])) ones in
         sym (append-assoc (numeral a) (c ∷ []) l) ∙ ap (λ (x : List ℕ). x ++ l) (sym longer) ∙ ih k (omega arith) q
     go false d q ih = let p : a ≡ n = cc in let r : c ∷ l ≡ m = cc in cc
 
@@ -84,12 +91,14 @@ unfolding numeral-at
 numeral-sound [] n m b e = clash (cc)
 numeral-sound (c ∷ l) n m b e = go (eqb c 48) (is-digit c) refl refl e
   where
-    go : (z t : Bool) → eqb c 48 ≡ z → is-digit c ≡ t → cond z (seen 0 l) (cond t (digits (c - 48) l) unseen) ≡ seen n m → c ∷ l ≡ numeral n ++ m
+    go : (z t : Bool) → eqb c 48 ≡ z → is-digit c ≡ t
+        → cond z (seen 0 l) (cond t (digits (c - 48) l) unseen) ≡ seen n m → c ∷ l ≡ numeral n ++ m
     go true t ez et q =
         let p : 0 ≡ n = ap value q in
         let r : l ≡ m = cc in
         let s : c ≡ 48 = eqb-true c 48 ez in
-        ap (λ (x : ℕ). x ∷ l) s ∙ ap (λ (x : List ℕ). 48 ∷ x) r ∙ ap (λ (x : List ℕ). x ++ m) (sym (numeral-one 0 (lit< tt))) ∙ ap (λ (x : ℕ). numeral x ++ m) p
+        ap (λ (x : ℕ). x ∷ l) s ∙ ap (λ (x : List ℕ). 48 ∷ x) r
+        ∙ ap (λ (x : List ℕ). x ++ m) (sym (numeral-one 0 (lit< tt))) ∙ ap (λ (x : ℕ). numeral x ++ m) p
     go false true ez et q =
         let f = digit-from c et in
         let d : 48 + (c - 48) ≡ c = omega arith in
@@ -135,13 +144,18 @@ front : (j n : ℕ) (l : List ℕ) → n < 10 ^ suc j → Front n (numeral-in (s
 front zero n l h = subst (λ (w : List ℕ). Front n (w ++ l) l) (sym (one-digit 0 n h)) (front-one n l h)
 front (suc j) n l h = go (ltb n 10) refl (λ m p. front j (n / 10) m p)
   where
-    go : (t : Bool) → ltb n 10 ≡ t → ((m : List ℕ) → n / 10 < 10 ^ suc j → Front (n / 10) (numeral-in (suc j) (n / 10) ++ m) m) → Front n (numeral-in (suc (suc j)) n ++ l) l
-    go true e ih = subst (λ (w : List ℕ). Front n (w ++ l) l) (sym (one-digit (suc j) n (ltb-true n 10 e))) (front-one n l (ltb-true n 10 e))
+    go : (t : Bool) → ltb n 10 ≡ t
+        → ((m : List ℕ) → n / 10 < 10 ^ suc j → Front (n / 10) (numeral-in (suc j) (n / 10) ++ m) m)
+        → Front n (numeral-in (suc (suc j)) n ++ l) l
+    go true e ih =
+        subst (λ (w : List ℕ). Front n (w ++ l) l) (sym (one-digit (suc j) n (ltb-true n 10 e)))
+        (front-one n l (ltb-true n 10 e))
     go false e ih =
         let d = n % 10 in
         let f = ih ((48 + d) ∷ l) (tenth j n h) in
         let w : numeral-in (suc (suc j)) n ++ l ≡ numeral-in (suc j) (n / 10) ++ ((48 + d) ∷ l) =
-        ap (λ (x : List ℕ). x ++ l) (last-of (suc j) n (ltb-false n 10 e)) ∙ append-assoc (numeral-in (suc j) (n / 10)) ((48 + d) ∷ []) l in
+        ap (λ (x : List ℕ). x ++ l) (last-of (suc j) n (ltb-false n 10 e))
+        ∙ append-assoc (numeral-in (suc j) (n / 10)) ((48 + d) ∷ []) l in
         let whole : n / 10 * 10 + d ≡ n = omega arith in
         record {
           read = ap (digits 0) w ∙ f .read ∙ digits-cons (n / 10) d l (omega arith) ∙ ap (λ (x : ℕ). digits x l) whole;
@@ -167,4 +181,5 @@ numeral-back n m h s = go (ltb 0 n) refl
         lead-digits (numeral n ++ m) (f .led (ltb-true 0 n e)) ∙ f .read ∙ digits-stop m n s
     go false e =
         let z : n ≡ 0 = omega (arith, ltb-false 0 n e) in
-        ap (λ (x : ℕ). numeral-at (numeral x ++ m)) z ∙ ap (λ (x : List ℕ). numeral-at (x ++ m)) (numeral-one 0 (lit< tt)) ∙ ap (λ (x : ℕ). seen x m) (sym z)
+        ap (λ (x : ℕ). numeral-at (numeral x ++ m)) z
+        ∙ ap (λ (x : List ℕ). numeral-at (x ++ m)) (numeral-one 0 (lit< tt)) ∙ ap (λ (x : ℕ). seen x m) (sym z)

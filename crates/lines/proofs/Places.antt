@@ -16,7 +16,8 @@ use Rattle.lines.specs.Form.{campaign-slot, names-slot, in-slot}
 use Rattle.lines.specs.declared.scan.Slot.{Slot}
 use Rattle.lines.specs.declared.Record.{Record}
 use Rattle.lines.specs.declared.Reading.the-variants.{Got, Refusal}
-use Rattle.lines.specs.Reading.{Rest, none, some, Seen, seen, unseen, value, behind, is-digit, digits, numeral-at, ranged, with-name, and-then, names-at, slot-at, strip, is-end, ended-or}
+use Rattle.lines.specs.Reading.{Rest, none, some, Seen, seen, unseen, value, behind, is-digit, digits, numeral-at}
+use Rattle.lines.specs.Reading.{ranged, with-name, and-then, names-at, slot-at, strip, is-end, ended-or}
 use Rattle.lines.specs.Contracts.{place, stripped, Sees}
 use Rattle.lines.proofs.Digits.{clash, digit-yes, digit-below, digit-above, ranged-yes}
 
@@ -67,15 +68,20 @@ stripped-short (b ∷ w) (c ∷ l) h = go (eqb c b) (stripped-short w l (omega a
     go false ih = stripped-none w
 
 module _ (w l : List ℕ) (i j : ℕ) (hw : i < length w) (hl : j < length l) where
-  stripped-front : stripped (drop i w) (some (drop j l)) ≡ stripped (drop (i + 1) w) (strip (getD w i 0) (some (getD l j 0 ∷ drop (j + 1) l)))
+  stripped-front : stripped (drop i w) (some (drop j l))
+      ≡ stripped (drop (i + 1) w) (strip (getD w i 0) (some (getD l j 0 ∷ drop (j + 1) l)))
   unfolding stripped
   stripped-front = rw (drop-next w i hw, drop-next l j hl)
 
-  pub stripped-step : getD l j 0 ≡ getD w i 0 → stripped (drop i w) (some (drop j l)) ≡ stripped (drop (i + 1) w) (some (drop (j + 1) l))
-  stripped-step e = stripped-front ∙ ap (stripped (drop (i + 1) w)) (strip-hit (getD w i 0) (getD l j 0) (drop (j + 1) l) e)
+  pub stripped-step : getD l j 0 ≡ getD w i 0
+      → stripped (drop i w) (some (drop j l)) ≡ stripped (drop (i + 1) w) (some (drop (j + 1) l))
+  stripped-step e =
+      stripped-front ∙ ap (stripped (drop (i + 1) w)) (strip-hit (getD w i 0) (getD l j 0) (drop (j + 1) l) e)
 
   pub stripped-miss : (getD l j 0 ≡ getD w i 0 → ⊥) → stripped (drop i w) (some (drop j l)) ≡ none
-  stripped-miss e = stripped-front ∙ ap (stripped (drop (i + 1) w)) (strip-miss (getD w i 0) (getD l j 0) (drop (j + 1) l) e) ∙ stripped-none (drop (i + 1) w)
+  stripped-miss e =
+      stripped-front ∙ ap (stripped (drop (i + 1) w)) (strip-miss (getD w i 0) (getD l j 0) (drop (j + 1) l) e)
+      ∙ stripped-none (drop (i + 1) w)
 
 pub stripped-end : (w : List ℕ) (i : ℕ) (r : Rest) → length w ≤ i → stripped (drop i w) r ≡ r
 unfolding stripped
@@ -83,17 +89,22 @@ stripped-end w i r h = rw (drop-of-length-le w h)
 
 -- The end of the line.
 
-pub ends : (l : List ℕ) (at : ℕ) (p : Rest) (r : Record) → place l at ≡ p → at ≡ length l → Got r ≡ ended-or (Refusal 17) p r
+pub ends : (l : List ℕ) (at : ℕ) (p : Rest) (r : Record) → place l at ≡ p → at ≡ length l
+    → Got r ≡ ended-or (Refusal 17) p r
 unfolding ended-or
 ends l at p r e h = sym (ap (λ (a : Rest). cond (is-end a) (Got r) (Refusal 17)) (sym e ∙ place-end l at h))
 
-pub ends-not : (l : List ℕ) (at : ℕ) (p : Rest) (r : Record) → place l at ≡ p → (at ≡ length l → ⊥) → Refusal 17 ≡ ended-or (Refusal 17) p r
+pub ends-not : (l : List ℕ) (at : ℕ) (p : Rest) (r : Record) → place l at ≡ p → (at ≡ length l → ⊥)
+    → Refusal 17 ≡ ended-or (Refusal 17) p r
 unfolding ended-or
 ends-not l at p r e h = go (leb at (length l)) refl ∙ ap (λ (a : Rest). cond (is-end a) (Got r) (Refusal 17)) e
   where
     go : (t : Bool) → leb at (length l) ≡ t → Refusal 17 ≡ cond (is-end (place l at)) (Got r) (Refusal 17)
-    go true f = sym (ap (λ (a : Rest). cond (is-end a) (Got r) (Refusal 17)) (place-next l at (omega (arith, leb-true at (length l) f))))
-    go false f = sym (ap (λ (a : Rest). cond (is-end a) (Got r) (Refusal 17)) (place-out l at (leb-false at (length l) f)))
+    go true f =
+        sym (ap (λ (a : Rest). cond (is-end a) (Got r) (Refusal 17))
+        (place-next l at (omega (arith, leb-true at (length l) f))))
+    go false f =
+        sym (ap (λ (a : Rest). cond (is-end a) (Got r) (Refusal 17)) (place-out l at (leb-false at (length l) f)))
 
 -- What is seen, by its number and its place.
 
@@ -115,7 +126,8 @@ module _ (l : List ℕ) (x : Slot) (s : Seen) where
     pub seen-in : x .end ≤ length l → s ≡ seen (x .number) (drop (x .end) l)
     seen-in h = go s (p .number) (sym (place-in l (x .end) h) ∙ p .end)
       where
-        go : (s : Seen) → x .number ≡ value s → some (drop (x .end) l) ≡ behind s → s ≡ seen (x .number) (drop (x .end) l)
+        go : (s : Seen) → x .number ≡ value s → some (drop (x .end) l) ≡ behind s
+            → s ≡ seen (x .number) (drop (x .end) l)
         go unseen a e = clash (cc)
         go (seen n m) a e = cc
 
@@ -127,7 +139,8 @@ missed {l} {x} {s} h p e = misses l x s (p .0) (omega (arith, p .1)) e
 -- Digits.
 
 module _ (l : List ℕ) (i : ℕ) (h : i < length l) (a : ℕ) where
-  pub digits-step : is-digit (getD l i 0) ≡ true → digits a (drop i l) ≡ digits (a * 10 + (getD l i 0 - 48)) (drop (i + 1) l)
+  pub digits-step : is-digit (getD l i 0) ≡ true
+      → digits a (drop i l) ≡ digits (a * 10 + (getD l i 0 - 48)) (drop (i + 1) l)
   unfolding digits
   digits-step e = rw (drop-next l i h, e)
 
@@ -146,8 +159,10 @@ digits-halt l i a e = go (leb (i + 1) (length l)) refl
     go false q = digits-end l i a (omega (arith, leb-false (i + 1) (length l) q))
 
 -- a numeral in the range of the slot that ends at the place i
-pub sees-number : (l : List ℕ) (slot a i : ℕ) (s : Seen) → in-slot slot a ≡ true → i ≤ length l → s ≡ seen a (drop i l) → Sees l (record { number = a; end = i }) (ranged slot s)
-sees-number l slot a i s h b e = sees l (record { number = a; end = i }) (ranged slot s) b (ap (ranged slot) e ∙ ranged-yes slot a (drop i l) h)
+pub sees-number : (l : List ℕ) (slot a i : ℕ) (s : Seen) → in-slot slot a ≡ true → i ≤ length l → s ≡ seen a (drop i l)
+    → Sees l (record { number = a; end = i }) (ranged slot s)
+sees-number l slot a i s h b e =
+    sees l (record { number = a; end = i }) (ranged slot s) b (ap (ranged slot) e ∙ ranged-yes slot a (drop i l) h)
 
 -- A slot at a place.
 
@@ -166,7 +181,9 @@ module _ (slot : ℕ) (l : List ℕ) (at : ℕ) where
     number-end h = go (leb at (length l)) refl
       where
         go : (t : Bool) → leb at (length l) ≡ t → slot-at slot (place l at) ≡ unseen
-        go true e = ap (slot-at slot) (place-in l at (leb-true at (length l) e) ∙ ap some (drop-of-length-le l h)) ∙ slot-number []
+        go true e =
+            ap (slot-at slot) (place-in l at (leb-true at (length l) e) ∙ ap some (drop-of-length-le l h))
+            ∙ slot-number []
         go false e = slot-out (leb-false at (length l) e)
 
     module _ (h : at < length l) where
@@ -177,19 +194,24 @@ module _ (slot : ℕ) (l : List ℕ) (at : ℕ) where
       unfolding numeral-at
       number-zero e = number-here ∙ simp e
 
-      pub number-lead : 49 ≤ getD l at 0 → getD l at 0 ≤ 57 → slot-at slot (place l at) ≡ ranged slot (digits (getD l at 0 - 48) (drop (at + 1) l))
+      pub number-lead : 49 ≤ getD l at 0 → getD l at 0 ≤ 57
+          → slot-at slot (place l at) ≡ ranged slot (digits (getD l at 0 - 48) (drop (at + 1) l))
       unfolding numeral-at
-      number-lead a b = number-here ∙ simp (ne-eqb (getD l at 0) 48 (λ p. omega arith), digit-yes (getD l at 0) (omega arith) b)
+      number-lead a b =
+          number-here ∙ simp (ne-eqb (getD l at 0) 48 (λ p. omega arith), digit-yes (getD l at 0) (omega arith) b)
 
       pub number-other : (getD l at 0 < 48) ⊎ (57 < getD l at 0) → slot-at slot (place l at) ≡ unseen
       unfolding numeral-at
-      number-other (inl a) = number-here ∙ simp (ne-eqb (getD l at 0) 48 (λ p. omega arith), digit-below (getD l at 0) a)
-      number-other (inr a) = number-here ∙ simp (ne-eqb (getD l at 0) 48 (λ p. omega arith), digit-above (getD l at 0) a)
+      number-other (inl a) =
+          number-here ∙ simp (ne-eqb (getD l at 0) 48 (λ p. omega arith), digit-below (getD l at 0) a)
+      number-other (inr a) =
+          number-here ∙ simp (ne-eqb (getD l at 0) 48 (λ p. omega arith), digit-above (getD l at 0) a)
 
 -- Names.
 
 -- the number that is seen in a slot is in its range
-pub slot-range : (slot : ℕ) (r : Rest) (n : ℕ) (m : List ℕ) → (slot ≡ names-slot → ⊥) → slot-at slot r ≡ seen n m → in-slot slot n ≡ true
+pub slot-range : (slot : ℕ) (r : Rest) (n : ℕ) (m : List ℕ) → (slot ≡ names-slot → ⊥) → slot-at slot r ≡ seen n m
+    → in-slot slot n ≡ true
 unfolding slot-at
 slot-range slot none n m h e = clash (cc)
 slot-range slot (some l) n m h e = go (numeral-at l) (sym (slot-number slot l 0 h l) ∙ e)
@@ -202,11 +224,19 @@ slot-range slot (some l) n m h e = go (numeral-at l) (sym (slot-number slot l 0 
         by true f q = let z : k ≡ n = ap value q in ap (in-slot slot) (sym z) ∙ f
         by false f q = clash (cc)
 
-pub name-small : (l : List ℕ) (x : Slot) (r : Rest) → Sees l x (slot-at campaign-slot r) → x .end ≤ length l → x .number < set-bits
+pub name-small : (l : List ℕ) (x : Slot) (r : Rest) → Sees l x (slot-at campaign-slot r) → x .end ≤ length l
+    → x .number < set-bits
 unfolding in-slot
-name-small l x r p h = omega (arith, leb-true (x .number) max-campaign (slot-range campaign-slot r (x .number) (drop (x .end) l) (λ q. omega arith) (seen-in l x (slot-at campaign-slot r) p h)))
+name-small l x r p h =
+    omega (
+      arith,
+      leb-true (x .number) max-campaign
+          (slot-range campaign-slot r (x .number) (drop (x .end) l) (λ q. omega arith)
+          (seen-in l x (slot-at campaign-slot r) p h)),
+    )
 
-pub joins : (set : ℕ) (s : Seen) (n : ℕ) (m : List ℕ) → s ≡ seen n m → set < 2 ^ n → with-name set s ≡ seen (set + 2 ^ n) m
+pub joins : (set : ℕ) (s : Seen) (n : ℕ) (m : List ℕ) → s ≡ seen n m → set < 2 ^ n
+    → with-name set s ≡ seen (set + 2 ^ n) m
 joins set s n m e h = ap (with-name set) e ∙ simp (lt-ltb set (2 ^ n) h)
 
 pub joins-not : (set : ℕ) (s : Seen) (n : ℕ) (m : List ℕ) → s ≡ seen n m → 2 ^ n ≤ set → with-name set s ≡ unseen
@@ -231,39 +261,52 @@ module _ (k set : ℕ) (l : List ℕ) (i : ℕ) (hk : 0 < k) where
   fuel : k ≡ suc (k - 1)
   fuel = omega arith
 
-  names-from-at : (h : i < length l) → names-from k set (place l i) ≡ names-at (suc (k - 1)) set (getD l i 0 ∷ drop (i + 1) l)
+  names-from-at : (h : i < length l)
+      → names-from k set (place l i) ≡ names-at (suc (k - 1)) set (getD l i 0 ∷ drop (i + 1) l)
   unfolding names-from
-  names-from-at h = ap (names-from k set) (place-next l i h) ∙ ap (λ (n : ℕ). names-at n set (getD l i 0 ∷ drop (i + 1) l)) fuel
+  names-from-at h =
+      ap (names-from k set) (place-next l i h) ∙ ap (λ (n : ℕ). names-at n set (getD l i 0 ∷ drop (i + 1) l)) fuel
 
   -- no name follows: the set is read, or nothing where the place is behind the line
-  pub names-stop : (s : Seen) → names-from k set (place l i) ≡ s → (getD l i 0 ≡ 32 → ⊥) → (length l < i → set ≡ 0) → Sees l (record { number = set; end = i }) s
+  pub names-stop : (s : Seen) → names-from k set (place l i) ≡ s → (getD l i 0 ≡ 32 → ⊥) → (length l < i → set ≡ 0)
+      → Sees l (record { number = set; end = i }) s
   unfolding names-from names-at
   names-stop s e n z = by-place (leb (i + 1) (length l)) (leb i (length l)) refl refl
     where
-      by-place : (t u : Bool) → leb (i + 1) (length l) ≡ t → leb i (length l) ≡ u → Sees l (record { number = set; end = i }) s
+      by-place : (t u : Bool) → leb (i + 1) (length l) ≡ t → leb i (length l) ≡ u
+          → Sees l (record { number = set; end = i }) s
       by-place true u q q′ =
           let h : i < length l = omega (arith, leb-true (i + 1) (length l) q) in
-          sees l (record { number = set; end = i }) s (omega arith) (sym e ∙ names-from-at h ∙ simp (ne-eqb (getD l i 0) 32 n) (ap (seen set) (sym (drop-next l i h))))
+          sees l (record { number = set; end = i }) s (omega arith)
+          (sym e ∙ names-from-at h ∙ simp (ne-eqb (getD l i 0) 32 n) (ap (seen set) (sym (drop-next l i h))))
       by-place false true q q′ =
           let b : length l ≤ i = omega (arith, leb-false (i + 1) (length l) q) in
           let d : drop i l ≡ [] = drop-of-length-le l b in
           sees l (record { number = set; end = i }) s (leb-true i (length l) q′)
-          (sym e ∙ ap (names-from k set) (place-in l i (leb-true i (length l) q′) ∙ ap some d) ∙ ap (λ (n : ℕ). names-at n set []) fuel ∙ ap (seen set) (sym d))
+          (sym e ∙ ap (names-from k set) (place-in l i (leb-true i (length l) q′) ∙ ap some d)
+          ∙ ap (λ (n : ℕ). names-at n set []) fuel ∙ ap (seen set) (sym d))
       by-place false false q q′ =
           let b = leb-false i (length l) q′ in
           misses l (record { number = set; end = i }) s (z b) b (sym e ∙ ap (names-from k set) (place-out l i b))
 
   -- a name that follows joins the set
   module _ (h : i < length l) (e : getD l i 0 ≡ 32) where
-    names-name : names-from k set (place l i) ≡ and-then (with-name set (slot-at campaign-slot (place l (i + 1)))) (names-at (k - 1))
+    names-name : names-from k set (place l i)
+        ≡ and-then (with-name set (slot-at campaign-slot (place l (i + 1)))) (names-at (k - 1))
     unfolding names-at slot-at
     names-name =
         names-from-at h ∙ simp (eq-eqb (getD l i 0) 32 e)
-        (ap (λ (r : Rest). and-then (with-name set (slot-at campaign-slot r)) (names-at (k - 1))) (sym (place-in l (i + 1) (omega arith))))
+        (ap (λ (r : Rest). and-then (with-name set (slot-at campaign-slot r)) (names-at (k - 1)))
+        (sym (place-in l (i + 1) (omega arith))))
 
-    pub names-bad : with-name set (slot-at campaign-slot (place l (i + 1))) ≡ unseen → names-from k set (place l i) ≡ unseen
+    pub names-bad : with-name set (slot-at campaign-slot (place l (i + 1))) ≡ unseen
+        → names-from k set (place l i) ≡ unseen
     names-bad q = names-name ∙ ap (λ (s : Seen). and-then s (names-at (k - 1))) q
 
-    pub names-join : (n j : ℕ) → j ≤ length l → with-name set (slot-at campaign-slot (place l (i + 1))) ≡ seen n (drop j l) → names-from k set (place l i) ≡ names-from (k - 1) n (place l j)
+    pub names-join : (n j : ℕ) → j ≤ length l
+        → with-name set (slot-at campaign-slot (place l (i + 1))) ≡ seen n (drop j l)
+        → names-from k set (place l i) ≡ names-from (k - 1) n (place l j)
     unfolding names-from
-    names-join n j b q = names-name ∙ ap (λ (s : Seen). and-then s (names-at (k - 1))) q ∙ sym (ap (names-from (k - 1) n) (place-in l j b))
+    names-join n j b q =
+        names-name ∙ ap (λ (s : Seen). and-then s (names-at (k - 1))) q
+        ∙ sym (ap (names-from (k - 1) n) (place-in l j b))

@@ -25,7 +25,9 @@ plain-at (b ∷ l) (suc i) h e = plain-at l i (both-right (not (eqb b 10)) (plai
 
 append-plain : (l m : List ℕ) → plain l ≡ true → plain m ≡ true → plain (l ++ m) ≡ true
 append-plain [] m h k = k
-append-plain (b ∷ l) m h k = both-join (not (eqb b 10)) (plain (l ++ m)) (both-left (not (eqb b 10)) (plain l) h) (append-plain l m (both-right (not (eqb b 10)) (plain l) h) k)
+append-plain (b ∷ l) m h k =
+    both-join (not (eqb b 10)) (plain (l ++ m)) (both-left (not (eqb b 10)) (plain l) h)
+    (append-plain l m (both-right (not (eqb b 10)) (plain l) h) k)
 
 digit-plain : (d : ℕ) → plain ((48 + d) ∷ []) ≡ true
 digit-plain d = simp (ne-eqb (48 + d) 10 (λ z. omega arith))
@@ -33,9 +35,12 @@ digit-plain d = simp (ne-eqb (48 + d) 10 (λ z. omega arith))
 digits-plain : (k n : ℕ) → plain (numeral-in k n) ≡ true
 unfolding numeral-in
 digits-plain zero n = refl
-digits-plain (suc k) n = go (ltb n 10) (append-plain (numeral-in k (n / 10)) ((48 + n % 10) ∷ []) (digits-plain k (n / 10)) (digit-plain (n % 10)))
+digits-plain (suc k) n =
+    go (ltb n 10)
+    (append-plain (numeral-in k (n / 10)) ((48 + n % 10) ∷ []) (digits-plain k (n / 10)) (digit-plain (n % 10)))
   where
-    go : (t : Bool) → plain (numeral-in k (n / 10) ++ ((48 + n % 10) ∷ [])) ≡ true → plain (cond t ((48 + n) ∷ []) (numeral-in k (n / 10) ++ ((48 + n % 10) ∷ []))) ≡ true
+    go : (t : Bool) → plain (numeral-in k (n / 10) ++ ((48 + n % 10) ∷ [])) ≡ true
+        → plain (cond t ((48 + n) ∷ []) (numeral-in k (n / 10) ++ ((48 + n % 10) ∷ []))) ≡ true
     go true h = digit-plain n
     go false h = h
 
@@ -46,7 +51,8 @@ numeral-plain n = digits-plain max-digits n
 names-plain : (n set : ℕ) → plain (names-text n set) ≡ true
 unfolding names-text
 names-plain zero set = refl
-names-plain (suc i) set = append-plain (names-text i set) (cond (member set i) (32 ∷ numeral i) []) (names-plain i set) (go (member set i))
+names-plain (suc i) set =
+    append-plain (names-text i set) (cond (member set i) (32 ∷ numeral i) []) (names-plain i set) (go (member set i))
   where
     go : (t : Bool) → plain (cond t (32 ∷ numeral i) []) ≡ true
     go true = numeral-plain i
@@ -64,7 +70,9 @@ slot-plain slot n = go (eqb slot names-slot)
 pub filled-plain : (t ns : List ℕ) → plain t ≡ true → plain (filled t ns) ≡ true
 unfolding filled piece
 filled-plain [] ns h = refl
-filled-plain (b ∷ t) ns h = append-plain (piece b ns) (filled t (numbers-after b ns)) (go (is-slot b)) (filled-plain t (numbers-after b ns) (both-right (not (eqb b 10)) (plain t) h))
+filled-plain (b ∷ t) ns h =
+    append-plain (piece b ns) (filled t (numbers-after b ns)) (go (is-slot b))
+    (filled-plain t (numbers-after b ns) (both-right (not (eqb b 10)) (plain t) h))
   where
     go : (x : Bool) → plain (cond x (slot-text b (getD ns 0 0)) (b ∷ [])) ≡ true
     go true = slot-plain b (getD ns 0 0)

@@ -12,8 +12,10 @@ use borrow.Author.Tests.{le-leb, eqb-true, not-true}
 use Rattle.finite.proofs.Tests.{both-left, both-right}
 use Rattle.lines.specs.Limits.{set-bits, max-u64, max-digits, max-names}
 use Rattle.lines.specs.Numeral.{numeral}
-use Rattle.lines.specs.Form.{names-slot, is-slot, in-slot, names-text, slot-text, piece, numbers-after, filled, in-slots}
-use Rattle.lines.specs.Reading.{Rest, none, some, Seen, seen, unseen, numeral-at, ranged, names-at, slot-at, strip, step, rest-of, slot-then, numbers-of}
+use Rattle.lines.specs.Form.{names-slot, is-slot, in-slot, names-text, slot-text, piece, numbers-after, filled}
+use Rattle.lines.specs.Form.{in-slots}
+use Rattle.lines.specs.Reading.{Rest, none, some, Seen, seen, unseen, numeral-at, ranged, names-at, slot-at}
+use Rattle.lines.specs.Reading.{strip, step, rest-of, slot-then, numbers-of}
 use Rattle.lines.proofs.Digits.{clash, slot-small, ranged-yes}
 use Rattle.lines.proofs.Places.{strip-hit}
 use Rattle.lines.proofs.Numerals.{stops, numeral-most, numeral-sound, numeral-back}
@@ -25,27 +27,37 @@ use Rattle.lines.proofs.NameSets.{ends, set-sound, set-back, names-most
 abbrev pub follows : ℕ → List ℕ → Bool
 follows slot l = stops l && cond (eqb slot names-slot) (ends l) true
 
-pub slot-back : (slot n : ℕ) (m : List ℕ) → in-slot slot n ≡ true → follows slot m ≡ true → slot-at slot (some (slot-text slot n ++ m)) ≡ seen n m
+pub slot-back : (slot n : ℕ) (m : List ℕ) → in-slot slot n ≡ true → follows slot m ≡ true
+    → slot-at slot (some (slot-text slot n ++ m)) ≡ seen n m
 unfolding slot-at slot-text
 slot-back slot n m h f = go (eqb slot names-slot) (both-right (stops m) (cond (eqb slot names-slot) (ends m) true) f)
   where
-    go : (t : Bool) → cond t (ends m) true ≡ true → cond t (names-at (suc set-bits) 0 (cond t (names-text set-bits n) (numeral n) ++ m)) (ranged slot (numeral-at (cond t (names-text set-bits n) (numeral n) ++ m))) ≡ seen n m
+    go : (t : Bool) → cond t (ends m) true ≡ true
+        → cond t (names-at (suc set-bits) 0 (cond t (names-text set-bits n) (numeral n) ++ m))
+        (ranged slot (numeral-at (cond t (names-text set-bits n) (numeral n) ++ m))) ≡ seen n m
     go true e = set-back n m (slot-small slot n h) (both-left (stops m) (cond (eqb slot names-slot) (ends m) true) f) e
-    go false e = ap (ranged slot) (numeral-back n m (slot-small slot n h) (both-left (stops m) (cond (eqb slot names-slot) (ends m) true) f)) ∙ ranged-yes slot n m h
+    go false e =
+        let s = both-left (stops m) (cond (eqb slot names-slot) (ends m) true) f in
+        ap (ranged slot) (numeral-back n m (slot-small slot n h) s) ∙ ranged-yes slot n m h
 
-ranged-sound : (slot n : ℕ) (m : List ℕ) (s : Seen) → ranged slot s ≡ seen n m → (s ≡ seen n m) × (in-slot slot n ≡ true)
+ranged-sound : (slot n : ℕ) (m : List ℕ) (s : Seen) → ranged slot s ≡ seen n m
+    → (s ≡ seen n m) × (in-slot slot n ≡ true)
 ranged-sound slot n m unseen e = clash (cc)
 ranged-sound slot n m (seen k l) e = go (in-slot slot k) refl e
   where
-    go : (t : Bool) → in-slot slot k ≡ t → cond t (seen k l) unseen ≡ seen n m → (seen k l ≡ seen n m) × (in-slot slot n ≡ true)
+    go : (t : Bool) → in-slot slot k ≡ t → cond t (seen k l) unseen ≡ seen n m
+        → (seen k l ≡ seen n m) × (in-slot slot n ≡ true)
     go true f q = let z : k ≡ n = cc in (q, ap (in-slot slot) (sym z) ∙ f)
     go false f q = clash (cc)
 
-pub slot-sound : (slot n : ℕ) (l m : List ℕ) → slot-at slot (some l) ≡ seen n m → (l ≡ slot-text slot n ++ m) × (in-slot slot n ≡ true)
+pub slot-sound : (slot n : ℕ) (l m : List ℕ) → slot-at slot (some l) ≡ seen n m
+    → (l ≡ slot-text slot n ++ m) × (in-slot slot n ≡ true)
 unfolding slot-at slot-text in-slot
 slot-sound slot n l m e = go (eqb slot names-slot) refl e
   where
-    go : (t : Bool) → eqb slot names-slot ≡ t → cond t (names-at (suc set-bits) 0 l) (ranged slot (numeral-at l)) ≡ seen n m → (l ≡ cond t (names-text set-bits n) (numeral n) ++ m) × (in-slot slot n ≡ true)
+    go : (t : Bool) → eqb slot names-slot ≡ t
+        → cond t (names-at (suc set-bits) 0 l) (ranged slot (numeral-at l)) ≡ seen n m
+        → (l ≡ cond t (names-text set-bits n) (numeral n) ++ m) × (in-slot slot n ≡ true)
     go true f q =
         let s = set-sound l n m q in
         (s .0, ap (λ (k : ℕ). in-slot k n) (eqb-true slot names-slot f) ∙ le-leb n max-u64 (omega (arith, s .1)))
@@ -82,7 +94,8 @@ module _ (b : ℕ) (t : List ℕ) where
     unfolding rest-of step
     rest-unseen l q = rw (e, q) (rest-none t)
 
-    numbers-slot : (l m : List ℕ) (n : ℕ) → slot-at b (some l) ≡ seen n m → numbers-of (b ∷ t) (some l) ≡ n ∷ numbers-of t (some m)
+    numbers-slot : (l m : List ℕ) (n : ℕ) → slot-at b (some l) ≡ seen n m
+        → numbers-of (b ∷ t) (some l) ≡ n ∷ numbers-of t (some m)
     unfolding numbers-of step
     numbers-slot l m n q = rw (e, q)
 
@@ -142,9 +155,13 @@ sound (b ∷ t) l m e = go (is-slot b) refl (λ l′. sound t l′ m)
             let k = numbers-slot b t x l l′ n q in
             record {
               text =
-                  s .0 ∙ ap (λ (y : List ℕ). slot-text b n ++ y) (f .text) ∙ sym (append-assoc (slot-text b n) (filled t ns) m)
-                  ∙ ap (λ (y : List ℕ). y ++ m) (sym (filled-slot b t x (n ∷ ns))) ∙ ap (λ (y : List ℕ). filled (b ∷ t) y ++ m) (sym k);
-              range = ap (in-slots (b ∷ t)) k ∙ in-slots-slot b t x (n ∷ ns) ∙ ap₂ (λ (y z : Bool). y && z) (s .1) (f .range);
+                  s .0 ∙ ap (λ (y : List ℕ). slot-text b n ++ y) (f .text)
+                  ∙ sym (append-assoc (slot-text b n) (filled t ns) m)
+                  ∙ ap (λ (y : List ℕ). y ++ m) (sym (filled-slot b t x (n ∷ ns)))
+                  ∙ ap (λ (y : List ℕ). filled (b ∷ t) y ++ m) (sym k);
+              range =
+                  ap (in-slots (b ∷ t)) k ∙ in-slots-slot b t x (n ∷ ns)
+                  ∙ ap₂ (λ (y z : Bool). y && z) (s .1) (f .range);
             }
     go false x ih = by (strip b (some l)) refl
       where
@@ -156,7 +173,8 @@ sound (b ∷ t) l m e = go (is-slot b) refl (λ l′. sound t l′ m)
             let k = numbers-byte b t x l l′ q in
             record {
               text =
-                  strip-sound b l l′ q ∙ ap (λ (y : List ℕ). b ∷ y) (f .text) ∙ ap (λ (y : List ℕ). y ++ m) (sym (filled-byte b t x ns))
+                  strip-sound b l l′ q ∙ ap (λ (y : List ℕ). b ∷ y) (f .text)
+                  ∙ ap (λ (y : List ℕ). y ++ m) (sym (filled-byte b t x ns))
                   ∙ ap (λ (y : List ℕ). filled (b ∷ t) y ++ m) (sym k);
               range = ap (in-slots (b ∷ t)) k ∙ in-slots-byte b t x ns ∙ f .range;
             }
@@ -186,8 +204,8 @@ next-filled slot [] ns h = go (eqb slot names-slot)
     go true = refl
     go false = refl
 next-filled slot (b ∷ t) ns h =
-    ap (follows slot) (filled-byte b t (not-true (is-slot b) (both-left (not (is-slot b)) (follows slot (b ∷ [])) h)) ns)
-    ∙ both-right (not (is-slot b)) (follows slot (b ∷ [])) h
+    let plain = not-true (is-slot b) (both-left (not (is-slot b)) (follows slot (b ∷ [])) h) in
+    ap (follows slot) (filled-byte b t plain ns) ∙ both-right (not (is-slot b)) (follows slot (b ∷ [])) h
 
 pub record Back (t l ns : List ℕ) : Type 0 where
   pub all : rest-of t (some l) ≡ some []
@@ -196,32 +214,39 @@ pub record Back (t l ns : List ℕ) : Type 0 where
 pub complete : (t ns : List ℕ) → fair t ≡ true → in-slots t ns ≡ true → Back t (filled t ns) ns
 unfolding rest-of numbers-of filled numbers-after
 complete [] ns g f = record { all = refl; numbers = refl }
-complete (b ∷ t) ns g f = go (is-slot b) refl (λ ms. complete t ms (both-right (cond (is-slot b) (next b t) true) (fair t) g))
+complete (b ∷ t) ns g f =
+    go (is-slot b) refl (λ ms. complete t ms (both-right (cond (is-slot b) (next b t) true) (fair t) g))
   where
-    go : (x : Bool) → is-slot b ≡ x → ((ms : List ℕ) → in-slots t ms ≡ true → Back t (filled t ms) ms) → Back (b ∷ t) (filled (b ∷ t) ns) ns
+    go : (x : Bool) → is-slot b ≡ x → ((ms : List ℕ) → in-slots t ms ≡ true → Back t (filled t ms) ms)
+        → Back (b ∷ t) (filled (b ∷ t) ns) ns
     go true x ih =
         let n = getD ns 0 0 in
         let m = filled t (drop 1 ns) in
         let r : (in-slot b n && in-slots t (drop 1 ns)) ≡ true = sym (in-slots-slot b t x ns) ∙ f in
         let h = ih (drop 1 ns) (both-right (in-slot b n) (in-slots t (drop 1 ns)) r) in
-        let o : next b t ≡ true = ap (λ (y : Bool). cond y (next b t) true) (sym x) ∙ both-left (cond (is-slot b) (next b t) true) (fair t) g in
+        let o : next b t ≡ true =
+        ap (λ (y : Bool). cond y (next b t) true) (sym x) ∙ both-left (cond (is-slot b) (next b t) true) (fair t) g in
         let q : slot-at b (some (filled (b ∷ t) ns)) ≡ seen n m =
-        ap (λ (y : List ℕ). slot-at b (some y)) (filled-slot b t x ns) ∙ slot-back b n m (both-left (in-slot b n) (in-slots t (drop 1 ns)) r) (next-filled b t (drop 1 ns) o) in
+        ap (λ (y : List ℕ). slot-at b (some y)) (filled-slot b t x ns)
+        ∙ slot-back b n m (both-left (in-slot b n) (in-slots t (drop 1 ns)) r) (next-filled b t (drop 1 ns) o) in
         record {
           all = rest-slot b t x (filled (b ∷ t) ns) m n q ∙ h .all;
           numbers =
               numbers-slot b t x (filled (b ∷ t) ns) m n q ∙ ap (λ (y : List ℕ). n ∷ y) (h .numbers)
-              ∙ sym (ap₂ (λ (y : Bool) (z : List ℕ). slot-then y n (taken t z)) x (ap (λ (y : Bool). cond y (drop 1 ns) ns) x));
+              ∙ sym (ap₂ (λ (y : Bool) (z : List ℕ). slot-then y n (taken t z)) x
+              (ap (λ (y : Bool). cond y (drop 1 ns) ns) x));
         }
     go false x ih =
         let m = filled t ns in
         let h = ih ns (sym (in-slots-byte b t x ns) ∙ f) in
-        let q : strip b (some (filled (b ∷ t) ns)) ≡ some m = ap (λ (y : List ℕ). strip b (some y)) (filled-byte b t x ns) ∙ strip-hit b b m refl in
+        let q : strip b (some (filled (b ∷ t) ns)) ≡ some m =
+        ap (λ (y : List ℕ). strip b (some y)) (filled-byte b t x ns) ∙ strip-hit b b m refl in
         record {
           all = rest-byte b t x (filled (b ∷ t) ns) m q ∙ h .all;
           numbers =
               numbers-byte b t x (filled (b ∷ t) ns) m q ∙ h .numbers
-              ∙ sym (ap₂ (λ (y : Bool) (z : List ℕ). slot-then y (getD ns 0 0) (taken t z)) x (ap (λ (y : Bool). cond y (drop 1 ns) ns) x));
+              ∙ sym (ap₂ (λ (y : Bool) (z : List ℕ). slot-then y (getD ns 0 0) (taken t z)) x
+              (ap (λ (y : Bool). cond y (drop 1 ns) ns) x));
         }
 
 -- How long a filled template is.
@@ -237,7 +262,8 @@ filled-most [] ns = omega arith
 filled-most (b ∷ t) ns = rw length-append (go (is-slot b) (eqb b names-slot) (filled-most t (numbers-after b ns)))
   where
     go : (x y : Bool) → length (filled t (numbers-after b ns)) ≤ most t
-        → length (cond x (cond y (names-text set-bits (getD ns 0 0)) (numeral (getD ns 0 0))) (b ∷ [])) + length (filled t (numbers-after b ns)) ≤ cond x (cond y max-names max-digits) 1 + most t
+        → length (cond x (cond y (names-text set-bits (getD ns 0 0)) (numeral (getD ns 0 0))) (b ∷ []))
+        + length (filled t (numbers-after b ns)) ≤ cond x (cond y max-names max-digits) 1 + most t
     go true true ih = omega (arith, names-most set-bits (getD ns 0 0) (omega arith))
     go true false ih = omega (arith, numeral-most (getD ns 0 0))
     go false y ih = omega arith

@@ -18,6 +18,10 @@ unfoldable pub stripped : List ℕ → Rest → Rest
 stripped [] r = r
 stripped (b ∷ w) r = stripped w (strip b r)
 
+-- what is left of l behind the word w at the place at
+abbrev pub behind-word : List ℕ → ℕ → List ℕ → Rest
+behind-word l at w = stripped w (place l at)
+
 -- x is what was seen in l
 pub record Sees (l : List ℕ) (x : Slot) (s : Seen) : Type 0 where
   pub number : x .number ≡ value s

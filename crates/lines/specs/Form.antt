@@ -10,9 +10,8 @@ use Rattle.sets.specs.Set.{member}
 use Rattle.lines.specs.Limits.{max-input, max-output, max-campaign, set-bits, max-question, max-u64}
 use Rattle.lines.specs.Numeral.{numeral}
 use Rattle.lines.specs.declared.Record.{Record}
-use Rattle.lines.specs.declared.Record.the-variants.{
-  Plan, Campaign, Start, View, Close, Done, Play, Nobody, Refused, Closed, Tally
-}
+use Rattle.lines.specs.declared.Record.the-variants.{Plan, Campaign, Start, View, Close, Done, Play, Nobody}
+use Rattle.lines.specs.declared.Record.the-variants.{Refused, Closed, Tally}
 
 -- A slot of a form is an upper-case letter.
 

@@ -1,5 +1,5 @@
--- What reading a line answers: the record whose text it is, 16 or 17. Each form is tried in turn; OneText says that this
--- is the inverse of `text`.
+-- What reading a line answers: the record whose text it is, 16 or 17. Each form is tried in turn; OneText says that
+-- this is the inverse of `text`.
 use Prim.Native.Nat.{ℕ, zero, suc, _+_, _*_, _-_, _^_}
 use mathlib.Core.Bool.{Bool, true, false, cond, _&&_}
 use mathlib.Core.List.{List, [], _∷_}
@@ -8,9 +8,8 @@ use lib.ListN.{length, getD}
 use Rattle.lines.specs.Limits.{max-line, set-bits}
 use Rattle.lines.specs.Form.{campaign-slot, names-slot, is-slot, template, in-slot}
 use Rattle.lines.specs.declared.Record.{Record}
-use Rattle.lines.specs.declared.Record.the-variants.{
-  Plan, Campaign, Start, View, Close, Done, Play, Nobody, Refused, Closed, Tally
-}
+use Rattle.lines.specs.declared.Record.the-variants.{Plan, Campaign, Start, View, Close, Done, Play, Nobody}
+use Rattle.lines.specs.declared.Record.the-variants.{Refused, Closed, Tally}
 use Rattle.lines.specs.declared.Reading.{Reading}
 use Rattle.lines.specs.declared.Reading.the-variants.{Got, Refusal}
 

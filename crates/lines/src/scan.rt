@@ -12,7 +12,7 @@ ghost use lib.ListN.{length, drop, getD};
 ghost use Rattle.lines.specs.Limits.{max-line};
 ghost use Rattle.lines.specs.Form.{names-slot, slot-max};
 ghost use Rattle.lines.specs.Reading.{is-digit, digits, ranged, slot-at, ended-or};
-ghost use Rattle.lines.specs.Contracts.{place, stripped, Sees};
+ghost use Rattle.lines.specs.Contracts.{place, behind-word, Sees};
 
 // The number that was read in a slot, and the place behind it.
 pub struct Slot {
@@ -37,7 +37,7 @@ fn missing() -> Slot
 // The place behind the word, where the word stands at the place at.
 fn behind(s: &[u8], at: usize, word: &[u8]) -> usize
     requires { ⌜ length (now s) ≤ max-line ⌝ }
-    ensures { λ r. ⌜ place (now (s .entry)) r ≡ stripped (now (word .entry)) (place (now (s .entry)) at) ⌝ }
+    ensures { λ r. ⌜ place (now (s .entry)) r ≡ behind-word (now (s .entry)) at (now (word .entry)) ⌝ }
 {
     if at > s.len() {
         return MISSING;
@@ -176,7 +176,7 @@ fn names(s: &[u8], at: usize) -> Slot
 // The word at the place at, and the slot behind it.
 pub fn field(s: &[u8], at: usize, word: &[u8], slot: u8) -> Slot
     requires { ⌜ (length (now s) ≤ max-line) × (slot ≤ names-slot) ⌝ }
-    ensures { λ r. ⌜ Sees (now (s .entry)) r (slot-at slot (stripped (now (word .entry)) (place (now (s .entry)) at))) ⌝ }
+    ensures { λ r. ⌜ Sees (now (s .entry)) r (slot-at slot (behind-word (now (s .entry)) at (now (word .entry)))) ⌝ }
 {
     let at = behind(s, at, word);
     if slot == b'S' {
@@ -188,7 +188,7 @@ pub fn field(s: &[u8], at: usize, word: &[u8], slot: u8) -> Slot
 // The record r, where the line ends with the word at the place at.
 pub fn ended(s: &[u8], at: usize, word: &[u8], r: Record) -> Reading
     requires { ⌜ length (now s) ≤ max-line ⌝ }
-    ensures { λ a. ⌜ a ≡ ended-or (Reading.Refusal 17) (stripped (now (word .entry)) (place (now (s .entry)) at)) r ⌝ }
+    ensures { λ a. ⌜ a ≡ ended-or (Reading.Refusal 17) (behind-word (now (s .entry)) at (now (word .entry))) r ⌝ }
 {
     if behind(s, at, word) == s.len() {
         return Reading::Got(r);

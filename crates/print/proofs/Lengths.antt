@@ -1,5 +1,5 @@
--- How long numerals and names are: a numeral by its tenth, names by the count of the set's members, three bytes for each
--- and two for each below 10.
+-- How long numerals and names are: a numeral by its tenth, names by the count of the set's members, three bytes for
+-- each and two for each below 10.
 use mathlib.Core.Path.{_≡_, refl, sym, ap, _∙_}
 use mathlib.Core.Bool.{Bool, true, false, cond}
 use mathlib.Core.List.{List, [], _∷_, _++_}
@@ -50,18 +50,22 @@ len-skip n h b =
 pub name-two : (n : ℕ) → 10 ≤ n → n < 100 → numeral n ≡ (48 + n / 10 % 10) ∷ (48 + n % 10) ∷ []
 name-two n h b =
     let e : n / 10 ≡ n / 10 % 10 = omega arith in
-    numeral-more n h (omega arith) ∙ ap (λ (x : List ℕ). x ++ ((48 + n % 10) ∷ [])) (numeral-one (n / 10) (omega arith) ∙ ap (λ (x : ℕ). (48 + x) ∷ []) e)
+    numeral-more n h (omega arith)
+    ∙ ap (λ (x : List ℕ). x ++ ((48 + n % 10) ∷ []))
+    (numeral-one (n / 10) (omega arith) ∙ ap (λ (x : ℕ). (48 + x) ∷ []) e)
 
 pub name-one : (n : ℕ) → n < 10 → numeral n ≡ (48 + n % 10) ∷ []
 name-one n h = let e : n ≡ n % 10 = omega arith in numeral-one n h ∙ ap (λ (x : ℕ). (48 + x) ∷ []) e
 
 -- The names of a set: two bytes for each below 10, three for each other.
 
-name-long : (n v : ℕ) (k : ℕ) → suc k ≡ length (32 ∷ numeral n) → length (names-text (suc n) v) ≡ length (names-text n v) + suc k * one-if (member v n)
+name-long : (n v : ℕ) (k : ℕ) → suc k ≡ length (32 ∷ numeral n)
+    → length (names-text (suc n) v) ≡ length (names-text n v) + suc k * one-if (member v n)
 unfolding names-text
 name-long n v k e = length-append (names-text n v) (cond (member v n) (32 ∷ numeral n) []) ∙ go (member v n)
   where
-    go : (t : Bool) → length (names-text n v) + length (cond t (32 ∷ numeral n) []) ≡ length (names-text n v) + suc k * one-if t
+    go : (t : Bool) → length (names-text n v) + length (cond t (32 ∷ numeral n) [])
+        ≡ length (names-text n v) + suc k * one-if t
     go true = omega (arith, e)
     go false = omega arith
 
@@ -73,9 +77,15 @@ names-short : (n v : ℕ) → n ≤ 10 → length (names-text n v) ≡ 2 * count
 unfolding names-text
 names-short zero v h = omega (arith, count-zero (member v))
 names-short (suc n) v h =
-    omega (arith, name-long n v 1 (sym (ap (λ (x : ℕ). suc x) (len-one n (omega arith)))), names-short n v (omega arith), count-suc n (member v))
+    omega (
+      arith,
+      name-long n v 1 (sym (ap (λ (x : ℕ). suc x) (len-one n (omega arith)))),
+      names-short n v (omega arith),
+      count-suc n (member v),
+    )
 
-names-long : (k v : ℕ) → k + 10 ≤ 100 → length (names-text (k + 10) v) + count 10 (member v) ≡ 3 * count (k + 10) (member v)
+names-long : (k v : ℕ) → k + 10 ≤ 100
+    → length (names-text (k + 10) v) + count 10 (member v) ≡ 3 * count (k + 10) (member v)
 names-long zero v h = let e : 0 + 10 ≡ 10 = refl in omega (arith, names-short 10 v (omega arith))
 names-long (suc k) v h =
     let e : suc k + 10 ≡ suc (k + 10) = omega arith in
@@ -132,7 +142,12 @@ unfolding names-text
 names-less zero n v = let e : 0 + n ≡ n = omega arith in omega (arith, ap (λ (x : ℕ). length (names-text x v)) e)
 names-less (suc k) n v =
     let e : suc k + n ≡ suc (k + n) = omega arith in
-    omega (arith, names-less k n v, ap (λ (x : ℕ). length (names-text x v)) e, length-append (names-text (k + n) v) (cond (member v (k + n)) (32 ∷ numeral (k + n)) []))
+    omega (
+      arith,
+      names-less k n v,
+      ap (λ (x : ℕ). length (names-text x v)) e,
+      length-append (names-text (k + n) v) (cond (member v (k + n)) (32 ∷ numeral (k + n)) []),
+    )
 
 -- A slot.
 

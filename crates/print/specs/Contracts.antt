@@ -1,4 +1,4 @@
--- How the contracts of the crate speak of what is counted. Nothing that a caller of `write_line` relies on is defined here.
+-- How the contracts of the crate speak of what is counted. Nothing that a caller of the writer relies on is here.
 use Prim.Native.Nat.{ℕ, _+_, _≤_}
 use mathlib.Core.Path.{_≡_}
 use mathlib.Core.Bool.{_&&_}

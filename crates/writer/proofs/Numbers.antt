@@ -14,10 +14,12 @@ pub tells : (r : Record) (d : List ℕ) → Tells r d
 unfolding writing
 tells r d = record { number-is = numbered (eqb (question r d) 0) refl; values-are = valued (eqb (question r d) 0) }
   where
-    numbered : (t : Bool) → eqb (question r d) 0 ≡ t → number (cond t (Length (length (line r))) (Refusal (question r d))) ≡ question r d
+    numbered : (t : Bool) → eqb (question r d) 0 ≡ t
+        → number (cond t (Length (length (line r))) (Refusal (question r d))) ≡ question r d
     numbered true e = sym (eqb-true (question r d) 0 e)
     numbered false e = refl
 
-    valued : (t : Bool) → values (cond t (Length (length (line r))) (Refusal (question r d))) ≡ cond t (length (line r) ∷ []) (question r d ∷ [])
+    valued : (t : Bool) → values (cond t (Length (length (line r))) (Refusal (question r d)))
+        ≡ cond t (length (line r) ∷ []) (question r d ∷ [])
     valued true = refl
     valued false = refl

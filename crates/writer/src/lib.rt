@@ -1,12 +1,11 @@
 // Bracket lines: the writer of one record into a lent buffer.
 ghost use mathlib.Core.Path.{_≡_};
-ghost use mathlib.Core.List.{_++_};
 ghost use Prim.Native.Nat.{_+_};
 ghost use lib.ListN.{length};
 ghost use Rattle.buffer.specs.Buffer.{Put, Room};
-ghost use Rattle.lines.specs.Form.{bytes, slot-text};
+ghost use Rattle.lines.specs.Form.{slot-text};
 ghost use Rattle.writer.specs.Writing.{line, writing, written};
-ghost use Rattle.writer.specs.Contracts.{Sized};
+ghost use Rattle.writer.specs.Contracts.{Sized, Puts, one-slot};
 use lines::Record;
 use print::Size;
 use print::put;
@@ -18,8 +17,8 @@ pub enum Writing {
     Refusal(u64),
 }
 
-// Whether the record's numbers are in their ranges, and how long its line is: its form's own bytes with the byte 10, and
-// its slots, counted from the last to the first.
+// Whether the record's numbers are in their ranges, and how long its line is: its form's own bytes with the byte 10,
+// and its slots, counted from the last to the first.
 fn size_of(r: Record) -> Size
     ensures { λ z. ⌜ Sized r z ⌝ }
 {
@@ -56,11 +55,11 @@ fn size_of(r: Record) -> Size
     }
 }
 
-// The line of a form with one slot, the last before the closing bracket. As in `print`, bytes are put from the last to the
-// first: the line ends at the place to.
+// The line of a form with one slot, the last before the closing bracket. Bytes are put from the last to the first: the
+// line ends at the place to.
 fn put_one(out: &mut [u8], to: usize, word: &[u8], slot: u8, n: u64) -> usize
     requires { ⌜ Room (now out) to (length (slot-text slot n) + (length (now word) + 2)) ⌝ }
-    ensures { λ r. ⌜ Put (now (out .entry)) (now (out .exit)) r to ((now (word .entry) ++ slot-text slot n) ++ bytes ")\n") ⌝ }
+    ensures { λ r. ⌜ Put (now (out .entry)) (now (out .exit)) r to (one-slot (now (word .entry)) slot n) ⌝ }
 {
     let to = put(out, to, b")\n");
     put_field(out, to, word, slot, n)
@@ -69,7 +68,7 @@ fn put_one(out: &mut [u8], to: usize, word: &[u8], slot: u8, n: u64) -> usize
 // The line of the plan form; and so for each form with several slots.
 fn put_plan(out: &mut [u8], to: usize, depth: u64, width: u64) -> usize
     requires { ⌜ Room (now out) to (length (line (Record.Plan depth width))) ⌝ }
-    ensures { λ r. ⌜ Put (now (out .entry)) (now (out .exit)) r to (line (Record.Plan depth width)) ⌝ }
+    ensures { λ r. ⌜ Puts (now (out .entry)) (now (out .exit)) r to (Record.Plan depth width) ⌝ }
 {
     let to = put(out, to, b"))\n");
     let to = put_field(out, to, b") (width ", b'I', width);
@@ -78,7 +77,7 @@ fn put_plan(out: &mut [u8], to: usize, depth: u64, width: u64) -> usize
 
 fn put_campaign(out: &mut [u8], to: usize, price: u64, budget: u64) -> usize
     requires { ⌜ Room (now out) to (length (line (Record.Campaign price budget))) ⌝ }
-    ensures { λ r. ⌜ Put (now (out .entry)) (now (out .exit)) r to (line (Record.Campaign price budget)) ⌝ }
+    ensures { λ r. ⌜ Puts (now (out .entry)) (now (out .exit)) r to (Record.Campaign price budget) ⌝ }
 {
     let to = put(out, to, b"))\n");
     let to = put_field(out, to, b") (budget ", b'I', budget);
@@ -87,7 +86,7 @@ fn put_campaign(out: &mut [u8], to: usize, price: u64, budget: u64) -> usize
 
 fn put_play(out: &mut [u8], to: usize, campaign: u64, paid: u64) -> usize
     requires { ⌜ Room (now out) to (length (line (Record.Play campaign paid))) ⌝ }
-    ensures { λ r. ⌜ Put (now (out .entry)) (now (out .exit)) r to (line (Record.Play campaign paid)) ⌝ }
+    ensures { λ r. ⌜ Puts (now (out .entry)) (now (out .exit)) r to (Record.Play campaign paid) ⌝ }
 {
     let to = put(out, to, b"))\n");
     let to = put_field(out, to, b" (paid ", b'N', paid);
@@ -96,7 +95,7 @@ fn put_play(out: &mut [u8], to: usize, campaign: u64, paid: u64) -> usize
 
 fn put_closed(out: &mut [u8], to: usize, takings: u64, claim: u64, full: u64) -> usize
     requires { ⌜ Room (now out) to (length (line (Record.Closed takings claim full))) ⌝ }
-    ensures { λ r. ⌜ Put (now (out .entry)) (now (out .exit)) r to (line (Record.Closed takings claim full)) ⌝ }
+    ensures { λ r. ⌜ Puts (now (out .entry)) (now (out .exit)) r to (Record.Closed takings claim full) ⌝ }
 {
     let to = put(out, to, b"))\n");
     let to = put_field(out, to, b") (full ", b'M', full);
@@ -114,7 +113,7 @@ fn put_tally(
     named: u64,
 ) -> usize
     requires { ⌜ Room (now out) to (length (line (Record.Tally campaign plays turns age named))) ⌝ }
-    ensures { λ r. ⌜ Put (now (out .entry)) (now (out .exit)) r to (line (Record.Tally campaign plays turns age named)) ⌝ }
+    ensures { λ r. ⌜ Puts (now (out .entry)) (now (out .exit)) r to (Record.Tally campaign plays turns age named) ⌝ }
 {
     let to = put(out, to, b"))\n");
     let to = put_field(out, to, b") (named ", b'N', named);
@@ -127,7 +126,7 @@ fn put_tally(
 // The line of the record, ending at the place to.
 fn put_record(r: Record, out: &mut [u8], to: usize) -> usize
     requires { ⌜ Room (now out) to (length (line r)) ⌝ }
-    ensures { λ n. ⌜ Put (now (out .entry)) (now (out .exit)) n to (line r) ⌝ }
+    ensures { λ n. ⌜ Puts (now (out .entry)) (now (out .exit)) n to r ⌝ }
 {
     match r {
         Record::Plan { depth, width } => put_plan(out, to, depth, width),

@@ -10,9 +10,8 @@ use lib.Dec.{eqb}
 use lib.ListN.{length, getD}
 use borrow.Author.Tests.{lt-ltb, ne-eqb}
 use Rattle.lines.specs.declared.Record.{Record}
-use Rattle.lines.specs.declared.Record.the-variants.{
-  Plan, Campaign, Start, View, Close, Done, Play, Nobody, Refused, Closed, Tally
-}
+use Rattle.lines.specs.declared.Record.the-variants.{Plan, Campaign, Start, View, Close, Done, Play, Nobody}
+use Rattle.lines.specs.declared.Record.the-variants.{Refused, Closed, Tally}
 use Rattle.lines.specs.declared.Reading.{Reading}
 use Rattle.lines.specs.declared.Reading.the-variants.{Refusal}
 use Rattle.lines.specs.Limits.{max-line}

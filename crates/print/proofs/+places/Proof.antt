@@ -44,11 +44,14 @@ places-places-requires t c κs = (omega arith, tt)
 
 places-add-result :
     (t : ℕ) → places-lts.Need-add-result (places-below t, places.Post) (places-at t) places.Post
-places-add-result t c = omega (arith, c .places .ensures, numeral-most (c .before .before .before .before .before .args .n / 10000))
+places-add-result t c =
+    omega (arith, c .places .ensures, numeral-most (c .before .before .before .before .before .args .n / 10000))
 
 places-returns-5 :
     (t : ℕ) → places-lts.Need-returns-5 (places-below t, places.Post) (places-at t) places.Post
-places-returns-5 t c = ap (λ (x : ℕ). 4 + x) (c .places .ensures) ∙ sym (len-skip (c .before .before .before .before .before .args .n) (omega arith) (omega arith))
+places-returns-5 t c =
+    ap (λ (x : ℕ). 4 + x) (c .places .ensures)
+    ∙ sym (len-skip (c .before .before .before .before .before .args .n) (omega arith) (omega arith))
 
 pub +places-spec : {M : Type 1} → statement M
 +places-spec =

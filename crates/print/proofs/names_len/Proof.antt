@@ -14,5 +14,11 @@ names-len-spec =
     (λ c. omega (arith, c .before .count .ensures, c .count2 .ensures, names-size (c .before .before .args .set)))
     (λ c. (
       omega (arith, c .before .count .ensures, c .count2 .ensures, names-size (c .before .before .args .set)),
-      omega (arith, c .before .count .ensures, c .count2 .ensures, names-size (c .before .before .args .set), size-most (c .before .before .args .set)),
+      omega (
+        arith,
+        c .before .count .ensures,
+        c .count2 .ensures,
+        names-size (c .before .before .args .set),
+        size-most (c .before .before .args .set),
+      ),
     )))

@@ -23,7 +23,8 @@ loop-again c =
     let at = a .to - length (a .word .now) in
     let b = getD (a .word .now) (o .i) 0 in (
       omega arith,
-      ap (λ (x : List ℕ). set x (at + o .i) b) (o .inv .1) ∙ over-next (a .out .now) at (a .word .now) (o .i) (omega arith),
+      ap (λ (x : List ℕ). set x (at + o .i) b) (o .inv .1)
+          ∙ over-next (a .out .now) at (a .word .now) (o .i) (omega arith),
       length-set (o .out) (at + o .i) b ∙ o .inv .2,
     )
 
@@ -34,7 +35,9 @@ returns c =
     let e : o .i ≡ length (a .word .now) = omega arith in
     record {
       next = omega arith;
-      here = o .inv .1 ∙ ap (over (a .out .now) (a .to - length (a .word .now))) (ap (λ (k : ℕ). take k (a .word .now)) e ∙ take-length (a .word .now));
+      here =
+          o .inv .1 ∙ ap (over (a .out .now) (a .to - length (a .word .now)))
+          (ap (λ (k : ℕ). take k (a .word .now)) e ∙ take-length (a .word .now));
       same = o .inv .2;
     }
 

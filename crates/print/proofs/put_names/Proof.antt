@@ -32,27 +32,45 @@ abbrev μ-loop : tie.MeasureT-loop
 μ-loop out₀ at set to₀ name₀ out to name = set-bits - name
 
 -- the names below a go on to the next member from a on
-steps : {o : List ℕ} {at set : ℕ} {out : List ℕ} {to : ℕ} (a r : ℕ) → a ≤ set-bits → r ≡ next set a → Put o out at to (names-text a set) → Names o at set out to r
+steps : {o : List ℕ} {at set : ℕ} {out : List ℕ} {to : ℕ} (a r : ℕ) → a ≤ set-bits → r ≡ next set a
+    → Put o out at to (names-text a set) → Names o at set out to r
 steps {o} {at} {set} {out} {to} a r h e p =
     let n = next-is set a h in
-    subst (Names o at set out to) (sym e) (record { stands = subst (Put o out at to) (sym (names-next set a h)) p; most = n .high; here = n .here })
+    subst (Names o at set out to) (sym e)
+    (record { stands = subst (Put o out at to) (sym (names-next set a h)) p; most = n .high; here = n .here })
 
 -- the names up to and with a member
-names-with : (set name : ℕ) → member set name ≡ true → names-text (name + 1) set ≡ names-text name set ++ (32 ∷ numeral name)
+names-with : (set name : ℕ) → member set name ≡ true
+    → names-text (name + 1) set ≡ names-text name set ++ (32 ∷ numeral name)
 names-with set name h = ap (λ (k : ℕ). names-text k set) (add-one name) ∙ names-here name set h
 
 -- there is room for a name
-room : (set name : ℕ) → name < set-bits → member set name ≡ true → length (names-text name set) + length (32 ∷ numeral name) ≤ length (names-text set-bits set)
+room : (set name : ℕ) → name < set-bits → member set name ≡ true
+    → length (names-text name set) + length (32 ∷ numeral name) ≤ length (names-text set-bits set)
 room set name h m =
     let e : max-campaign - name + (name + 1) ≡ set-bits = omega arith in
-    omega (arith, ap length (names-with set name m), length-append (names-text name set) (32 ∷ numeral name), names-less (max-campaign - name) (name + 1) set, ap (λ (k : ℕ). length (names-text k set)) e)
+    omega (
+      arith,
+      ap length (names-with set name m),
+      length-append (names-text name set) (32 ∷ numeral name),
+      names-less (max-campaign - name) (name + 1) set,
+      ap (λ (k : ℕ). length (names-text k set)) e,
+    )
 
 put-name-requires : tie.Need-put-name-requires Inv-loop μ-loop
 put-name-requires c κs =
     let a = c .before .before .before .before .before .args in
     let o = c .before .before .loop in
-    let h = c .before .loop-test .taken in
-    (h, omega (arith, o .inv .stands .next, o .inv .stands .same, room (a .set) (o .name) h (o .inv .here h), c .before .before .before .before .before .pre))
+    let h = c .before .loop-test .taken in (
+      h,
+      omega (
+        arith,
+        o .inv .stands .next,
+        o .inv .stands .same,
+        room (a .set) (o .name) h (o .inv .here h),
+        c .before .before .before .before .before .pre,
+      ),
+    )
 
 loop-again : tie.Need-loop-again Inv-loop μ-loop
 loop-again c =
@@ -61,7 +79,8 @@ loop-again c =
     let h = c .before .before .before .before .before .loop-test .taken in
     let p = c .before .before .before .put-name .ensures in
     steps (o .name + 1) (c .next-from2 .result) (omega arith) (c .next-from2 .ensures)
-    (subst (Put (a .out .now) _ (a .at) _) (sym (names-with (a .set) (o .name) (o .inv .here h))) (put-then (o .inv .stands) p))
+    (subst (Put (a .out .now) _ (a .at) _) (sym (names-with (a .set) (o .name) (o .inv .here h)))
+    (put-then (o .inv .stands) p))
 
 loop-holds : tie.Need-loop-holds Inv-loop μ-loop
 unfolding names-text
@@ -72,7 +91,9 @@ loop-holds c =
 loop-less : tie.Need-loop-less Inv-loop μ-loop
 loop-less c =
     let o = c .before .before .before .before .before .before .loop in
-    let n = next-is (c .before .before .before .before .before .before .before .before .before .args .set) (o .name + 1) (omega arith) in
+    let n =
+    next-is (c .before .before .before .before .before .before .before .before .before .args .set) (o .name + 1)
+    (omega arith) in
     omega (arith, n .low, c .next-from2 .ensures)
 
 pub put-names-spec : {M : Type 1} → statement M

@@ -34,7 +34,8 @@ loop-again c =
 returns : tie.Need-returns Inv-loop μ-loop
 returns c =
     let o = c .before .before .loop in
-    first-digit (c .before .before .before .args .n) (o .rest) (o .inv .0) (omega (arith, numeral-some (o .rest), o .inv .1)) (omega arith) (c .if1 .taken)
+    first-digit (c .before .before .before .args .n) (o .rest) (o .inv .0)
+    (omega (arith, numeral-some (o .rest), o .inv .1)) (omega arith) (c .if1 .taken)
 
 returns-2 : tie.Need-returns-2 Inv-loop μ-loop
 returns-2 c =
@@ -43,7 +44,8 @@ returns-2 c =
     let two = pair (o .rest) (o .i) (omega arith) (o .inv .3) (o .inv .1) in
     let t = next-digit (a .n) (o .rest) (o .inv .0) (omega (arith, two)) (omega arith) (omega arith) (o .inv .3) in
     let f : o .rest / 10 % 10 ≡ o .rest / 10 = omega arith in
-    subst (λ (d : ℕ). Put (a .out .now) (set (set (o .out) (o .i - 1) (48 + o .rest % 10)) (o .i - 1 - 1) (48 + d)) (o .i - 1 - 1) (a .to) (numeral (a .n))) f
+    subst (λ (d : ℕ). Put (a .out .now) (set (set (o .out) (o .i - 1) (48 + o .rest % 10)) (o .i - 1 - 1) (48 + d))
+    (o .i - 1 - 1) (a .to) (numeral (a .n))) f
     (first-digit (a .n) (o .rest / 10) t (omega (arith, two)) (omega arith) (omega arith))
 
 pub put-number-spec : {M : Type 1} → statement M
@@ -52,7 +54,8 @@ put-number-spec =
     (tie.spec
     Inv-loop
     μ-loop
-    (λ c. let a = c .args in (backward-start (numeral (a .n)) (a .out .now) (a .to), c .pre .0, omega arith, omega arith, refl))
+    (λ c. let a = c .args in
+    (backward-start (numeral (a .n)) (a .out .now) (a .to), c .pre .0, omega arith, omega arith, refl))
     (λ c. let o = c .before .loop in omega (arith, pair (o .rest) (o .i) (omega arith) (o .inv .3) (o .inv .1)))
     (λ c. omega arith)
     (λ c. omega arith)
@@ -60,7 +63,8 @@ put-number-spec =
     (λ c. let o = c .before .loop in omega (arith, pair (o .rest) (o .i) (omega arith) (o .inv .3) (o .inv .1)))
     (λ c. omega arith)
     (λ c. omega arith)
-    (λ c. let o = c .before .loop in simp length-set (omega (arith, pair (o .rest) (o .i) (omega arith) (o .inv .3) (o .inv .1))))
+    (λ c. let o = c .before .loop in
+    simp length-set (omega (arith, pair (o .rest) (o .i) (omega arith) (o .inv .3) (o .inv .1))))
     (λ c. omega arith)
     loop-again
     (λ c. let o = c .before .loop in omega (arith, numeral-some (o .rest), o .inv .1))
@@ -72,7 +76,8 @@ put-number-spec =
     (λ c. omega arith)
     (λ c. omega arith)
     (λ c. let o = c .before .before .loop in omega (arith, pair (o .rest) (o .i) (omega arith) (o .inv .3) (o .inv .1)))
-    (λ c. let o = c .before .before .loop in simp length-set (omega (arith, pair (o .rest) (o .i) (omega arith) (o .inv .3) (o .inv .1))))
+    (λ c. let o = c .before .before .loop in
+    simp length-set (omega (arith, pair (o .rest) (o .i) (omega arith) (o .inv .3) (o .inv .1))))
     (λ c. let o = c .before .before .loop in omega (arith, pair (o .rest) (o .i) (omega arith) (o .inv .3) (o .inv .1)))
     (λ c. simp length-set (c .before .before .loop .inv .4))
     returns-2)

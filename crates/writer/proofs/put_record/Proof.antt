@@ -1,5 +1,5 @@
--- The record is the one that its arm takes apart, so the arm's line is the record's; the room is handed on. A form without
--- slots is one word, one with one slot is `put_one`'s.
+-- The record is the one that its arm takes apart, so the arm's line is the record's; the room is handed on. A form
+-- without slots is one word, one with one slot is `put_one`'s.
 use mathlib.Core.Path.{_≡_, refl, sym, subst}
 use mathlib.Core.List.{List}
 use Prim.Native.Nat.{ℕ, _+_, _≤_}
@@ -45,7 +45,8 @@ put-record-spec =
     (λ c κs. let arm = c .before .before in fits Start (arm .enum-told .given .1) (arm .before .before .before .pre))
     (λ c. c .match .keys4)
     (λ c. refl)
-    (λ c κs. let arm = c .before .before .before in fits (View _) (arm .r3 .given .1) (arm .before .before .before .pre))
+    (λ c κs. let arm = c .before .before .before in
+    fits (View _) (arm .r3 .given .1) (arm .before .before .before .pre))
     (λ c. c .match .keys5)
     (λ c. refl)
     (λ c κs. let arm = c .before .before in fits Close (arm .enum-told2 .given .1) (arm .before .before .before .pre))
@@ -59,7 +60,8 @@ put-record-spec =
     (λ c κs. let arm = c .before .before in fits Nobody (arm .enum-told4 .given .1) (arm .before .before .before .pre))
     (λ c. c .match .keys9)
     (λ c. refl)
-    (λ c κs. let arm = c .before .before .before in fits (Refused _) (arm .r5 .given .1) (arm .before .before .before .pre))
+    (λ c κs. let arm = c .before .before .before in
+    fits (Refused _) (arm .r5 .given .1) (arm .before .before .before .pre))
     (λ c. c .match .keys10)
     (λ c κs. let arm = c .before .before in room (arm .r6 .given .1) (arm .before .before .before .pre))
     (λ c. c .match .keys11)

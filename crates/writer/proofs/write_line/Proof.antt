@@ -1,5 +1,5 @@
--- The two questions, then the line. `size_of` has measured the record before the buffer is touched, so each way out is a
--- case of the definitions; a line that ends where it is long begins at the front.
+-- The two questions, then the line. `size_of` has measured the record before the buffer is touched, so each way out is
+-- a case of the definitions; a line that ends at the place of its length begins at the front.
 use mathlib.Core.Path.{_≡_, ap, sym, _∙_}
 use mathlib.Core.Bool.{true, false}
 use mathlib.Core.List.{List}
@@ -33,14 +33,17 @@ module _ (r : Record) (z : Size) (d : List ℕ) (p : Sized r z) where
       let f : leb (length (line r)) (length d) ≡ false = lt-leb (length (line r)) (length d) (omega (arith, p .len)) in
       (rw (e, f), rw (e, f))
 
-  wrote : {out : List ℕ} {at : ℕ} → z .ok ≡ true → z .len ≤ length d → Put d out at (z .len) (line r) → (Length (z .len) ≡ writing r d) × (out ≡ written r d)
+  wrote : {out : List ℕ} {at : ℕ} → z .ok ≡ true → z .len ≤ length d → Put d out at (z .len) (line r)
+      → (Length (z .len) ≡ writing r d) × (out ≡ written r d)
   unfolding writing written question
   wrote {out} {at} h l q =
       let e : in-range r ≡ true = sym (p .ok) ∙ h in
       let b : length (line r) ≤ length d = omega (arith, p .len) in
       let f : leb (length (line r)) (length d) ≡ true = le-leb (length (line r)) (length d) b in
-      let front : at ≡ 0 = omega (arith, p .len, q .next) in
-      (rw (e, f) (ap Length (p .len)), rw (e, f) (q .here ∙ ap (λ (k : ℕ). over d k (line r)) front ∙ over-front d (line r) b))
+      let front : at ≡ 0 = omega (arith, p .len, q .next) in (
+        rw (e, f) (ap Length (p .len)),
+        rw (e, f) (q .here ∙ ap (λ (k : ℕ). over d k (line r)) front ∙ over-front d (line r) b),
+      )
 
 pub write-line-spec : {M : Type 1} → statement M
 write-line-spec =

@@ -7,9 +7,8 @@ use lib.ListN.{length, drop, length-drop}
 use Rattle.lines.specs.Limits.{max-line}
 use Rattle.lines.specs.Reading.{some}
 use Rattle.lines.specs.Contracts.{place, stripped}
-use Rattle.lines.proofs.Places.{
-  place-in, place-out, stripped-none, stripped-short, stripped-step, stripped-miss, stripped-end
-}
+use Rattle.lines.proofs.Places.{place-in, place-out, stripped-none, stripped-short, stripped-step, stripped-miss}
+use Rattle.lines.proofs.Places.{stripped-end}
 use Rattle.lines.proofs.scan.behind.Statement.{statement}
 use Rattle.lines.proofs.scan.behind.Tie as tie
 

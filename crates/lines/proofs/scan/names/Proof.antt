@@ -14,10 +14,8 @@ use Rattle.lines.specs.Limits.{max-campaign, set-bits, max-u64}
 use Rattle.lines.specs.Form.{campaign-slot, names-slot}
 use Rattle.lines.specs.Reading.{unseen, with-name, slot-at}
 use Rattle.lines.specs.Contracts.{place}
-use Rattle.lines.proofs.Places.{
-  missed, seen-in, seen-out, name-small, joins, joins-not, names-from, names-all, names-out, names-stop, names-bad,
-  names-join
-}
+use Rattle.lines.proofs.Places.{missed, seen-in, seen-out, name-small, joins, joins-not, names-from, names-all}
+use Rattle.lines.proofs.Places.{names-out, names-stop, names-bad, names-join}
 use Rattle.lines.proofs.scan.names.Statement.{statement}
 use Rattle.lines.proofs.scan.names.Tie as tie
 
@@ -139,7 +137,8 @@ loop-again c =
     let e = bit-of c .0 in
     let joined = joins (o .set) s n (drop to l) (seen-in l (x .result) s (x .ensures) h) (omega (arith, e)) in (
       ap (λ (k : ℕ). names-from (o .left - 1) (o .set + k) (place l to)) e
-          ∙ sym (names-join (o .left) (o .set) l (o .i) more in-line (sym (b .ensures) ∙ space) (o .set + 2 ^ n) to h joined)
+          ∙ sym (names-join (o .left) (o .set) l (o .i) more in-line (sym (b .ensures) ∙ space) (o .set + 2 ^ n) to h
+          joined)
           ∙ o .inv .0,
       λ q. absurd (omega arith),
     )

@@ -41,7 +41,8 @@ returns-3 c =
     let l = a .s .now in
     let e = number-zero (a .slot) l (a .at) (λ p. omega arith) (inside .if1 .left) (arm .match .keys1) in
     subst (Sees l (record { number = 0; end = a .at + 1 })) (sym e)
-    (sees-number l (a .slot) 0 (a .at + 1) (seen 0 (drop (a .at + 1) l)) (slot-zero (a .slot) (c .if2 .left)) (omega arith)
+    (sees-number l (a .slot) 0 (a .at + 1) (seen 0 (drop (a .at + 1) l)) (slot-zero (a .slot) (c .if2 .left))
+    (omega arith)
     refl)
 
 -- a digit from 1 to 9 and those behind it
