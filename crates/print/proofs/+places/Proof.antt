@@ -35,7 +35,8 @@ places-returns-3 t c = sym (len-three (c .before .before .before .args .n) (omeg
 
 places-returns-4 :
     (t : ℕ) → places-lts.Need-returns-4 (places-below t, places.Post) (places-at t) places.Post
-places-returns-4 t c = sym (len-four (c .before .before .before .before .args .n) (omega arith) (omega arith))
+places-returns-4 t c =
+    let start = c .before .before .before .before in sym (len-four (start .args .n) (omega arith) (omega arith))
 
 places-places-requires :
     (t : ℕ) →
@@ -45,13 +46,14 @@ places-places-requires t c κs = (omega arith, tt)
 places-add-result :
     (t : ℕ) → places-lts.Need-add-result (places-below t, places.Post) (places-at t) places.Post
 places-add-result t c =
-    omega (arith, c .places .ensures, numeral-most (c .before .before .before .before .before .args .n / 10000))
+    let start = c .before .before .before .before .before in
+    omega (arith, c .places .ensures, numeral-most (start .args .n / 10000))
 
 places-returns-5 :
     (t : ℕ) → places-lts.Need-returns-5 (places-below t, places.Post) (places-at t) places.Post
 places-returns-5 t c =
-    ap (λ (x : ℕ). 4 + x) (c .places .ensures)
-    ∙ sym (len-skip (c .before .before .before .before .before .args .n) (omega arith) (omega arith))
+    let start = c .before .before .before .before .before in
+    ap (λ (x : ℕ). 4 + x) (c .places .ensures) ∙ sym (len-skip (start .args .n) (omega arith) (omega arith))
 
 pub +places-spec : {M : Type 1} → statement M
 +places-spec =

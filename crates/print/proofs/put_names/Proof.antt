@@ -59,25 +59,20 @@ room set name h m =
 
 put-name-requires : tie.Need-put-name-requires Inv-loop μ-loop
 put-name-requires c κs =
-    let a = c .before .before .before .before .before .args in
+    let start = c .before .before .before .before .before in
     let o = c .before .before .loop in
-    let h = c .before .loop-test .taken in (
-      h,
-      omega (
-        arith,
-        o .inv .stands .next,
-        o .inv .stands .same,
-        room (a .set) (o .name) h (o .inv .here h),
-        c .before .before .before .before .before .pre,
-      ),
-    )
+    let h = c .before .loop-test .taken in
+    let s = o .inv .stands in
+    (h, omega (arith, s .next, s .same, room (start .args .set) (o .name) h (o .inv .here h), start .pre))
 
 loop-again : tie.Need-loop-again Inv-loop μ-loop
 loop-again c =
-    let a = c .before .before .before .before .before .before .before .before .before .args in
-    let o = c .before .before .before .before .before .before .loop in
-    let h = c .before .before .before .before .before .loop-test .taken in
-    let p = c .before .before .before .put-name .ensures in
+    let turn = c .before .before .before .before .before .before in
+    let a = turn .before .before .before .args in
+    let o = turn .loop in
+    let named = c .before .before .before in
+    let p = named .put-name .ensures in
+    let h = named .before .before .loop-test .taken in
     steps (o .name + 1) (c .next-from2 .result) (omega arith) (c .next-from2 .ensures)
     (subst (Put (a .out .now) _ (a .at) _) (sym (names-with (a .set) (o .name) (o .inv .here h)))
     (put-then (o .inv .stands) p))
@@ -90,10 +85,8 @@ loop-holds c =
 
 loop-less : tie.Need-loop-less Inv-loop μ-loop
 loop-less c =
-    let o = c .before .before .before .before .before .before .loop in
-    let n =
-    next-is (c .before .before .before .before .before .before .before .before .before .args .set) (o .name + 1)
-    (omega arith) in
+    let turn = c .before .before .before .before .before .before in
+    let n = next-is (turn .before .before .before .args .set) (turn .loop .name + 1) (omega arith) in
     omega (arith, n .low, c .next-from2 .ensures)
 
 pub put-names-spec : {M : Type 1} → statement M
