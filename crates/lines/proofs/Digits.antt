@@ -102,3 +102,14 @@ ranged-above slot (seen n l) h = go (in-slot slot n) refl
     go : (t : Bool) → in-slot slot n ≡ t → ranged slot (seen n l) ≡ unseen
     go true e = absurd (omega (arith, slot-most slot n e))
     go false e = ranged-no slot n l e
+
+-- what was seen in the range was seen, and is in the range
+pub ranged-sound : (slot n : ℕ) (m : List ℕ) (s : Seen) → ranged slot s ≡ seen n m
+    → (s ≡ seen n m) × (in-slot slot n ≡ true)
+ranged-sound slot n m unseen e = clash (cc)
+ranged-sound slot n m (seen k l) e = go (in-slot slot k) refl e
+  where
+    go : (t : Bool) → in-slot slot k ≡ t → cond t (seen k l) unseen ≡ seen n m
+        → (seen k l ≡ seen n m) × (in-slot slot n ≡ true)
+    go true f q = let z : k ≡ n = cc in (q, ap (in-slot slot) (sym z) ∙ f)
+    go false f q = clash (cc)

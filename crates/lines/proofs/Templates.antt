@@ -16,7 +16,7 @@ use Rattle.lines.specs.Form.{names-slot, is-slot, in-slot, names-text, s
 use Rattle.lines.specs.Form.{in-slots}
 use Rattle.lines.specs.Reading.{Rest, none, some, Seen, seen, unseen, numeral-at, ranged, names-at, slot-at}
 use Rattle.lines.specs.Reading.{strip, step, rest-of, slot-then, numbers-of}
-use Rattle.lines.proofs.Digits.{clash, slot-small, ranged-yes}
+use Rattle.lines.proofs.Digits.{clash, slot-small, ranged-yes, ranged-sound}
 use Rattle.lines.proofs.Places.{strip-hit}
 use Rattle.lines.proofs.Numerals.{stops, numeral-most, numeral-sound, numeral-back}
 use Rattle.lines.proofs.NameSets.{ends, set-sound, set-back, names-most}
@@ -39,16 +39,6 @@ slot-back slot n m h f = go (eqb slot names-slot) (both-right (stops m) (cond (e
     go false e =
         let s = both-left (stops m) (cond (eqb slot names-slot) (ends m) true) f in
         ap (ranged slot) (numeral-back n m (slot-small slot n h) s) ∙ ranged-yes slot n m h
-
-ranged-sound : (slot n : ℕ) (m : List ℕ) (s : Seen) → ranged slot s ≡ seen n m
-    → (s ≡ seen n m) × (in-slot slot n ≡ true)
-ranged-sound slot n m unseen e = clash (cc)
-ranged-sound slot n m (seen k l) e = go (in-slot slot k) refl e
-  where
-    go : (t : Bool) → in-slot slot k ≡ t → cond t (seen k l) unseen ≡ seen n m
-        → (seen k l ≡ seen n m) × (in-slot slot n ≡ true)
-    go true f q = let z : k ≡ n = cc in (q, ap (in-slot slot) (sym z) ∙ f)
-    go false f q = clash (cc)
 
 pub slot-sound : (slot n : ℕ) (l m : List ℕ) → slot-at slot (some l) ≡ seen n m
     → (l ≡ slot-text slot n ++ m) × (in-slot slot n ≡ true)

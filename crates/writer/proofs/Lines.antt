@@ -10,6 +10,7 @@ use Rattle.lines.specs.Form.{is-slot, slot-text, template, numbers, piece, numb
 use Rattle.lines.specs.declared.Record.{Record}
 use Rattle.buffer.specs.Buffer.{Put}
 use Rattle.writer.specs.Writing.{line}
+use Rattle.writer.specs.Contracts.{plus, own-size, slots-size, line-length}
 
 filled-end : (t ns : List ℕ) → filled (t ++ (10 ∷ [])) ns ≡ filled t ns ++ (10 ∷ [])
 unfolding filled piece
@@ -23,20 +24,7 @@ pub line-filled : (r : Record) → line r ≡ filled (template r ++ (10 ∷ []))
 unfolding line text
 line-filled r = sym (filled-end (template r) (numbers r))
 
--- The length of a line is counted slot by slot: k bytes more where s holds.
-abbrev plus : Bool → ℕ → ℕ → ℕ
-plus true k m = k + m
-plus false k m = m
-
--- a template's own bytes
-abbrev pub own-size : List ℕ → ℕ
-own-size [] = 0
-own-size (b ∷ t) = plus (not (is-slot b)) 1 (own-size t)
-
--- the slots' texts, and m bytes
-abbrev pub slots-size : List ℕ → List ℕ → ℕ → ℕ
-slots-size [] ns m = m
-slots-size (b ∷ t) ns m = plus (is-slot b) (length (piece b ns)) (slots-size t (numbers-after b ns) m)
+-- Counted slot by slot.
 
 slots-counted : (t ns : List ℕ) (m : ℕ) → length (filled t ns) + m ≡ slots-size t ns (own-size t + m)
 unfolding filled piece
@@ -55,7 +43,7 @@ slots-counted (b ∷ t) ns m =
         let e : 1 + own-size t + m ≡ own-size t + (1 + m) = omega arith in
         omega (arith, ih (1 + m), ap (slots-size t (numbers-after b ns)) e)
 
-pub line-slots : (r : Record) → length (line r) ≡ slots-size (template r) (numbers r) (own-size (template r) + 1)
+pub line-slots : (r : Record) → length (line r) ≡ line-length r
 unfolding line text
 line-slots r = length-append (text r) (10 ∷ []) ∙ slots-counted (template r) (numbers r) 1
 

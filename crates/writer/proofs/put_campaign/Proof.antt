@@ -4,14 +4,10 @@ use mathlib.Core.Path.{refl}
 use native.Mathlib.Omega.{arith}
 use Rattle.buffer.proofs.Puts.{put-before}
 use Rattle.lines.specs.Form.{template, numbers, piece, numbers-after, filled}
-use Rattle.lines.specs.declared.Record.{Record}
 use Rattle.lines.specs.declared.Record.the-variants.{Campaign}
-use Rattle.writer.proofs.Lines.{line-slots, puts-line}
+use Rattle.writer.proofs.Lines.{puts-line}
 use Rattle.writer.proofs.put_campaign.Statement.{statement}
 use Rattle.writer.proofs.put_campaign.Tie as tie
-
-abbrev form : tie.Start → Record
-form c = Campaign (c .args .price) (c .args .budget)
 
 pub put-campaign-spec : {M : Type 1} → statement M
 unfolding template numbers filled piece numbers-after
@@ -19,24 +15,17 @@ put-campaign-spec =
     tie.close
     (tie.spec
     (λ c. refl)
-    (λ c κs. let start = c .before .before .before in omega (arith, line-slots (form start)))
+    (λ c κs. omega arith)
     (λ c. refl)
-    (λ c κs.
-    let end = c .before .before .before .before in
-    let start = end .before .before .before .before in
-    omega (arith, line-slots (form start)))
+    (λ c κs. omega arith)
     (λ c. refl)
-    (λ c κs.
-    let budget = c .before .before .before .before in
-    let end = budget .before .before .before .before .before in
-    let start = end .before .before .before .before in
-    omega (arith, line-slots (form start)))
+    (λ c κs. omega arith)
     (λ c. omega arith)
     (λ c.
     let price = c .before .before in
     let budget = price .before .before .before .before .before in
     let end = budget .before .before .before .before .before in
-    let start = end .before .before .before .before in
+    let a = end .before .before .before .before .args in
     let from-budget = put-before (end .put .ensures) (budget .put-field .ensures) in
     let from-price = put-before from-budget (price .put-field2 .ensures) in
-    puts-line (form start) from-price))
+    puts-line (Campaign (a .price) (a .budget)) from-price))

@@ -4,14 +4,10 @@ use mathlib.Core.Path.{refl}
 use native.Mathlib.Omega.{arith}
 use Rattle.buffer.proofs.Puts.{put-before}
 use Rattle.lines.specs.Form.{template, numbers, piece, numbers-after, filled}
-use Rattle.lines.specs.declared.Record.{Record}
 use Rattle.lines.specs.declared.Record.the-variants.{Closed}
-use Rattle.writer.proofs.Lines.{line-slots, puts-line}
+use Rattle.writer.proofs.Lines.{puts-line}
 use Rattle.writer.proofs.put_closed.Statement.{statement}
 use Rattle.writer.proofs.put_closed.Tie as tie
-
-abbrev form : tie.Start → Record
-form c = Closed (c .args .takings) (c .args .claim) (c .args .full)
 
 pub put-closed-spec : {M : Type 1} → statement M
 unfolding template numbers filled piece numbers-after
@@ -19,33 +15,21 @@ put-closed-spec =
     tie.close
     (tie.spec
     (λ c. refl)
-    (λ c κs. let start = c .before .before .before in omega (arith, line-slots (form start)))
+    (λ c κs. omega arith)
     (λ c. refl)
-    (λ c κs.
-    let end = c .before .before .before .before in
-    let start = end .before .before .before .before in
-    omega (arith, line-slots (form start)))
+    (λ c κs. omega arith)
     (λ c. refl)
-    (λ c κs.
-    let full = c .before .before .before .before in
-    let end = full .before .before .before .before .before in
-    let start = end .before .before .before .before in
-    omega (arith, line-slots (form start)))
+    (λ c κs. omega arith)
     (λ c. refl)
-    (λ c κs.
-    let claim = c .before .before .before .before in
-    let full = claim .before .before .before .before .before in
-    let end = full .before .before .before .before .before in
-    let start = end .before .before .before .before in
-    omega (arith, line-slots (form start)))
+    (λ c κs. omega arith)
     (λ c. omega arith)
     (λ c.
     let takings = c .before .before in
     let claim = takings .before .before .before .before .before in
     let full = claim .before .before .before .before .before in
     let end = full .before .before .before .before .before in
-    let start = end .before .before .before .before in
+    let a = end .before .before .before .before .args in
     let from-full = put-before (end .put .ensures) (full .put-field .ensures) in
     let from-claim = put-before from-full (claim .put-field2 .ensures) in
     let from-takings = put-before from-claim (takings .put-field3 .ensures) in
-    puts-line (form start) from-takings))
+    puts-line (Closed (a .takings) (a .claim) (a .full)) from-takings))

@@ -4,14 +4,10 @@ use mathlib.Core.Path.{refl}
 use native.Mathlib.Omega.{arith}
 use Rattle.buffer.proofs.Puts.{put-before}
 use Rattle.lines.specs.Form.{template, numbers, piece, numbers-after, filled}
-use Rattle.lines.specs.declared.Record.{Record}
 use Rattle.lines.specs.declared.Record.the-variants.{Plan}
-use Rattle.writer.proofs.Lines.{line-slots, puts-line}
+use Rattle.writer.proofs.Lines.{puts-line}
 use Rattle.writer.proofs.put_plan.Statement.{statement}
 use Rattle.writer.proofs.put_plan.Tie as tie
-
-abbrev form : tie.Start → Record
-form c = Plan (c .args .depth) (c .args .width)
 
 pub put-plan-spec : {M : Type 1} → statement M
 unfolding template numbers filled piece numbers-after
@@ -19,24 +15,17 @@ put-plan-spec =
     tie.close
     (tie.spec
     (λ c. refl)
-    (λ c κs. let start = c .before .before .before in omega (arith, line-slots (form start)))
+    (λ c κs. omega arith)
     (λ c. refl)
-    (λ c κs.
-    let end = c .before .before .before .before in
-    let start = end .before .before .before .before in
-    omega (arith, line-slots (form start)))
+    (λ c κs. omega arith)
     (λ c. refl)
-    (λ c κs.
-    let width = c .before .before .before .before in
-    let end = width .before .before .before .before .before in
-    let start = end .before .before .before .before in
-    omega (arith, line-slots (form start)))
+    (λ c κs. omega arith)
     (λ c. omega arith)
     (λ c.
     let depth = c .before .before in
     let width = depth .before .before .before .before .before in
     let end = width .before .before .before .before .before in
-    let start = end .before .before .before .before in
+    let a = end .before .before .before .before .args in
     let from-width = put-before (end .put .ensures) (width .put-field .ensures) in
     let from-depth = put-before from-width (depth .put-field2 .ensures) in
-    puts-line (form start) from-depth))
+    puts-line (Plan (a .depth) (a .width)) from-depth))

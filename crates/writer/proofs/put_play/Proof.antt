@@ -4,14 +4,10 @@ use mathlib.Core.Path.{refl}
 use native.Mathlib.Omega.{arith}
 use Rattle.buffer.proofs.Puts.{put-before}
 use Rattle.lines.specs.Form.{template, numbers, piece, numbers-after, filled}
-use Rattle.lines.specs.declared.Record.{Record}
 use Rattle.lines.specs.declared.Record.the-variants.{Play}
-use Rattle.writer.proofs.Lines.{line-slots, puts-line}
+use Rattle.writer.proofs.Lines.{puts-line}
 use Rattle.writer.proofs.put_play.Statement.{statement}
 use Rattle.writer.proofs.put_play.Tie as tie
-
-abbrev form : tie.Start → Record
-form c = Play (c .args .campaign) (c .args .paid)
 
 pub put-play-spec : {M : Type 1} → statement M
 unfolding template numbers filled piece numbers-after
@@ -19,24 +15,17 @@ put-play-spec =
     tie.close
     (tie.spec
     (λ c. refl)
-    (λ c κs. let start = c .before .before .before in omega (arith, line-slots (form start)))
+    (λ c κs. omega arith)
     (λ c. refl)
-    (λ c κs.
-    let end = c .before .before .before .before in
-    let start = end .before .before .before .before in
-    omega (arith, line-slots (form start)))
+    (λ c κs. omega arith)
     (λ c. refl)
-    (λ c κs.
-    let paid = c .before .before .before .before in
-    let end = paid .before .before .before .before .before in
-    let start = end .before .before .before .before in
-    omega (arith, line-slots (form start)))
+    (λ c κs. omega arith)
     (λ c. omega arith)
     (λ c.
     let campaign = c .before .before in
     let paid = campaign .before .before .before .before .before in
     let end = paid .before .before .before .before .before in
-    let start = end .before .before .before .before in
+    let a = end .before .before .before .before .args in
     let from-paid = put-before (end .put .ensures) (paid .put-field .ensures) in
     let from-campaign = put-before from-paid (campaign .put-field2 .ensures) in
-    puts-line (form start) from-campaign))
+    puts-line (Play (a .campaign) (a .paid)) from-campaign))

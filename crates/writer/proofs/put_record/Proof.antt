@@ -2,15 +2,15 @@
 -- without slots is one word, one with one slot is `put_one`'s.
 use mathlib.Core.Path.{_≡_, refl, sym, subst}
 use mathlib.Core.List.{List}
-use Prim.Native.Nat.{ℕ, _+_, _≤_}
+use Prim.Native.Nat.{ℕ, _≤_}
 use native.Mathlib.Omega.{arith}
-use lib.ListN.{length}
 use Rattle.buffer.specs.Buffer.{Put}
 use Rattle.lines.specs.Form.{template, numbers, piece, numbers-after, filled}
 use Rattle.lines.specs.declared.Record.{Record}
 use Rattle.lines.specs.declared.Record.the-variants.{Start, View, Close, Done, Nobody, Refused}
 use Rattle.writer.specs.Writing.{line}
-use Rattle.writer.proofs.Lines.{own-size, slots-size, line-slots, puts-line}
+use Rattle.writer.specs.Contracts.{line-length}
+use Rattle.writer.proofs.Lines.{puts-line}
 use Rattle.writer.proofs.put_record.Statement.{statement}
 use Rattle.writer.proofs.put_record.Tie as tie
 
@@ -19,13 +19,8 @@ abbrev Fits : ℕ → ℕ → ℕ → Type 0
 Fits m to k = (k ≤ to) × (to ≤ m)
 
 -- the room that r asks for, where r is s
-room : {r s : Record} {m to : ℕ} → r ≡ s → Fits m to (length (line r)) → Fits m to (length (line s))
-room {r} {s} {m} {to} e h = subst (λ (x : Record). Fits m to (length (line x))) e h
-
--- the same, slot by slot
-fits : (s : Record) {r : Record} {m to : ℕ} → r ≡ s → Fits m to (length (line r))
-    → Fits m to (slots-size (template s) (numbers s) (own-size (template s) + 1))
-fits s {r} {m} {to} e h = subst (Fits m to) (line-slots s) (room e h)
+room : {r s : Record} {m to : ℕ} → r ≡ s → Fits m to (line-length r) → Fits m to (line-length s)
+room {r} {s} {m} {to} e h = subst (λ (x : Record). Fits m to (line-length x)) e h
 
 -- the line of s stands, where r is s
 puts : {r s : Record} {d e : List ℕ} {at to : ℕ} → r ≡ s → Put d e at to (line s) → Put d e at to (line r)
@@ -42,26 +37,26 @@ put-record-spec =
     (λ c κs. let arm = c .before .before in room (arm .r2 .given .1) (arm .before .before .before .pre))
     (λ c. c .match .keys3)
     (λ c. refl)
-    (λ c κs. let arm = c .before .before in fits Start (arm .enum-told .given .1) (arm .before .before .before .pre))
+    (λ c κs. let arm = c .before .before in room (arm .enum-told .given .1) (arm .before .before .before .pre))
     (λ c. c .match .keys4)
     (λ c. refl)
     (λ c κs. let arm = c .before .before .before in
-    fits (View _) (arm .r3 .given .1) (arm .before .before .before .pre))
+    room (arm .r3 .given .1) (arm .before .before .before .pre))
     (λ c. c .match .keys5)
     (λ c. refl)
-    (λ c κs. let arm = c .before .before in fits Close (arm .enum-told2 .given .1) (arm .before .before .before .pre))
+    (λ c κs. let arm = c .before .before in room (arm .enum-told2 .given .1) (arm .before .before .before .pre))
     (λ c. c .match .keys6)
     (λ c. refl)
-    (λ c κs. let arm = c .before .before in fits Done (arm .enum-told3 .given .1) (arm .before .before .before .pre))
+    (λ c κs. let arm = c .before .before in room (arm .enum-told3 .given .1) (arm .before .before .before .pre))
     (λ c. c .match .keys7)
     (λ c κs. let arm = c .before .before in room (arm .r4 .given .1) (arm .before .before .before .pre))
     (λ c. c .match .keys8)
     (λ c. refl)
-    (λ c κs. let arm = c .before .before in fits Nobody (arm .enum-told4 .given .1) (arm .before .before .before .pre))
+    (λ c κs. let arm = c .before .before in room (arm .enum-told4 .given .1) (arm .before .before .before .pre))
     (λ c. c .match .keys9)
     (λ c. refl)
     (λ c κs. let arm = c .before .before .before in
-    fits (Refused _) (arm .r5 .given .1) (arm .before .before .before .pre))
+    room (arm .r5 .given .1) (arm .before .before .before .pre))
     (λ c. c .match .keys10)
     (λ c κs. let arm = c .before .before in room (arm .r6 .given .1) (arm .before .before .before .pre))
     (λ c. c .match .keys11)

@@ -4,14 +4,10 @@ use mathlib.Core.Path.{refl}
 use native.Mathlib.Omega.{arith}
 use Rattle.buffer.proofs.Puts.{put-before}
 use Rattle.lines.specs.Form.{template, numbers, piece, numbers-after, filled}
-use Rattle.lines.specs.declared.Record.{Record}
 use Rattle.lines.specs.declared.Record.the-variants.{Tally}
-use Rattle.writer.proofs.Lines.{line-slots, puts-line}
+use Rattle.writer.proofs.Lines.{puts-line}
 use Rattle.writer.proofs.put_tally.Statement.{statement}
 use Rattle.writer.proofs.put_tally.Tie as tie
-
-abbrev form : tie.Start → Record
-form c = Tally (c .args .campaign) (c .args .plays) (c .args .turns) (c .args .age) (c .args .named)
 
 pub put-tally-spec : {M : Type 1} → statement M
 unfolding template numbers filled piece numbers-after
@@ -19,33 +15,15 @@ put-tally-spec =
     tie.close
     (tie.spec
     (λ c. refl)
-    (λ c κs. let start = c .before .before .before in omega (arith, line-slots (form start)))
+    (λ c κs. omega arith)
     (λ c. refl)
-    (λ c κs.
-    let end = c .before .before .before .before in
-    let start = end .before .before .before .before in
-    omega (arith, line-slots (form start)))
+    (λ c κs. omega arith)
     (λ c. refl)
-    (λ c κs.
-    let named = c .before .before .before .before in
-    let end = named .before .before .before .before .before in
-    let start = end .before .before .before .before in
-    omega (arith, line-slots (form start)))
+    (λ c κs. omega arith)
     (λ c. refl)
-    (λ c κs.
-    let age = c .before .before .before .before in
-    let named = age .before .before .before .before .before in
-    let end = named .before .before .before .before .before in
-    let start = end .before .before .before .before in
-    omega (arith, line-slots (form start)))
+    (λ c κs. omega arith)
     (λ c. refl)
-    (λ c κs.
-    let turns = c .before .before .before .before in
-    let age = turns .before .before .before .before .before in
-    let named = age .before .before .before .before .before in
-    let end = named .before .before .before .before .before in
-    let start = end .before .before .before .before in
-    omega (arith, line-slots (form start)))
+    (λ c κs. omega arith)
     (λ c. refl)
     (λ c κs.
     let plays = c .before .before .before .before in
@@ -54,7 +32,7 @@ put-tally-spec =
     let named = age .before .before .before .before .before in
     let end = named .before .before .before .before .before in
     let start = end .before .before .before .before in
-    omega (arith, line-slots (form start)))
+    omega arith)
     (λ c. omega arith)
     (λ c.
     let campaign = c .before .before in
@@ -63,10 +41,10 @@ put-tally-spec =
     let age = turns .before .before .before .before .before in
     let named = age .before .before .before .before .before in
     let end = named .before .before .before .before .before in
-    let start = end .before .before .before .before in
+    let a = end .before .before .before .before .args in
     let from-named = put-before (end .put .ensures) (named .put-field .ensures) in
     let from-age = put-before from-named (age .put-field2 .ensures) in
     let from-turns = put-before from-age (turns .put-field3 .ensures) in
     let from-plays = put-before from-turns (plays .put-field4 .ensures) in
     let from-campaign = put-before from-plays (campaign .put-field5 .ensures) in
-    puts-line (form start) from-campaign))
+    puts-line (Tally (a .campaign) (a .plays) (a .turns) (a .age) (a .named)) from-campaign))

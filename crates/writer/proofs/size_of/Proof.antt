@@ -1,20 +1,16 @@
 -- A record is measured slot by slot, from the last to the first, and `Measured` keeps what is counted so far: whether
 -- the numbers are in their ranges, and the bytes.
-use mathlib.Core.Path.{_≡_, refl, sym, ap, _∙_, subst}
-use mathlib.Core.Bool.{Bool, true, _&&_}
-use Prim.Native.Nat.{ℕ, _+_, _≤_}
+use mathlib.Core.Path.{_≡_, sym, ap, _∙_, subst}
+use mathlib.Core.Bool.{Bool, _&&_}
+use Prim.Native.Nat.{ℕ, _+_}
 use native.Mathlib.Omega.{arith}
-use lib.Dec.{leb}
 use lib.ListN.{length}
-use borrow.Author.Tests.{leb-true}
-use Rattle.lines.specs.Limits.{max-names}
 use Rattle.lines.specs.Form.{input-slot, output-slot, campaign-slot, refusal-slot, money-slot, names-slot, in-slot}
 use Rattle.lines.specs.Form.{slot-text, template, numbers, piece, numbers-after, in-slots, in-range}
 use Rattle.lines.specs.declared.Record.{Record}
 use Rattle.print.specs.declared.Size.{Size}
-use Rattle.print.specs.Contracts.{max-counted, Counted}
-use Rattle.writer.specs.Contracts.{Sized}
-use Rattle.writer.proofs.Lines.{own-size, slots-size, line-slots}
+use Rattle.print.specs.Contracts.{Counted}
+use Rattle.writer.specs.Contracts.{line-length, Sized}
 use Rattle.writer.proofs.size_of.Statement.{statement}
 use Rattle.writer.proofs.size_of.Tie as tie
 
@@ -32,9 +28,8 @@ with-slot slot n p q = (
 
 -- z is the size of r, which is s
 sized : {r s : Record} {z : Size} → r ≡ s
-    → Measured z (in-range s) (slots-size (template s) (numbers s) (own-size (template s) + 1)) → Sized r z
-sized {r} {s} {z} e p =
-    subst (λ (x : Record). Sized x z) (sym e) (record { ok = p .0; len = p .1 ∙ sym (line-slots s) })
+    → Measured z (in-range s) (line-length s) → Sized r z
+sized {r} {s} {z} e p = subst (λ (x : Record). Sized x z) (sym e) (record { ok = p .0; len = p .1 })
 
 pub size-of-spec : {M : Type 1} → statement M
 unfolding template numbers piece numbers-after in-slots in-range

@@ -17,6 +17,7 @@ use Rattle.buffer.specs.Buffer.{over, Put}
 use Rattle.writer.specs.Contracts.{Sized}
 use Rattle.writer.specs.Writing.{line, question, writing, written}
 use Rattle.buffer.proofs.Over.{over-front}
+use Rattle.writer.proofs.Lines.{line-slots}
 use Rattle.writer.proofs.write_line.Statement.{statement}
 use Rattle.writer.proofs.write_line.Tie as tie
 
@@ -26,11 +27,14 @@ module _ (r : Record) (z : Size) (d : List ℕ) (p : Sized r z) where
   unfolding writing written question
   out-of-range h = let e : in-range r ≡ false = sym (p .ok) ∙ h in (rw e, rw e)
 
+  long : z .len ≡ length (line r)
+  long = p .len ∙ sym (line-slots r)
+
   no-room : z .ok ≡ true → length d < z .len → (Refusal 18 ≡ writing r d) × (d ≡ written r d)
   unfolding writing written question
   no-room h l =
       let e : in-range r ≡ true = sym (p .ok) ∙ h in
-      let f : leb (length (line r)) (length d) ≡ false = lt-leb (length (line r)) (length d) (omega (arith, p .len)) in
+      let f : leb (length (line r)) (length d) ≡ false = lt-leb (length (line r)) (length d) (omega (arith, long)) in
       (rw (e, f), rw (e, f))
 
   wrote : {out : List ℕ} {at : ℕ} → z .ok ≡ true → z .len ≤ length d → Put d out at (z .len) (line r)
@@ -38,10 +42,10 @@ module _ (r : Record) (z : Size) (d : List ℕ) (p : Sized r z) where
   unfolding writing written question
   wrote {out} {at} h l q =
       let e : in-range r ≡ true = sym (p .ok) ∙ h in
-      let b : length (line r) ≤ length d = omega (arith, p .len) in
+      let b : length (line r) ≤ length d = omega (arith, long) in
       let f : leb (length (line r)) (length d) ≡ true = le-leb (length (line r)) (length d) b in
-      let front : at ≡ 0 = omega (arith, p .len, q .next) in (
-        rw (e, f) (ap Length (p .len)),
+      let front : at ≡ 0 = omega (arith, long, q .next) in (
+        rw (e, f) (ap Length long),
         rw (e, f) (q .here ∙ ap (λ (k : ℕ). over d k (line r)) front ∙ over-front d (line r) b),
       )
 

@@ -9,7 +9,7 @@ use lib.ListN.{length, drop, getD}
 use borrow.Author.Tests.{not-true, not-false, leb-true, leb-false}
 use Rattle.lines.specs.Limits.{max-u64}
 use Rattle.lines.specs.Form.{slot-max}
-use Rattle.lines.specs.Reading.{value, is-digit, digits, ranged}
+use Rattle.lines.specs.Reading.{value, is-digit, digits}
 use Rattle.lines.proofs.Digits.{digit-from, digits-least, max-range, slot-yes, ranged-above}
 use Rattle.lines.proofs.Places.{missed, sees-number, digits-step, digits-halt, digits-end}
 use Rattle.lines.proofs.scan.more_digits.Statement.{statement}

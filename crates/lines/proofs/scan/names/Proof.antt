@@ -14,8 +14,9 @@ use Rattle.lines.specs.Limits.{max-campaign, set-bits, max-u64}
 use Rattle.lines.specs.Form.{campaign-slot, names-slot}
 use Rattle.lines.specs.Reading.{unseen, with-name, slot-at}
 use Rattle.lines.specs.Contracts.{place}
-use Rattle.lines.proofs.Places.{missed, seen-in, seen-out, name-small, joins, joins-not, names-from, names-all}
-use Rattle.lines.proofs.Places.{names-out, names-stop, names-bad, names-join}
+use Rattle.lines.proofs.Places.{missed, seen-in, seen-out}
+use Rattle.lines.proofs.NamePlaces.{name-small, joins, joins-not, names-from, names-all, names-out, names-stop}
+use Rattle.lines.proofs.NamePlaces.{names-bad, names-join}
 use Rattle.lines.proofs.scan.names.Statement.{statement}
 use Rattle.lines.proofs.scan.names.Tie as tie
 

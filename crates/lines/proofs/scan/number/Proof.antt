@@ -6,8 +6,8 @@ use Prim.Native.Nat.{ℕ, _+_}
 use native.Mathlib.Omega.{arith}
 use lib.ListN.{drop}
 use Rattle.lines.specs.Form.{in-slot}
-use Rattle.lines.specs.Reading.{seen, digits, ranged, slot-at}
-use Rattle.lines.specs.Contracts.{place, Sees}
+use Rattle.lines.specs.Reading.{seen, digits, ranged}
+use Rattle.lines.specs.Contracts.{Sees}
 use Rattle.lines.proofs.Digits.{max-range, slot-zero, ranged-no}
 use Rattle.lines.proofs.Places.{missed, sees-number, number-end, number-zero, number-lead, number-other}
 use Rattle.lines.proofs.scan.number.Statement.{statement}
