@@ -11,7 +11,7 @@ use Rattle.lines.specs.declared.Record.{Record}
 use Rattle.print.specs.declared.Size.{Size}
 use Rattle.writer.specs.Writing.{line}
 
--- The length of a line is counted slot by slot: k bytes more where s holds.
+-- The length of a line is counted slot by slot: k bytes more where the test holds.
 abbrev pub plus : Bool → ℕ → ℕ → ℕ
 plus true k m = k + m
 plus false k m = m
