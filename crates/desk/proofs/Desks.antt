@@ -9,8 +9,8 @@ use lib.ListN.{length, take, drop, length-take}
 use lib.Seq.{take-all, length-take-le}
 use borrow.Author.Tests.{le-leb, leb-true, leb-false, le-ltb, ltb-false, eqb-true, eqb-false}
 use Rattle.finite.proofs.Tests.{never}
-use Rattle.print.specs.Buffer.{Put}
-use Rattle.print.proofs.Buffers.{over-front}
+use Rattle.buffer.specs.Buffer.{Put}
+use Rattle.buffer.proofs.Over.{over-front}
 use Rattle.reply.specs.declared.line.Served.{Served}
 use Rattle.reply.specs.Reply.{reply, next, Serves}
 use Rattle.stretch.specs.declared.Cursor.{Cursor}

@@ -1,5 +1,7 @@
 pub mod Digits
 pub mod Places
+pub mod NamePlaces
+pub mod Fields
 pub mod Numerals
 pub mod NameSets
 pub mod Templates

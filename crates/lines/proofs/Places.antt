@@ -1,22 +1,25 @@
--- Laws of the reader, one place of a line at a time.
+-- Laws of the reader, one place of a line at a time: words, the end, digits and a slot.
+-- Each takes what the definition finds at a place apart by whether the place is in the line, and by the byte there.
 use mathlib.Core.Path.{_≡_, refl, sym, ap, _∙_, subst}
 use mathlib.Core.Bool.{Bool, true, false, cond}
 use mathlib.Core.List.{List, [], _∷_}
 use mathlib.Core.Logic.{_⊎_, inl, inr}
-use Prim.Native.Nat.{ℕ, suc, _+_, _*_, _-_, _^_, _≤_, _<_}
+use Prim.Native.Nat.{ℕ, _+_, _*_, _-_, _≤_, _<_}
 use native.Mathlib.Omega.{arith}
 use native.Mathlib.Numerals.{add-one}
 use lib.Dec.{leb, eqb}
 use lib.ListN.{length, drop, getD, drop-of-length-le}
 use lib.Seq.{drop-cons, drop-length}
-use borrow.Author.Tests.{lt-ltb, le-ltb, le-leb, lt-leb, leb-true, leb-false, eq-eqb, ne-eqb}
-use Rattle.lines.specs.Form.{inSlot}
-use Rattle.lines.specs.declared.Slot.{Slot}
+use borrow.Author.Tests.{le-leb, lt-leb, leb-true, leb-false, eq-eqb, ne-eqb}
+use Rattle.lines.specs.Limits.{max-line}
+use Rattle.lines.specs.Form.{names-slot, in-slot}
+use Rattle.lines.specs.declared.scan.Slot.{Slot}
 use Rattle.lines.specs.declared.Record.{Record}
 use Rattle.lines.specs.declared.Reading.the-variants.{Got, Refusal}
-use Rattle.lines.specs.Reading.{Rest, none, some, Seen, seen, unseen, value, behind, isDigit, digits, numeralAt, ranged, joined, andThen, namesAt, slotAt, strip, isEnd, endedOr}
-use Rattle.lines.specs.Place.{place, stripped, Sees}
-use Rattle.lines.proofs.Digits.{digit-yes, digit-below, digit-above, ranged-yes}
+use Rattle.lines.specs.Reading.{Rest, none, some, Seen, seen, unseen, value, behind, is-digit, digits, numeral-at}
+use Rattle.lines.specs.Reading.{ranged, slot-at, strip, is-end, ended-or}
+use Rattle.lines.specs.Contracts.{place, stripped, Sees}
+use Rattle.lines.proofs.Digits.{clash, digit-yes, digit-below, digit-above, ranged-yes}
 
 pub place-in : (l : List ℕ) (at : ℕ) → at ≤ length l → place l at ≡ some (drop at l)
 unfolding place
@@ -33,7 +36,7 @@ pub place-end : (l : List ℕ) (at : ℕ) → at ≡ length l → place l at ≡
 place-end l at h = ap (place l) h ∙ place-in l (length l) (omega arith) ∙ ap some (drop-length l)
 
 module _ (l : List ℕ) (at : ℕ) (h : at < length l) where
-  drop-next : drop at l ≡ getD l at 0 ∷ drop (at + 1) l
+  pub drop-next : drop at l ≡ getD l at 0 ∷ drop (at + 1) l
   drop-next = drop-cons l at 0 h ∙ ap (λ (k : ℕ). getD l at 0 ∷ drop k l) (sym (add-one at))
 
   pub place-next : place l at ≡ some (getD l at 0 ∷ drop (at + 1) l)
@@ -65,15 +68,20 @@ stripped-short (b ∷ w) (c ∷ l) h = go (eqb c b) (stripped-short w l (omega a
     go false ih = stripped-none w
 
 module _ (w l : List ℕ) (i j : ℕ) (hw : i < length w) (hl : j < length l) where
-  stripped-front : stripped (drop i w) (some (drop j l)) ≡ stripped (drop (i + 1) w) (strip (getD w i 0) (some (getD l j 0 ∷ drop (j + 1) l)))
+  stripped-front : stripped (drop i w) (some (drop j l))
+      ≡ stripped (drop (i + 1) w) (strip (getD w i 0) (some (getD l j 0 ∷ drop (j + 1) l)))
   unfolding stripped
   stripped-front = rw (drop-next w i hw, drop-next l j hl)
 
-  pub stripped-step : getD l j 0 ≡ getD w i 0 → stripped (drop i w) (some (drop j l)) ≡ stripped (drop (i + 1) w) (some (drop (j + 1) l))
-  stripped-step e = stripped-front ∙ ap (stripped (drop (i + 1) w)) (strip-hit (getD w i 0) (getD l j 0) (drop (j + 1) l) e)
+  pub stripped-step : getD l j 0 ≡ getD w i 0
+      → stripped (drop i w) (some (drop j l)) ≡ stripped (drop (i + 1) w) (some (drop (j + 1) l))
+  stripped-step e =
+      stripped-front ∙ ap (stripped (drop (i + 1) w)) (strip-hit (getD w i 0) (getD l j 0) (drop (j + 1) l) e)
 
   pub stripped-miss : (getD l j 0 ≡ getD w i 0 → ⊥) → stripped (drop i w) (some (drop j l)) ≡ none
-  stripped-miss e = stripped-front ∙ ap (stripped (drop (i + 1) w)) (strip-miss (getD w i 0) (getD l j 0) (drop (j + 1) l) e) ∙ stripped-none (drop (i + 1) w)
+  stripped-miss e =
+      stripped-front ∙ ap (stripped (drop (i + 1) w)) (strip-miss (getD w i 0) (getD l j 0) (drop (j + 1) l) e)
+      ∙ stripped-none (drop (i + 1) w)
 
 pub stripped-end : (w : List ℕ) (i : ℕ) (r : Rest) → length w ≤ i → stripped (drop i w) r ≡ r
 unfolding stripped
@@ -81,17 +89,22 @@ stripped-end w i r h = rw (drop-of-length-le w h)
 
 -- The end of the line.
 
-pub ends : (l : List ℕ) (at : ℕ) (p : Rest) (r : Record) → place l at ≡ p → at ≡ length l → Got r ≡ endedOr (Refusal 17) p r
-unfolding endedOr
-ends l at p r e h = sym (ap (λ (a : Rest). cond (isEnd a) (Got r) (Refusal 17)) (sym e ∙ place-end l at h))
+pub ends : (l : List ℕ) (at : ℕ) (p : Rest) (r : Record) → place l at ≡ p → at ≡ length l
+    → Got r ≡ ended-or (Refusal 17) p r
+unfolding ended-or
+ends l at p r e h = sym (ap (λ (a : Rest). cond (is-end a) (Got r) (Refusal 17)) (sym e ∙ place-end l at h))
 
-pub ends-not : (l : List ℕ) (at : ℕ) (p : Rest) (r : Record) → place l at ≡ p → (at ≡ length l → ⊥) → Refusal 17 ≡ endedOr (Refusal 17) p r
-unfolding endedOr
-ends-not l at p r e h = go (leb at (length l)) refl ∙ ap (λ (a : Rest). cond (isEnd a) (Got r) (Refusal 17)) e
+pub ends-not : (l : List ℕ) (at : ℕ) (p : Rest) (r : Record) → place l at ≡ p → (at ≡ length l → ⊥)
+    → Refusal 17 ≡ ended-or (Refusal 17) p r
+unfolding ended-or
+ends-not l at p r e h = go (leb at (length l)) refl ∙ ap (λ (a : Rest). cond (is-end a) (Got r) (Refusal 17)) e
   where
-    go : (t : Bool) → leb at (length l) ≡ t → Refusal 17 ≡ cond (isEnd (place l at)) (Got r) (Refusal 17)
-    go true f = sym (ap (λ (a : Rest). cond (isEnd a) (Got r) (Refusal 17)) (place-next l at (omega (arith, leb-true at (length l) f))))
-    go false f = sym (ap (λ (a : Rest). cond (isEnd a) (Got r) (Refusal 17)) (place-out l at (leb-false at (length l) f)))
+    go : (t : Bool) → leb at (length l) ≡ t → Refusal 17 ≡ cond (is-end (place l at)) (Got r) (Refusal 17)
+    go true f =
+        sym (ap (λ (a : Rest). cond (is-end a) (Got r) (Refusal 17))
+        (place-next l at (omega (arith, leb-true at (length l) f))))
+    go false f =
+        sym (ap (λ (a : Rest). cond (is-end a) (Got r) (Refusal 17)) (place-out l at (leb-false at (length l) f)))
 
 -- What is seen, by its number and its place.
 
@@ -108,19 +121,26 @@ module _ (l : List ℕ) (x : Slot) (s : Seen) where
       where
         go : (s : Seen) → none ≡ behind s → s ≡ unseen
         go unseen e = refl
-        go (seen n m) e = let y : _≡_ {A = ℕ} 0 1 = cc in absurd (omega arith)
+        go (seen n m) e = clash (cc)
 
     pub seen-in : x .end ≤ length l → s ≡ seen (x .number) (drop (x .end) l)
     seen-in h = go s (p .number) (sym (place-in l (x .end) h) ∙ p .end)
       where
-        go : (s : Seen) → x .number ≡ value s → some (drop (x .end) l) ≡ behind s → s ≡ seen (x .number) (drop (x .end) l)
-        go unseen a e = let y : _≡_ {A = ℕ} 0 1 = cc in absurd (omega arith)
+        go : (s : Seen) → x .number ≡ value s → some (drop (x .end) l) ≡ behind s
+            → s ≡ seen (x .number) (drop (x .end) l)
+        go unseen a e = clash (cc)
         go (seen n m) a e = cc
+
+-- what the code's `missing` gives
+pub missed : {l : List ℕ} {x : Slot} {s : Seen} → length l ≤ max-line → (x .number ≡ 0) × (x .end ≡ max-line + 1)
+    → s ≡ unseen → Sees l x s
+missed {l} {x} {s} h p e = misses l x s (p .0) (omega (arith, p .1)) e
 
 -- Digits.
 
 module _ (l : List ℕ) (i : ℕ) (h : i < length l) (a : ℕ) where
-  pub digits-step : isDigit (getD l i 0) ≡ true → digits a (drop i l) ≡ digits (a * 10 + (getD l i 0 - 48)) (drop (i + 1) l)
+  pub digits-step : is-digit (getD l i 0) ≡ true
+      → digits a (drop i l) ≡ digits (a * 10 + (getD l i 0 - 48)) (drop (i + 1) l)
   unfolding digits
   digits-step e = rw (drop-next l i h, e)
 
@@ -128,9 +148,9 @@ pub digits-end : (l : List ℕ) (i a : ℕ) → length l ≤ i → digits a (dro
 unfolding digits
 digits-end l i a h = subst (λ (m : List ℕ). digits a m ≡ seen a m) (sym (drop-of-length-le l h)) refl
 
-pub digits-stop : (l : List ℕ) (i a : ℕ) → isDigit (getD l i 0) ≡ false → digits a (drop i l) ≡ seen a (drop i l)
+pub digits-halt : (l : List ℕ) (i a : ℕ) → is-digit (getD l i 0) ≡ false → digits a (drop i l) ≡ seen a (drop i l)
 unfolding digits
-digits-stop l i a e = go (leb (i + 1) (length l)) refl
+digits-halt l i a e = go (leb (i + 1) (length l)) refl
   where
     go : (t : Bool) → leb (i + 1) (length l) ≡ t → digits a (drop i l) ≡ seen a (drop i l)
     go true q =
@@ -139,124 +159,50 @@ digits-stop l i a e = go (leb (i + 1) (length l)) refl
     go false q = digits-end l i a (omega (arith, leb-false (i + 1) (length l) q))
 
 -- a numeral in the range of the slot that ends at the place i
-pub sees-number : (l : List ℕ) (slot a i : ℕ) (s : Seen) → inSlot slot a ≡ true → i ≤ length l → s ≡ seen a (drop i l) → Sees l (record { number = a; end = i }) (ranged slot s)
-sees-number l slot a i s h b e = sees l (record { number = a; end = i }) (ranged slot s) b (ap (ranged slot) e ∙ ranged-yes slot a (drop i l) h)
+pub sees-number : (l : List ℕ) (slot a i : ℕ) (s : Seen) → in-slot slot a ≡ true → i ≤ length l → s ≡ seen a (drop i l)
+    → Sees l (record { number = a; end = i }) (ranged slot s)
+sees-number l slot a i s h b e =
+    sees l (record { number = a; end = i }) (ranged slot s) b (ap (ranged slot) e ∙ ranged-yes slot a (drop i l) h)
 
 -- A slot at a place.
 
 module _ (slot : ℕ) (l : List ℕ) (at : ℕ) where
-  pub slot-out : length l < at → slotAt slot (place l at) ≡ unseen
-  unfolding slotAt
-  slot-out h = ap (slotAt slot) (place-out l at h)
+  pub slot-out : length l < at → slot-at slot (place l at) ≡ unseen
+  unfolding slot-at
+  slot-out h = ap (slot-at slot) (place-out l at h)
 
-  module _ (number : (slot ≡ 83 → ⊥)) where
-    slot-number : (m : List ℕ) → slotAt slot (some m) ≡ ranged slot (numeralAt m)
-    unfolding slotAt
-    slot-number m = simp (ne-eqb slot 83 number)
+  module _ (number : (slot ≡ names-slot → ⊥)) where
+    pub slot-number : (m : List ℕ) → slot-at slot (some m) ≡ ranged slot (numeral-at m)
+    unfolding slot-at
+    slot-number m = simp (ne-eqb slot names-slot number)
 
-    pub number-end : length l ≤ at → slotAt slot (place l at) ≡ unseen
-    unfolding numeralAt
+    pub number-end : length l ≤ at → slot-at slot (place l at) ≡ unseen
+    unfolding numeral-at
     number-end h = go (leb at (length l)) refl
       where
-        go : (t : Bool) → leb at (length l) ≡ t → slotAt slot (place l at) ≡ unseen
-        go true e = ap (slotAt slot) (place-in l at (leb-true at (length l) e) ∙ ap some (drop-of-length-le l h)) ∙ slot-number []
+        go : (t : Bool) → leb at (length l) ≡ t → slot-at slot (place l at) ≡ unseen
+        go true e =
+            ap (slot-at slot) (place-in l at (leb-true at (length l) e) ∙ ap some (drop-of-length-le l h))
+            ∙ slot-number []
         go false e = slot-out (leb-false at (length l) e)
 
     module _ (h : at < length l) where
-      number-here : slotAt slot (place l at) ≡ ranged slot (numeralAt (getD l at 0 ∷ drop (at + 1) l))
-      number-here = ap (slotAt slot) (place-next l at h) ∙ slot-number (getD l at 0 ∷ drop (at + 1) l)
+      number-here : slot-at slot (place l at) ≡ ranged slot (numeral-at (getD l at 0 ∷ drop (at + 1) l))
+      number-here = ap (slot-at slot) (place-next l at h) ∙ slot-number (getD l at 0 ∷ drop (at + 1) l)
 
-      pub number-zero : getD l at 0 ≡ 48 → slotAt slot (place l at) ≡ ranged slot (seen 0 (drop (at + 1) l))
-      unfolding numeralAt
+      pub number-zero : getD l at 0 ≡ 48 → slot-at slot (place l at) ≡ ranged slot (seen 0 (drop (at + 1) l))
+      unfolding numeral-at
       number-zero e = number-here ∙ simp e
 
-      pub number-lead : 49 ≤ getD l at 0 → getD l at 0 ≤ 57 → slotAt slot (place l at) ≡ ranged slot (digits (getD l at 0 - 48) (drop (at + 1) l))
-      unfolding numeralAt
-      number-lead a b = number-here ∙ simp (ne-eqb (getD l at 0) 48 (λ p. omega arith), digit-yes (getD l at 0) (omega arith) b)
+      pub number-lead : 49 ≤ getD l at 0 → getD l at 0 ≤ 57
+          → slot-at slot (place l at) ≡ ranged slot (digits (getD l at 0 - 48) (drop (at + 1) l))
+      unfolding numeral-at
+      number-lead a b =
+          number-here ∙ simp (ne-eqb (getD l at 0) 48 (λ p. omega arith), digit-yes (getD l at 0) (omega arith) b)
 
-      pub number-other : (getD l at 0 < 48) ⊎ (57 < getD l at 0) → slotAt slot (place l at) ≡ unseen
-      unfolding numeralAt
-      number-other (inl a) = number-here ∙ simp (ne-eqb (getD l at 0) 48 (λ p. omega arith), digit-below (getD l at 0) a)
-      number-other (inr a) = number-here ∙ simp (ne-eqb (getD l at 0) 48 (λ p. omega arith), digit-above (getD l at 0) a)
-
--- Names.
-
--- the number that is seen in a slot is in its range
-pub slot-range : (slot : ℕ) (r : Rest) (n : ℕ) (m : List ℕ) → (slot ≡ 83 → ⊥) → slotAt slot r ≡ seen n m → inSlot slot n ≡ true
-unfolding slotAt
-slot-range slot none n m h e = let y : _≡_ {A = ℕ} 0 1 = cc in absurd (omega arith)
-slot-range slot (some l) n m h e = go (numeralAt l) (sym (slot-number slot l 0 h l) ∙ e)
-  where
-    go : (s : Seen) → ranged slot s ≡ seen n m → inSlot slot n ≡ true
-    go unseen q = let y : _≡_ {A = ℕ} 0 1 = cc in absurd (omega arith)
-    go (seen k l) q = by (inSlot slot k) refl q
-      where
-        by : (t : Bool) → inSlot slot k ≡ t → cond t (seen k l) unseen ≡ seen n m → inSlot slot n ≡ true
-        by true f q = let z : k ≡ n = ap value q in ap (inSlot slot) (sym z) ∙ f
-        by false f q = let y : _≡_ {A = ℕ} 0 1 = cc in absurd (omega arith)
-
-pub name-small : (l : List ℕ) (x : Slot) (r : Rest) → Sees l x (slotAt 67 r) → x .end ≤ length l → x .number < 64
-unfolding inSlot
-name-small l x r p h = omega (arith, leb-true (x .number) 63 (slot-range 67 r (x .number) (drop (x .end) l) (λ q. omega arith) (seen-in l x (slotAt 67 r) p h)))
-
-pub joins : (set : ℕ) (s : Seen) (n : ℕ) (m : List ℕ) → s ≡ seen n m → set < 2 ^ n → joined set s ≡ seen (set + 2 ^ n) m
-joins set s n m e h = ap (joined set) e ∙ simp (lt-ltb set (2 ^ n) h)
-
-pub joins-not : (set : ℕ) (s : Seen) (n : ℕ) (m : List ℕ) → s ≡ seen n m → 2 ^ n ≤ set → joined set s ≡ unseen
-joins-not set s n m e h = ap (joined set) e ∙ simp (le-ltb set (2 ^ n) h)
-
--- the names that are left, of which there are fewer than k
-unfoldable pub namesFrom : ℕ → ℕ → Rest → Seen
-namesFrom k set none = unseen
-namesFrom k set (some l) = namesAt k set l
-
-pub names-all : (r : Rest) → namesFrom 65 0 r ≡ slotAt 83 r
-unfolding namesFrom slotAt
-names-all none = refl
-names-all (some l) = refl
-
-pub names-out : (k set : ℕ) (r : Rest) → k ≡ 0 → namesFrom k set r ≡ unseen
-unfolding namesFrom namesAt
-names-out k set none h = refl
-names-out k set (some l) h = ap (λ (n : ℕ). namesAt n set l) h
-
-module _ (k set : ℕ) (l : List ℕ) (i : ℕ) (hk : 0 < k) where
-  fuel : k ≡ suc (k - 1)
-  fuel = omega arith
-
-  names-at : (h : i < length l) → namesFrom k set (place l i) ≡ namesAt (suc (k - 1)) set (getD l i 0 ∷ drop (i + 1) l)
-  unfolding namesFrom
-  names-at h = ap (namesFrom k set) (place-next l i h) ∙ ap (λ (n : ℕ). namesAt n set (getD l i 0 ∷ drop (i + 1) l)) fuel
-
-  -- no name follows: the set is read, or nothing where the place is behind the line
-  pub names-stop : (s : Seen) → namesFrom k set (place l i) ≡ s → (getD l i 0 ≡ 32 → ⊥) → (length l < i → set ≡ 0) → Sees l (record { number = set; end = i }) s
-  unfolding namesFrom namesAt
-  names-stop s e n z = by-place (leb (i + 1) (length l)) (leb i (length l)) refl refl
-    where
-      by-place : (t u : Bool) → leb (i + 1) (length l) ≡ t → leb i (length l) ≡ u → Sees l (record { number = set; end = i }) s
-      by-place true u q q′ =
-          let h : i < length l = omega (arith, leb-true (i + 1) (length l) q) in
-          sees l (record { number = set; end = i }) s (omega arith) (sym e ∙ names-at h ∙ simp (ne-eqb (getD l i 0) 32 n) (ap (seen set) (sym (drop-next l i h))))
-      by-place false true q q′ =
-          let b : length l ≤ i = omega (arith, leb-false (i + 1) (length l) q) in
-          let d : drop i l ≡ [] = drop-of-length-le l b in
-          sees l (record { number = set; end = i }) s (leb-true i (length l) q′)
-          (sym e ∙ ap (namesFrom k set) (place-in l i (leb-true i (length l) q′) ∙ ap some d) ∙ ap (λ (n : ℕ). namesAt n set []) fuel ∙ ap (seen set) (sym d))
-      by-place false false q q′ =
-          let b = leb-false i (length l) q′ in
-          misses l (record { number = set; end = i }) s (z b) b (sym e ∙ ap (namesFrom k set) (place-out l i b))
-
-  -- a name that follows joins the set
-  module _ (h : i < length l) (e : getD l i 0 ≡ 32) where
-    names-name : namesFrom k set (place l i) ≡ andThen (joined set (slotAt 67 (place l (i + 1)))) (namesAt (k - 1))
-    unfolding namesAt slotAt
-    names-name =
-        names-at h ∙ simp (eq-eqb (getD l i 0) 32 e)
-        (ap (λ (r : Rest). andThen (joined set (slotAt 67 r)) (namesAt (k - 1))) (sym (place-in l (i + 1) (omega arith))))
-
-    pub names-bad : joined set (slotAt 67 (place l (i + 1))) ≡ unseen → namesFrom k set (place l i) ≡ unseen
-    names-bad q = names-name ∙ ap (λ (s : Seen). andThen s (namesAt (k - 1))) q
-
-    pub names-next : (n j : ℕ) → j ≤ length l → joined set (slotAt 67 (place l (i + 1))) ≡ seen n (drop j l) → namesFrom k set (place l i) ≡ namesFrom (k - 1) n (place l j)
-    unfolding namesFrom
-    names-next n j b q = names-name ∙ ap (λ (s : Seen). andThen s (namesAt (k - 1))) q ∙ sym (ap (namesFrom (k - 1) n) (place-in l j b))
+      pub number-other : (getD l at 0 < 48) ⊎ (57 < getD l at 0) → slot-at slot (place l at) ≡ unseen
+      unfolding numeral-at
+      number-other (inl a) =
+          number-here ∙ simp (ne-eqb (getD l at 0) 48 (λ p. omega arith), digit-below (getD l at 0) a)
+      number-other (inr a) =
+          number-here ∙ simp (ne-eqb (getD l at 0) 48 (λ p. omega arith), digit-above (getD l at 0) a)

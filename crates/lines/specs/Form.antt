@@ -2,24 +2,54 @@
 use Prim.Native.Nat.{ℕ, zero, suc}
 use Prim.Native.Char.{code}
 use Prim.Native.String.{String, [] as []ˢ, _∷_ as _∷ˢ_}
-use mathlib.Core.Bool.{Bool, true, cond, not, _&&_, _||_}
+use mathlib.Core.Bool.{Bool, true, false, cond, not, _&&_, _||_}
 use mathlib.Core.List.{List, [], _∷_, _++_}
 use lib.Dec.{leb, eqb}
 use lib.ListN.{getD, drop}
 use Rattle.sets.specs.Set.{member}
+use Rattle.lines.specs.Limits.{max-input, max-output, max-campaign, set-bits, max-question, max-u64}
 use Rattle.lines.specs.Numeral.{numeral}
 use Rattle.lines.specs.declared.Record.{Record}
-use Rattle.lines.specs.declared.Record.the-variants.{Plan, Campaign, Start, View, Close, Done, Play, Nobody, Refused, Closed, Tally}
+use Rattle.lines.specs.declared.Record.the-variants.{Plan, Campaign, Start, View, Close, Done, Play, Nobody}
+use Rattle.lines.specs.declared.Record.the-variants.{Refused, Closed, Tally}
+
+-- A slot of a form is an upper-case letter.
+
+-- I: a number of an input line
+abbrev pub input-slot : ℕ
+input-slot = 73
+
+-- N: a number of an output line
+abbrev pub output-slot : ℕ
+output-slot = 78
+
+-- C: a campaign number
+abbrev pub campaign-slot : ℕ
+campaign-slot = 67
+
+-- R: a refusal number
+abbrev pub refusal-slot : ℕ
+refusal-slot = 82
+
+-- M: takings, claim or full
+abbrev pub money-slot : ℕ
+money-slot = 77
+
+-- S: the names of a view
+abbrev pub names-slot : ℕ
+names-slot = 83
+
+abbrev pub is-slot : ℕ → Bool
+is-slot b = leb 65 b && leb b 90
 
 abbrev pub bytes : String → List ℕ
 bytes []ˢ = []
 bytes (c ∷ˢ s) = code c ∷ bytes s
 
--- A form's template: its line as it reads, with an upper-case letter for each slot.
---   N a number, C a campaign number, R a refusal number, M takings, claim or full, S the names of a view
+-- a form's template: its line as it reads, with the letter of each slot in its place
 unfoldable pub template : Record → List ℕ
-template (Plan _ _) = bytes "(plan (depth N) (width N))"
-template (Campaign _ _) = bytes "(campaign (price N) (budget N))"
+template (Plan _ _) = bytes "(plan (depth I) (width I))"
+template (Campaign _ _) = bytes "(campaign (price I) (budget I))"
 template Start = bytes "(start)"
 template (View _) = bytes "(viewS)"
 template Close = bytes "(close)"
@@ -44,48 +74,63 @@ numbers (Refused number) = number ∷ []
 numbers (Closed takings claim full) = takings ∷ claim ∷ full ∷ []
 numbers (Tally campaign plays turns age named) = campaign ∷ plays ∷ turns ∷ age ∷ named ∷ []
 
--- an upper-case letter
-abbrev pub isSlot : ℕ → Bool
-isSlot b = leb 65 b && leb b 90
+-- whether a record is one of the six kinds of output line; the others are the five kinds of input line
+abbrev pub is-output : Record → Bool
+is-output (Plan _ _) = false
+is-output (Campaign _ _) = false
+is-output Start = false
+is-output (View _) = false
+is-output Close = false
+is-output Done = true
+is-output (Play _ _) = true
+is-output Nobody = true
+is-output (Refused _) = true
+is-output (Closed _ _ _) = true
+is-output (Tally _ _ _ _ _) = true
 
--- the greatest number in each slot: N 4294967295, C 63, R 18, M and S of 64 bits
-abbrev pub slotMax : ℕ → ℕ
-slotMax slot = cond (eqb slot 78) 4294967295 (cond (eqb slot 67) 63 (cond (eqb slot 82) 18 18446744073709551615))
+-- the greatest number in each slot; M and S have all of 64 bits
+abbrev pub slot-max : ℕ → ℕ
+slot-max slot =
+    cond (eqb slot input-slot) max-input
+    (cond (eqb slot output-slot) max-output
+    (cond (eqb slot campaign-slot) max-campaign
+    (cond (eqb slot refusal-slot) max-question
+    max-u64)))
 
 -- the range of each slot: up to its greatest number, and R from 1
-unfoldable pub inSlot : ℕ → ℕ → Bool
-inSlot slot n = (not (eqb slot 82) || leb 1 n) && leb n (slotMax slot)
+unfoldable pub in-slot : ℕ → ℕ → Bool
+in-slot slot n = (not (eqb slot refusal-slot) || leb 1 n) && leb n (slot-max slot)
 
 -- the names of the set's members below n, rising, with a space before each
-unfoldable pub names : ℕ → ℕ → List ℕ
-names zero set = []
-names (suc i) set = names i set ++ cond (member set i) (32 ∷ numeral i) []
+unfoldable pub names-text : ℕ → ℕ → List ℕ
+names-text zero set = []
+names-text (suc i) set = names-text i set ++ cond (member set i) (32 ∷ numeral i) []
 
 -- the text of the number n in a slot
-unfoldable pub slotText : ℕ → ℕ → List ℕ
-slotText slot n = cond (eqb slot 83) (names 64 n) (numeral n)
+unfoldable pub slot-text : ℕ → ℕ → List ℕ
+slot-text slot n = cond (eqb slot names-slot) (names-text set-bits n) (numeral n)
 
 -- A template is filled from the left: a slot takes the next number, any other byte stands for itself.
 unfoldable pub piece : ℕ → List ℕ → List ℕ
-piece b ns = cond (isSlot b) (slotText b (getD ns 0 0)) (b ∷ [])
+piece b ns = cond (is-slot b) (slot-text b (getD ns 0 0)) (b ∷ [])
 
 -- the numbers that are left after b
-unfoldable pub after : ℕ → List ℕ → List ℕ
-after b ns = cond (isSlot b) (drop 1 ns) ns
+unfoldable pub numbers-after : ℕ → List ℕ → List ℕ
+numbers-after b ns = cond (is-slot b) (drop 1 ns) ns
 
 unfoldable pub filled : List ℕ → List ℕ → List ℕ
 filled [] ns = []
-filled (b ∷ t) ns = piece b ns ++ filled t (after b ns)
+filled (b ∷ t) ns = piece b ns ++ filled t (numbers-after b ns)
 
 -- each number is in the range of its slot
-unfoldable pub inSlots : List ℕ → List ℕ → Bool
-inSlots [] ns = true
-inSlots (b ∷ t) ns = cond (isSlot b) (inSlot b (getD ns 0 0)) true && inSlots t (after b ns)
+unfoldable pub in-slots : List ℕ → List ℕ → Bool
+in-slots [] ns = true
+in-slots (b ∷ t) ns = cond (is-slot b) (in-slot b (getD ns 0 0)) true && in-slots t (numbers-after b ns)
 
 -- the text of a record: its line without the byte 10
 unfoldable pub text : Record → List ℕ
 text r = filled (template r) (numbers r)
 
 -- every number of the record is in its range
-unfoldable pub inRange : Record → Bool
-inRange r = inSlots (template r) (numbers r)
+unfoldable pub in-range : Record → Bool
+in-range r = in-slots (template r) (numbers r)

@@ -1,5 +1,6 @@
+pub mod Limits
 pub mod Numeral
 pub mod Form
 pub mod Reading
-pub mod Place
 pub mod OneText
+pub mod Contracts

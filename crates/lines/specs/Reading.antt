@@ -1,12 +1,15 @@
--- What reading a line answers: the record whose text it is, 16 or 17. Each form is tried in turn; OneText says that this is the inverse of `text`.
+-- What reading a line answers: the record whose text it is, 16 or 17. Each form is tried in turn; OneText says that
+-- this is the inverse of `text`.
 use Prim.Native.Nat.{ℕ, zero, suc, _+_, _*_, _-_, _^_}
 use mathlib.Core.Bool.{Bool, true, false, cond, _&&_}
 use mathlib.Core.List.{List, [], _∷_}
 use lib.Dec.{ltb, leb, eqb}
 use lib.ListN.{length, getD}
-use Rattle.lines.specs.Form.{template, isSlot, inSlot}
+use Rattle.lines.specs.Limits.{max-line, set-bits}
+use Rattle.lines.specs.Form.{campaign-slot, names-slot, is-slot, template, in-slot}
 use Rattle.lines.specs.declared.Record.{Record}
-use Rattle.lines.specs.declared.Record.the-variants.{Plan, Campaign, Start, View, Close, Done, Play, Nobody, Refused, Closed, Tally}
+use Rattle.lines.specs.declared.Record.the-variants.{Plan, Campaign, Start, View, Close, Done, Play, Nobody}
+use Rattle.lines.specs.declared.Record.the-variants.{Refused, Closed, Tally}
 use Rattle.lines.specs.declared.Reading.{Reading}
 use Rattle.lines.specs.declared.Reading.the-variants.{Got, Refusal}
 
@@ -29,43 +32,44 @@ behind unseen = none
 behind (seen n l) = some l
 
 -- document 01's digit: a byte from 48 to 57
-unfoldable pub isDigit : ℕ → Bool
-isDigit b = leb 48 b && leb b 57
+unfoldable pub is-digit : ℕ → Bool
+is-digit b = leb 48 b && leb b 57
 
 -- the digits that follow a numeral of value a
 unfoldable pub digits : ℕ → List ℕ → Seen
 digits a [] = seen a []
-digits a (b ∷ l) = cond (isDigit b) (digits (a * 10 + (b - 48)) l) (seen a (b ∷ l))
+digits a (b ∷ l) = cond (is-digit b) (digits (a * 10 + (b - 48)) l) (seen a (b ∷ l))
 
 -- a numeral: 0, or digits of which the first is no 0
-unfoldable pub numeralAt : List ℕ → Seen
-numeralAt [] = unseen
-numeralAt (b ∷ l) = cond (eqb b 48) (seen 0 l) (cond (isDigit b) (digits (b - 48) l) unseen)
+unfoldable pub numeral-at : List ℕ → Seen
+numeral-at [] = unseen
+numeral-at (b ∷ l) = cond (eqb b 48) (seen 0 l) (cond (is-digit b) (digits (b - 48) l) unseen)
 
 -- what was seen, where its number is in the slot's range
 abbrev pub ranged : ℕ → Seen → Seen
 ranged slot unseen = unseen
-ranged slot (seen n l) = cond (inSlot slot n) (seen n l) unseen
+ranged slot (seen n l) = cond (in-slot slot n) (seen n l) unseen
 
 -- the set with a name that is above all of its members
-abbrev pub joined : ℕ → Seen → Seen
-joined set unseen = unseen
-joined set (seen n l) = cond (ltb set (2 ^ n)) (seen (set + 2 ^ n) l) unseen
+abbrev pub with-name : ℕ → Seen → Seen
+with-name set unseen = unseen
+with-name set (seen n l) = cond (ltb set (2 ^ n)) (seen (set + 2 ^ n) l) unseen
 
-abbrev pub andThen : Seen → (ℕ → List ℕ → Seen) → Seen
-andThen unseen f = unseen
-andThen (seen n l) f = f n l
+abbrev pub and-then : Seen → (ℕ → List ℕ → Seen) → Seen
+and-then unseen f = unseen
+and-then (seen n l) f = f n l
 
 -- fewer than k names, each with a space before it, that join a set
-unfoldable pub namesAt : ℕ → ℕ → List ℕ → Seen
-namesAt zero set l = unseen
-namesAt (suc k) set [] = seen set []
-namesAt (suc k) set (b ∷ l) = cond (eqb b 32) (andThen (joined set (ranged 67 (numeralAt l))) (namesAt k)) (seen set (b ∷ l))
+unfoldable pub names-at : ℕ → ℕ → List ℕ → Seen
+names-at zero set l = unseen
+names-at (suc k) set [] = seen set []
+names-at (suc k) set (b ∷ l) =
+    cond (eqb b 32) (and-then (with-name set (ranged campaign-slot (numeral-at l))) (names-at k)) (seen set (b ∷ l))
 
 -- what stands in a slot
-unfoldable pub slotAt : ℕ → Rest → Seen
-slotAt slot none = unseen
-slotAt slot (some l) = cond (eqb slot 83) (namesAt 65 0 l) (ranged slot (numeralAt l))
+unfoldable pub slot-at : ℕ → Rest → Seen
+slot-at slot none = unseen
+slot-at slot (some l) = cond (eqb slot names-slot) (names-at (suc set-bits) 0 l) (ranged slot (numeral-at l))
 
 -- the line without the byte b at its front
 unfoldable pub strip : ℕ → Rest → Rest
@@ -75,19 +79,19 @@ strip b (some (c ∷ l)) = cond (eqb c b) (some l) none
 
 -- what is left behind a template's byte, and behind a template
 unfoldable pub step : ℕ → Rest → Rest
-step b r = cond (isSlot b) (behind (slotAt b r)) (strip b r)
+step b r = cond (is-slot b) (behind (slot-at b r)) (strip b r)
 
-unfoldable pub restOf : List ℕ → Rest → Rest
-restOf [] r = r
-restOf (b ∷ t) r = restOf t (step b r)
+unfoldable pub rest-of : List ℕ → Rest → Rest
+rest-of [] r = r
+rest-of (b ∷ t) r = rest-of t (step b r)
 
 -- the numbers in a template's slots
-abbrev pub slotThen : Bool → ℕ → List ℕ → List ℕ
-slotThen t n ns = cond t (n ∷ ns) ns
+abbrev pub slot-then : Bool → ℕ → List ℕ → List ℕ
+slot-then t n ns = cond t (n ∷ ns) ns
 
-unfoldable pub numbersOf : List ℕ → Rest → List ℕ
-numbersOf [] r = []
-numbersOf (b ∷ t) r = slotThen (isSlot b) (value (slotAt b r)) (numbersOf t (step b r))
+unfoldable pub numbers-of : List ℕ → Rest → List ℕ
+numbers-of [] r = []
+numbers-of (b ∷ t) r = slot-then (is-slot b) (value (slot-at b r)) (numbers-of t (step b r))
 
 -- the record of r's form with these numbers
 unfoldable pub made : Record → List ℕ → Record
@@ -103,18 +107,18 @@ made (Refused _) ns = Refused (getD ns 0 0)
 made (Closed _ _ _) ns = Closed (getD ns 0 0) (getD ns 1 0) (getD ns 2 0)
 made (Tally _ _ _ _ _) ns = Tally (getD ns 0 0) (getD ns 1 0) (getD ns 2 0) (getD ns 3 0) (getD ns 4 0)
 
-abbrev pub isEnd : Rest → Bool
-isEnd none = false
-isEnd (some []) = true
-isEnd (some (b ∷ l)) = false
+abbrev pub is-end : Rest → Bool
+is-end none = false
+is-end (some []) = true
+is-end (some (b ∷ l)) = false
 
 -- r where nothing is left, and else what other says
-unfoldable pub endedOr : Reading → Rest → Record → Reading
-endedOr other rest r = cond (isEnd rest) (Got r) other
+unfoldable pub ended-or : Reading → Rest → Record → Reading
+ended-or other rest r = cond (is-end rest) (Got r) other
 
 -- the line held to the template of the form f
-unfoldable pub heldOr : Reading → Record → List ℕ → Reading
-heldOr other f l = endedOr other (restOf (template f) (some l)) (made f (numbersOf (template f) (some l)))
+unfoldable pub held-or : Reading → Record → List ℕ → Reading
+held-or other f l = ended-or other (rest-of (template f) (some l)) (made f (numbers-of (template f) (some l)))
 
 -- the five kinds of input line and the six kinds of output line
 unfoldable pub forms : List Record
@@ -122,9 +126,9 @@ forms =
     Plan 0 0 ∷ Campaign 0 0 ∷ Start ∷ View 0 ∷ Close
     ∷ Done ∷ Play 0 0 ∷ Nobody ∷ Refused 0 ∷ Closed 0 0 0 ∷ Tally 0 0 0 0 0 ∷ []
 
-unfoldable pub firstOf : List Record → List ℕ → Reading
-firstOf [] l = Refusal 17
-firstOf (f ∷ fs) l = heldOr (firstOf fs l) f l
+unfoldable pub first-of : List Record → List ℕ → Reading
+first-of [] l = Refusal 17
+first-of (f ∷ fs) l = held-or (first-of fs l) f l
 
 unfoldable pub reading : List ℕ → Reading
-reading l = cond (ltb 200 (length l)) (Refusal 16) (firstOf forms l)
+reading l = cond (ltb max-line (length l)) (Refusal 16) (first-of forms l)

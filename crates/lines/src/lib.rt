@@ -1,12 +1,16 @@
 // Bracket lines: the records, and the reader of one line.
+pub mod scan;
+pub mod slots;
+
+use crate::scan::byte;
+use crate::scan::ended;
+use crate::scan::field;
+use crate::slots::MAX_LINE;
 ghost use mathlib.Core.Path.{_≡_};
-ghost use mathlib.Core.Bool.{true};
-ghost use Prim.Native.Nat.{_+_, _*_, _<_, _≤_};
-ghost use lib.Dec.{leb};
-ghost use lib.ListN.{length, drop, getD};
-ghost use Rattle.lines.specs.Form.{slotMax, inSlot};
-ghost use Rattle.lines.specs.Reading.{isDigit, digits, ranged, slotAt, endedOr, heldOr, reading};
-ghost use Rattle.lines.specs.Place.{place, stripped, Sees};
+ghost use Prim.Native.Nat.{_≤_};
+ghost use lib.ListN.{length};
+ghost use Rattle.lines.specs.Limits.{max-line};
+ghost use Rattle.lines.specs.Reading.{held-or, reading};
 
 // One line: an input line (the first five) or an output line. A view is a 64-bit set, bit i standing for campaign i.
 pub enum Record {
@@ -48,208 +52,13 @@ pub enum Reading {
     Refusal(u64),
 }
 
-// The number that was read in a slot, and the place behind it.
-pub struct Slot {
-    pub number: u64,
-    pub end: usize,
-}
-
-// The greatest length of a line.
-const LONGEST: usize = 200;
-
-// A place behind every line: what was looked for is not there. It stays missing to the end of the line, and no step needs a test of its own.
-const MISSING: usize = 201;
-
-fn missing() -> Slot
-    ensures { λ r. ⌜ (r .number ≡ 0) × (r .end ≡ 201) ⌝ }
-{
-    Slot {
-        number: 0,
-        end: MISSING,
-    }
-}
-
-// The place behind the word, where the word stands at the place at.
-fn behind(s: &[u8], at: usize, word: &[u8]) -> usize
-    requires { ⌜ length (now s) ≤ 200 ⌝ }
-    ensures { λ r. ⌜ place (now (s .entry)) r ≡ stripped (now (word .entry)) (place (now (s .entry)) at) ⌝ }
-{
-    if at > s.len() {
-        return MISSING;
-    }
-    if s.len() - at < word.len() {
-        return MISSING;
-    }
-    let mut i = 0;
-    while i < word.len() {
-        if s[at + i] != word[i] {
-            return MISSING;
-        }
-        i += 1;
-    }
-    at + i
-}
-
-fn is_digit(b: u8) -> bool
-    ensures { λ r. ⌜ r ≡ isDigit b ⌝ }
-{
-    match b {
-        48..=57 => true,
-        _ => false,
-    }
-}
-
-fn wide(b: u8) -> u64
-    ensures { λ r. ⌜ r ≡ b ⌝ }
-{
-    b as u64
-}
-
-// The greatest number in a slot: N, C, R, and M for all of 64 bits.
-fn slot_max(slot: u8) -> u64
-    ensures { λ r. ⌜ r ≡ slotMax slot ⌝ }
-{
-    match slot {
-        b'N' => 4294967295,
-        b'C' => 63,
-        b'R' => 18,
-        _ => 18446744073709551615,
-    }
-}
-
-// Whether the number is in the range of the slot. A refusal number is not 0.
-pub fn in_slot(slot: u8, number: u64) -> bool
-    ensures { λ r. ⌜ r ≡ inSlot slot number ⌝ }
-{
-    ((slot != b'R') | (1 <= number)) & (number <= slot_max(slot))
-}
-
-// Whether n * 10 + digit is at most max. All but the widest slots need one test.
-fn has_room(n: u64, digit: u64, max: u64) -> bool
-    requires { ⌜ (n ≤ max) × (digit < 10) ⌝ }
-    ensures { λ r. ⌜ r ≡ leb (n * 10 + digit) max ⌝ }
-{
-    if max <= 4294967295 {
-        return n * 10 + digit <= max;
-    }
-    if n < max / 10 {
-        return true;
-    }
-    (n == max / 10) & (digit <= max % 10)
-}
-
-// The numeral whose first digits, of the value first, end at the place at. A number that leaves the range ends the loop by a jump: the place behind the numeral waits for no number.
-fn more_digits(s: &[u8], at: usize, first: u64, slot: u8) -> Slot
-    requires { ⌜ (length (now s) ≤ 200) × (at ≤ length (now s)) × (1 ≤ first) × (first ≤ slotMax slot) ⌝ }
-    ensures { λ r. ⌜ Sees (now (s .entry)) r (ranged slot (digits first (drop at (now (s .entry))))) ⌝ }
-{
-    let mut number = first;
-    let mut i = at;
-    while i < s.len() {
-        let b = s[i];
-        if !is_digit(b) {
-            return Slot { number, end: i };
-        }
-        let digit = wide(b - 48);
-        if !has_room(number, digit, slot_max(slot)) {
-            return missing();
-        }
-        number = number * 10 + digit;
-        i += 1;
-    }
-    Slot { number, end: i }
-}
-
-// The numeral at the place at, where it is in the range of the slot.
-fn number(s: &[u8], at: usize, slot: u8) -> Slot
-    requires { ⌜ (length (now s) ≤ 200) × (slot < 83) ⌝ }
-    ensures { λ r. ⌜ Sees (now (s .entry)) r (slotAt slot (place (now (s .entry)) at)) ⌝ }
-{
-    if at >= s.len() {
-        return missing();
-    }
-    let b = s[at];
-    match b {
-        48 => {
-            if slot == b'R' {
-                return missing();
-            }
-            Slot {
-                number: 0,
-                end: at + 1,
-            }
-        }
-        49..=57 => more_digits(s, at + 1, wide(b - 48), slot),
-        _ => missing(),
-    }
-}
-
-// The byte at the place i, or 0 behind the line.
-fn byte(s: &[u8], i: usize) -> u8
-    ensures { λ r. ⌜ r ≡ getD (now (s .entry)) i 0 ⌝ }
-{
-    if i < s.len() { s[i] } else { 0 }
-}
-
-// The names of a view, rising strictly, with a space before each.
-fn names(s: &[u8], at: usize) -> Slot
-    requires { ⌜ length (now s) ≤ 200 ⌝ }
-    ensures { λ r. ⌜ Sees (now (s .entry)) r (slotAt 83 (place (now (s .entry)) at)) ⌝ }
-{
-    let mut set: u64 = 0;
-    let mut i = at;
-    let mut left: u64 = 65;
-    while left > 0 {
-        if byte(s, i) != b' ' {
-            return Slot {
-                number: set,
-                end: i,
-            };
-        }
-        let name = number(s, i + 1, b'C');
-        if name.end > s.len() {
-            return missing();
-        }
-        let bit = 1 << name.number;
-        if bit <= set {
-            return missing();
-        }
-        set += bit;
-        i = name.end;
-        left -= 1;
-    }
-    missing()
-}
-
-// The word at the place at, and the slot behind it.
-fn field(s: &[u8], at: usize, word: &[u8], slot: u8) -> Slot
-    requires { ⌜ (length (now s) ≤ 200) × (slot ≤ 83) ⌝ }
-    ensures { λ r. ⌜ Sees (now (s .entry)) r (slotAt slot (stripped (now (word .entry)) (place (now (s .entry)) at))) ⌝ }
-{
-    let at = behind(s, at, word);
-    if slot == b'S' {
-        return names(s, at);
-    }
-    number(s, at, slot)
-}
-
-// The record r, where the line ends with the word at the place at.
-fn ended(s: &[u8], at: usize, word: &[u8], r: Record) -> Reading
-    requires { ⌜ length (now s) ≤ 200 ⌝ }
-    ensures { λ a. ⌜ a ≡ endedOr (Reading.Refusal 17) (stripped (now (word .entry)) (place (now (s .entry)) at)) r ⌝ }
-{
-    if behind(s, at, word) == s.len() {
-        return Reading::Got(r);
-    }
-    Reading::Refusal(17)
-}
-
+// A line of the plan form, else 17; and so for each form with several slots.
 fn read_plan(s: &[u8]) -> Reading
-    requires { ⌜ length (now s) ≤ 200 ⌝ }
-    ensures { λ r. ⌜ r ≡ heldOr (Reading.Refusal 17) (Record.Plan 0 0) (now (s .entry)) ⌝ }
+    requires { ⌜ length (now s) ≤ max-line ⌝ }
+    ensures { λ r. ⌜ r ≡ held-or (Reading.Refusal 17) (Record.Plan 0 0) (now (s .entry)) ⌝ }
 {
-    let depth = field(s, 0, b"(plan (depth ", b'N');
-    let width = field(s, depth.end, b") (width ", b'N');
+    let depth = field(s, 0, b"(plan (depth ", b'I');
+    let width = field(s, depth.end, b") (width ", b'I');
     ended(
         s,
         width.end,
@@ -262,11 +71,11 @@ fn read_plan(s: &[u8]) -> Reading
 }
 
 fn read_campaign(s: &[u8]) -> Reading
-    requires { ⌜ length (now s) ≤ 200 ⌝ }
-    ensures { λ r. ⌜ r ≡ heldOr (Reading.Refusal 17) (Record.Campaign 0 0) (now (s .entry)) ⌝ }
+    requires { ⌜ length (now s) ≤ max-line ⌝ }
+    ensures { λ r. ⌜ r ≡ held-or (Reading.Refusal 17) (Record.Campaign 0 0) (now (s .entry)) ⌝ }
 {
-    let price = field(s, 0, b"(campaign (price ", b'N');
-    let budget = field(s, price.end, b") (budget ", b'N');
+    let price = field(s, 0, b"(campaign (price ", b'I');
+    let budget = field(s, price.end, b") (budget ", b'I');
     ended(
         s,
         budget.end,
@@ -279,8 +88,8 @@ fn read_campaign(s: &[u8]) -> Reading
 }
 
 fn read_play(s: &[u8]) -> Reading
-    requires { ⌜ length (now s) ≤ 200 ⌝ }
-    ensures { λ r. ⌜ r ≡ heldOr (Reading.Refusal 17) (Record.Play 0 0) (now (s .entry)) ⌝ }
+    requires { ⌜ length (now s) ≤ max-line ⌝ }
+    ensures { λ r. ⌜ r ≡ held-or (Reading.Refusal 17) (Record.Play 0 0) (now (s .entry)) ⌝ }
 {
     let campaign = field(s, 0, b"(play ", b'C');
     let paid = field(s, campaign.end, b" (paid ", b'N');
@@ -296,8 +105,8 @@ fn read_play(s: &[u8]) -> Reading
 }
 
 fn read_closed(s: &[u8]) -> Reading
-    requires { ⌜ length (now s) ≤ 200 ⌝ }
-    ensures { λ r. ⌜ r ≡ heldOr (Reading.Refusal 17) (Record.Closed 0 0 0) (now (s .entry)) ⌝ }
+    requires { ⌜ length (now s) ≤ max-line ⌝ }
+    ensures { λ r. ⌜ r ≡ held-or (Reading.Refusal 17) (Record.Closed 0 0 0) (now (s .entry)) ⌝ }
 {
     let takings = field(s, 0, b"(closed (takings ", b'M');
     let claim = field(s, takings.end, b") (claim ", b'M');
@@ -315,8 +124,8 @@ fn read_closed(s: &[u8]) -> Reading
 }
 
 fn read_tally(s: &[u8]) -> Reading
-    requires { ⌜ length (now s) ≤ 200 ⌝ }
-    ensures { λ r. ⌜ r ≡ heldOr (Reading.Refusal 17) (Record.Tally 0 0 0 0 0) (now (s .entry)) ⌝ }
+    requires { ⌜ length (now s) ≤ max-line ⌝ }
+    ensures { λ r. ⌜ r ≡ held-or (Reading.Refusal 17) (Record.Tally 0 0 0 0 0) (now (s .entry)) ⌝ }
 {
     let campaign = field(s, 0, b"(tally ", b'C');
     let plays = field(s, campaign.end, b" (plays ", b'N');
@@ -341,7 +150,7 @@ fn read_tally(s: &[u8]) -> Reading
 pub fn read_line(s: &[u8]) -> Reading
     ensures { λ r. ⌜ r ≡ reading (now (s .entry)) ⌝ }
 {
-    if s.len() > LONGEST {
+    if s.len() > MAX_LINE {
         return Reading::Refusal(16);
     }
     match byte(s, 1) {

@@ -1,4 +1,5 @@
--- How long numerals and names are.
+-- How long numerals and names are: a numeral by its tenth, names by the count of the set's members, three bytes for
+-- each and two for each below 10.
 use mathlib.Core.Path.{_≡_, refl, sym, ap, _∙_}
 use mathlib.Core.Bool.{Bool, true, false, cond}
 use mathlib.Core.List.{List, [], _∷_, _++_}
@@ -12,8 +13,9 @@ use Rattle.finite.specs.Finite.{one-if, count}
 use Rattle.finite.proofs.Sums.{sum-zero, sum-eq, count-suc, count-skip}
 use Rattle.sets.specs.Set.{member, size, next}
 use Rattle.sets.proofs.Walk.{next-is}
+use Rattle.lines.specs.Limits.{set-bits}
 use Rattle.lines.specs.Numeral.{numeral}
-use Rattle.lines.specs.Form.{names, slotText}
+use Rattle.lines.specs.Form.{names-slot, names-text, slot-text}
 use Rattle.lines.proofs.Numerals.{numeral-one, numeral-more}
 use Rattle.lines.proofs.NameSets.{above, names-skip}
 
@@ -48,18 +50,22 @@ len-skip n h b =
 pub name-two : (n : ℕ) → 10 ≤ n → n < 100 → numeral n ≡ (48 + n / 10 % 10) ∷ (48 + n % 10) ∷ []
 name-two n h b =
     let e : n / 10 ≡ n / 10 % 10 = omega arith in
-    numeral-more n h (omega arith) ∙ ap (λ (x : List ℕ). x ++ ((48 + n % 10) ∷ [])) (numeral-one (n / 10) (omega arith) ∙ ap (λ (x : ℕ). (48 + x) ∷ []) e)
+    numeral-more n h (omega arith)
+    ∙ ap (λ (x : List ℕ). x ++ ((48 + n % 10) ∷ []))
+    (numeral-one (n / 10) (omega arith) ∙ ap (λ (x : ℕ). (48 + x) ∷ []) e)
 
 pub name-one : (n : ℕ) → n < 10 → numeral n ≡ (48 + n % 10) ∷ []
 name-one n h = let e : n ≡ n % 10 = omega arith in numeral-one n h ∙ ap (λ (x : ℕ). (48 + x) ∷ []) e
 
 -- The names of a set: two bytes for each below 10, three for each other.
 
-name-long : (n v : ℕ) (k : ℕ) → suc k ≡ length (32 ∷ numeral n) → length (names (suc n) v) ≡ length (names n v) + suc k * one-if (member v n)
-unfolding names
-name-long n v k e = length-append (names n v) (cond (member v n) (32 ∷ numeral n) []) ∙ go (member v n)
+name-long : (n v : ℕ) (k : ℕ) → suc k ≡ length (32 ∷ numeral n)
+    → length (names-text (suc n) v) ≡ length (names-text n v) + suc k * one-if (member v n)
+unfolding names-text
+name-long n v k e = length-append (names-text n v) (cond (member v n) (32 ∷ numeral n) []) ∙ go (member v n)
   where
-    go : (t : Bool) → length (names n v) + length (cond t (32 ∷ numeral n) []) ≡ length (names n v) + suc k * one-if t
+    go : (t : Bool) → length (names-text n v) + length (cond t (32 ∷ numeral n) [])
+        ≡ length (names-text n v) + suc k * one-if t
     go true = omega (arith, e)
     go false = omega arith
 
@@ -67,13 +73,19 @@ count-zero : (p : ℕ → Bool) → count 0 p ≡ 0
 unfolding count
 count-zero p = sum-zero (λ i. one-if (p i))
 
-names-short : (n v : ℕ) → n ≤ 10 → length (names n v) ≡ 2 * count n (member v)
-unfolding names
+names-short : (n v : ℕ) → n ≤ 10 → length (names-text n v) ≡ 2 * count n (member v)
+unfolding names-text
 names-short zero v h = omega (arith, count-zero (member v))
 names-short (suc n) v h =
-    omega (arith, name-long n v 1 (sym (ap (λ (x : ℕ). suc x) (len-one n (omega arith)))), names-short n v (omega arith), count-suc n (member v))
+    omega (
+      arith,
+      name-long n v 1 (sym (ap (λ (x : ℕ). suc x) (len-one n (omega arith)))),
+      names-short n v (omega arith),
+      count-suc n (member v),
+    )
 
-names-long : (k v : ℕ) → k + 10 ≤ 100 → length (names (k + 10) v) + count 10 (member v) ≡ 3 * count (k + 10) (member v)
+names-long : (k v : ℕ) → k + 10 ≤ 100
+    → length (names-text (k + 10) v) + count 10 (member v) ≡ 3 * count (k + 10) (member v)
 names-long zero v h = let e : 0 + 10 ≡ 10 = refl in omega (arith, names-short 10 v (omega arith))
 names-long (suc k) v h =
     let e : suc k + 10 ≡ suc (k + 10) = omega arith in
@@ -82,7 +94,7 @@ names-long (suc k) v h =
       name-long (k + 10) v 2 (sym (ap (λ (x : ℕ). suc x) (len-two (k + 10) (omega arith) (omega arith)))),
       names-long k v (omega arith),
       count-suc (k + 10) (member v),
-      ap (λ (x : ℕ). length (names x v)) e,
+      ap (λ (x : ℕ). length (names-text x v)) e,
       ap (λ (x : ℕ). count x (member v)) e,
     )
 
@@ -101,7 +113,7 @@ low-size v =
     count-skip 54 10 (member (v % 1024)) (λ i p q. above (v % 1024) 10 (omega arith) i p)
     ∙ sum-eq 10 (λ i. one-if (member (v % 1024) i)) (λ i. one-if (member v i)) (λ i h. ap one-if (low-member v i h))
 
-pub names-size : (v : ℕ) → length (names 64 v) + size (v % 1024) ≡ 3 * size v
+pub names-size : (v : ℕ) → length (names-text set-bits v) + size (v % 1024) ≡ 3 * size v
 unfolding size
 names-size v = omega (arith, names-long 54 v (omega arith), low-size v)
 
@@ -113,31 +125,36 @@ count-most (suc n) p = go (p n) refl (count-most n p)
     go true e ih = omega (arith, count-suc n p, ap one-if e)
     go false e ih = omega (arith, count-suc n p, ap one-if e)
 
-pub size-most : (v : ℕ) → size v ≤ 64
+pub size-most : (v : ℕ) → size v ≤ set-bits
 unfolding size
-size-most v = count-most 64 (member v)
+size-most v = count-most set-bits (member v)
 
 -- Up to the next member no name is added.
 
-pub names-next : (set a : ℕ) → a ≤ 64 → names (next set a) set ≡ names a set
+pub names-next : (set a : ℕ) → a ≤ set-bits → names-text (next set a) set ≡ names-text a set
 names-next set a h =
     let n = next-is set a h in
     let e : next set a - a + a ≡ next set a = omega (arith, n .low) in
-    ap (λ (x : ℕ). names x set) (sym e) ∙ names-skip (next set a - a) a set (λ j p q. n .gap j p (omega arith))
+    ap (λ (x : ℕ). names-text x set) (sym e) ∙ names-skip (next set a - a) a set (λ j p q. n .gap j p (omega arith))
 
-pub names-less : (k n v : ℕ) → length (names n v) ≤ length (names (k + n) v)
-unfolding names
-names-less zero n v = let e : 0 + n ≡ n = omega arith in omega (arith, ap (λ (x : ℕ). length (names x v)) e)
+pub names-less : (k n v : ℕ) → length (names-text n v) ≤ length (names-text (k + n) v)
+unfolding names-text
+names-less zero n v = let e : 0 + n ≡ n = omega arith in omega (arith, ap (λ (x : ℕ). length (names-text x v)) e)
 names-less (suc k) n v =
     let e : suc k + n ≡ suc (k + n) = omega arith in
-    omega (arith, names-less k n v, ap (λ (x : ℕ). length (names x v)) e, length-append (names (k + n) v) (cond (member v (k + n)) (32 ∷ numeral (k + n)) []))
+    omega (
+      arith,
+      names-less k n v,
+      ap (λ (x : ℕ). length (names-text x v)) e,
+      length-append (names-text (k + n) v) (cond (member v (k + n)) (32 ∷ numeral (k + n)) []),
+    )
 
 -- A slot.
 
-pub text-names : (slot n : ℕ) → slot ≡ 83 → slotText slot n ≡ names 64 n
-unfolding slotText
-text-names slot n e = simp (eq-eqb slot 83 e)
+pub text-names : (slot n : ℕ) → slot ≡ names-slot → slot-text slot n ≡ names-text set-bits n
+unfolding slot-text
+text-names slot n e = simp (eq-eqb slot names-slot e)
 
-pub text-number : (slot n : ℕ) → (slot ≡ 83 → ⊥) → slotText slot n ≡ numeral n
-unfolding slotText
-text-number slot n e = simp (ne-eqb slot 83 e)
+pub text-number : (slot n : ℕ) → (slot ≡ names-slot → ⊥) → slot-text slot n ≡ numeral n
+unfolding slot-text
+text-number slot n e = simp (ne-eqb slot names-slot e)

@@ -1,12 +1,16 @@
 // Words, numerals and names: how long they are, and putting them into a lent buffer.
 ghost use mathlib.Core.Path.{_≡_};
-ghost use mathlib.Core.Bool.{true, _&&_};
+ghost use mathlib.Core.Bool.{true};
 ghost use mathlib.Core.List.{_∷_, _++_};
 ghost use Prim.Native.Nat.{_+_, _<_, _≤_};
 ghost use lib.ListN.{length};
+ghost use Rattle.buffer.specs.Buffer.{Put, Room};
+ghost use Rattle.lines.specs.Limits.{set-bits, max-names};
 ghost use Rattle.lines.specs.Numeral.{numeral};
-ghost use Rattle.lines.specs.Form.{inSlot, names, slotText};
-ghost use Rattle.print.specs.Buffer.{Put};
+ghost use Rattle.lines.specs.Form.{names-text, slot-text};
+ghost use Rattle.print.specs.Contracts.{max-counted, Counted};
+use lines::slots::SET_BITS;
+use lines::slots::in_slot;
 
 // Whether numbers are in the ranges of their slots, and the length of a line: as far as its slots are counted.
 pub struct Size {
@@ -35,15 +39,16 @@ fn places(n: u64) -> usize
 
 // How many bytes the names of a set take: 3 for each, and 2 for a name below 10.
 fn names_len(set: u64) -> usize
-    ensures { λ r. ⌜ (r ≡ length (names 64 set)) × (r ≤ 192) ⌝ }
+    ensures { λ r. ⌜ (r ≡ length (names-text set-bits set)) × (r ≤ max-names) ⌝ }
 {
     let all = sets::count(set);
     let short = sets::count(set % 1024);
     (3 * all - short) as usize
 }
 
+// How many bytes the number n takes in its slot.
 fn slot_len(slot: u8, n: u64) -> usize
-    ensures { λ r. ⌜ (r ≡ length (slotText slot n)) × (r ≤ 192) ⌝ }
+    ensures { λ r. ⌜ (r ≡ length (slot-text slot n)) × (r ≤ max-names) ⌝ }
 {
     if slot == b'S' {
         return names_len(n);
@@ -59,23 +64,24 @@ impl Size {
         Size { ok: true, len }
     }
 
-    // One slot more, in front of those that are counted. `writer::size_of` counts at most five.
+    // One slot more, in front of those that are counted.
     pub fn slot(self, slot: u8, n: u64) -> Size
-        requires { ⌜ self .len ≤ 1000 ⌝ }
-        ensures { λ r. ⌜ (r .ok ≡ (inSlot slot n && self .ok)) × (r .len ≡ length (slotText slot n) + self .len) × (r .len ≤ self .len + 192) ⌝ }
+        requires { ⌜ self .len ≤ max-counted ⌝ }
+        ensures { λ r. ⌜ Counted self slot n r ⌝ }
     {
         Size {
-            ok: lines::in_slot(slot, n) & self.ok,
+            ok: in_slot(slot, n) & self.ok,
             len: slot_len(slot, n) + self.len,
         }
     }
 }
 
-// A line is put from its last byte to its first: so come the digits of a numeral, and they need not be counted again. Each function is given the place where its bytes end, and gives the place where they begin.
+// A line is put from its last byte to its first: so come the digits of a numeral, and they need not be counted again.
+// Each function is given the place where its bytes end, and gives the place where they begin; the room is the caller's.
 
-// The word that ends at the place to. The forms of `writer` have measured the line and know the room, and so below.
+// The word that ends at the place to.
 pub fn put(out: &mut [u8], to: usize, word: &[u8]) -> usize
-    requires { ⌜ (length (now word) ≤ to) × (to ≤ length (now out)) ⌝ }
+    requires { ⌜ Room (now out) to (length (now word)) ⌝ }
     ensures { λ r. ⌜ Put (now (out .entry)) (now (out .exit)) r to (now (word .entry)) ⌝ }
 {
     let at = to - word.len();
@@ -89,7 +95,7 @@ pub fn put(out: &mut [u8], to: usize, word: &[u8]) -> usize
 
 // The numeral of n that ends at the place to, two digits at a time.
 fn put_number(out: &mut [u8], to: usize, n: u64) -> usize
-    requires { ⌜ (length (numeral n) ≤ to) × (to ≤ length (now out)) ⌝ }
+    requires { ⌜ Room (now out) to (length (numeral n)) ⌝ }
     ensures { λ r. ⌜ Put (now (out .entry)) (now (out .exit)) r to (numeral n) ⌝ }
 {
     let mut i = to;
@@ -112,7 +118,7 @@ fn put_number(out: &mut [u8], to: usize, n: u64) -> usize
 
 // A name of one or two digits at the place at, with a space before it.
 fn put_name(out: &mut [u8], at: usize, name: u64) -> usize
-    requires { ⌜ (name < 64) × (at + length (32 ∷ numeral name) ≤ length (now out)) ⌝ }
+    requires { ⌜ (name < set-bits) × (at + length (32 ∷ numeral name) ≤ length (now out)) ⌝ }
     ensures { λ r. ⌜ Put (now (out .entry)) (now (out .exit)) at r (32 ∷ numeral name) ⌝ }
 {
     out[at] = b' ';
@@ -127,22 +133,22 @@ fn put_name(out: &mut [u8], at: usize, name: u64) -> usize
 
 // The names of a set at the place at: from its least member to the next.
 fn put_names(out: &mut [u8], at: usize, set: u64) -> usize
-    requires { ⌜ at + length (names 64 set) ≤ length (now out) ⌝ }
-    ensures { λ r. ⌜ Put (now (out .entry)) (now (out .exit)) at r (names 64 set) ⌝ }
+    requires { ⌜ at + length (names-text set-bits set) ≤ length (now out) ⌝ }
+    ensures { λ r. ⌜ Put (now (out .entry)) (now (out .exit)) at r (names-text set-bits set) ⌝ }
 {
     let mut to = at;
     let mut name = sets::next_from(set, 0);
-    while name < 64 {
+    while name < SET_BITS {
         to = put_name(out, to, name);
         name = sets::next_from(set, name + 1);
     }
     to
 }
 
-// The number n as its slot reads, ending at the place to; the forms of `writer` know the room.
+// The number n as its slot reads, ending at the place to.
 pub fn put_slot(out: &mut [u8], to: usize, slot: u8, n: u64) -> usize
-    requires { ⌜ (length (slotText slot n) ≤ to) × (to ≤ length (now out)) ⌝ }
-    ensures { λ r. ⌜ Put (now (out .entry)) (now (out .exit)) r to (slotText slot n) ⌝ }
+    requires { ⌜ Room (now out) to (length (slot-text slot n)) ⌝ }
+    ensures { λ r. ⌜ Put (now (out .entry)) (now (out .exit)) r to (slot-text slot n) ⌝ }
 {
     if slot == b'S' {
         let at = to - names_len(n);
@@ -152,10 +158,10 @@ pub fn put_slot(out: &mut [u8], to: usize, slot: u8, n: u64) -> usize
     put_number(out, to, n)
 }
 
-// A word and the slot behind it; the forms of `writer` know the room.
+// A word and the slot behind it, ending at the place to.
 pub fn put_field(out: &mut [u8], to: usize, word: &[u8], slot: u8, n: u64) -> usize
-    requires { ⌜ (length (now word) + length (slotText slot n) ≤ to) × (to ≤ length (now out)) ⌝ }
-    ensures { λ r. ⌜ Put (now (out .entry)) (now (out .exit)) r to (now (word .entry) ++ slotText slot n) ⌝ }
+    requires { ⌜ Room (now out) to (length (now word) + length (slot-text slot n)) ⌝ }
+    ensures { λ r. ⌜ Put (now (out .entry)) (now (out .exit)) r to (now (word .entry) ++ slot-text slot n) ⌝ }
 {
     let to = put_slot(out, to, slot, n);
     put(out, to, word)

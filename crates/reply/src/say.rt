@@ -7,14 +7,14 @@ ghost use mathlib.Core.Path.{_≡_};
 ghost use mathlib.Core.Bool.{true};
 ghost use Prim.Native.Nat.{_+_, _≤_, _<_};
 ghost use lib.ListN.{length};
-ghost use Rattle.lines.specs.Form.{inRange};
+ghost use Rattle.lines.specs.Form.{in-range};
 ghost use Rattle.writer.specs.Writing.{line};
-ghost use Rattle.print.specs.Buffer.{Put};
+ghost use Rattle.buffer.specs.Buffer.{Put};
 ghost use Rattle.reply.specs.Reply.{tally, tallies, spoken, is-closing, sayable};
 
 // The record's line at the place at. The callers know its numbers to be in range, and the room.
 fn send(entry: Record, out: &mut [u8], at: usize) -> usize
-    requires { ⌜ (inRange entry ≡ true) × (at + 201 ≤ length (now out)) ⌝ }
+    requires { ⌜ (in-range entry ≡ true) × (at + 201 ≤ length (now out)) ⌝ }
     ensures { λ r. ⌜ Put (now (out .entry)) (now (out .exit)) at r (line entry) ⌝ }
 {
     match writer::write_line(entry, &mut out[at..]) {
@@ -83,7 +83,7 @@ pub fn closes(answer: Answer) -> bool
 
 fn tally(day: Day, campaign: u64) -> Record
     requires { ⌜ campaign < 64 ⌝ }
-    ensures { λ r. ⌜ (r ≡ tally day campaign) × (inRange r ≡ true) ⌝ }
+    ensures { λ r. ⌜ (r ≡ tally day campaign) × (in-range r ≡ true) ⌝ }
 {
     let at = campaign as usize;
     let c = campaigns::entry::entry(

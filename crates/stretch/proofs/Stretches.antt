@@ -6,7 +6,7 @@ use Prim.Native.Nat.{ℕ, _+_, _-_, _≤_, _<_}
 use native.Mathlib.Omega.{arith}
 use lib.ListN.{length, take, drop, length-drop}
 use Rattle.finite.proofs.Tests.{never}
-use Rattle.print.specs.Buffer.{Put}
+use Rattle.buffer.specs.Buffer.{Put}
 use Rattle.lines.specs.Reading.{reading}
 use Rattle.campaigns.specs.Choice.{Choice}
 use Rattle.campaigns.specs.Choice.Choice.{nobody, plays}

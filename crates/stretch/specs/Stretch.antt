@@ -5,7 +5,7 @@ use mathlib.Core.List.{List, _++_}
 use Prim.Native.Nat.{ℕ, suc, _+_, _-_, _≤_, _<_}
 use lib.ListN.{length, take, drop}
 use Rattle.lines.specs.Reading.{reading}
-use Rattle.print.specs.Buffer.{Put}
+use Rattle.buffer.specs.Buffer.{Put}
 use Rattle.campaigns.specs.declared.Phase.{Phase}
 use Rattle.views.specs.Inner.{Entries}
 use Rattle.day.specs.declared.Answer.{Answer}

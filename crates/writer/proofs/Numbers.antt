@@ -1,4 +1,4 @@
--- The number of an answer is that of the first question that fails, or 0.
+-- The number of an answer is that of the first question that fails, or 0: each answer is one arm of one test.
 use mathlib.Core.Path.{_≡_, refl, sym}
 use mathlib.Core.Bool.{Bool, true, false, cond}
 use mathlib.Core.List.{List, [], _∷_}
@@ -14,10 +14,12 @@ pub tells : (r : Record) (d : List ℕ) → Tells r d
 unfolding writing
 tells r d = record { number-is = numbered (eqb (question r d) 0) refl; values-are = valued (eqb (question r d) 0) }
   where
-    numbered : (t : Bool) → eqb (question r d) 0 ≡ t → number (cond t (Length (length (line r))) (Refusal (question r d))) ≡ question r d
+    numbered : (t : Bool) → eqb (question r d) 0 ≡ t
+        → number (cond t (Length (length (line r))) (Refusal (question r d))) ≡ question r d
     numbered true e = sym (eqb-true (question r d) 0 e)
     numbered false e = refl
 
-    valued : (t : Bool) → values (cond t (Length (length (line r))) (Refusal (question r d))) ≡ cond t (length (line r) ∷ []) (question r d ∷ [])
+    valued : (t : Bool) → values (cond t (Length (length (line r))) (Refusal (question r d)))
+        ≡ cond t (length (line r) ∷ []) (question r d ∷ [])
     valued true = refl
     valued false = refl

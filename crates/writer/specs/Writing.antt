@@ -5,7 +5,7 @@ use mathlib.Core.Bool.{cond}
 use mathlib.Core.List.{List, [], _∷_, _++_}
 use lib.Dec.{leb, eqb}
 use lib.ListN.{length, drop}
-use Rattle.lines.specs.Form.{text, inRange}
+use Rattle.lines.specs.Form.{text, in-range}
 use Rattle.lines.specs.declared.Record.{Record}
 use Rattle.writer.specs.declared.Writing.{Writing}
 use Rattle.writer.specs.declared.Writing.the-variants.{Length, Refusal}
@@ -16,7 +16,7 @@ line r = text r ++ (10 ∷ [])
 
 -- the first question that fails, or 0: is every number in its range, and is the buffer d as long as the line
 unfoldable pub question : Record → List ℕ → ℕ
-question r d = cond (inRange r) (cond (leb (length (line r)) (length d)) 0 18) 17
+question r d = cond (in-range r) (cond (leb (length (line r)) (length d)) 0 18) 17
 
 unfoldable pub writing : Record → List ℕ → Writing
 writing r d = cond (eqb (question r d) 0) (Length (length (line r))) (Refusal (question r d))

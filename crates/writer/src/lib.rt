@@ -1,12 +1,11 @@
 // Bracket lines: the writer of one record into a lent buffer.
 ghost use mathlib.Core.Path.{_≡_};
-ghost use mathlib.Core.List.{[], _∷_, _++_};
-ghost use Prim.Native.Nat.{_+_, _≤_};
+ghost use Prim.Native.Nat.{_+_};
 ghost use lib.ListN.{length};
-ghost use Rattle.lines.specs.Form.{slotText};
-ghost use Rattle.print.specs.Buffer.{Put};
-ghost use Rattle.writer.specs.Writing.{line, writing, written};
-ghost use Rattle.writer.specs.Inner.{Sized};
+ghost use Rattle.buffer.specs.Buffer.{Put, Room};
+ghost use Rattle.lines.specs.Form.{slot-text};
+ghost use Rattle.writer.specs.Writing.{writing, written};
+ghost use Rattle.writer.specs.Contracts.{line-length, Sized, Puts, one-slot};
 use lines::Record;
 use print::Size;
 use print::put;
@@ -18,13 +17,14 @@ pub enum Writing {
     Refusal(u64),
 }
 
-// The record's slots are counted from the last to the first.
+// Whether the record's numbers are in their ranges, and how long its line is: its form's own bytes with the byte 10,
+// and its slots, counted from the last to the first.
 fn size_of(r: Record) -> Size
     ensures { λ z. ⌜ Sized r z ⌝ }
 {
     match r {
-        Record::Plan { depth, width } => Size::fixed(25).slot(b'N', width).slot(b'N', depth),
-        Record::Campaign { price, budget } => Size::fixed(30).slot(b'N', budget).slot(b'N', price),
+        Record::Plan { depth, width } => Size::fixed(25).slot(b'I', width).slot(b'I', depth),
+        Record::Campaign { price, budget } => Size::fixed(30).slot(b'I', budget).slot(b'I', price),
         Record::Start => Size::fixed(8),
         Record::View(set) => Size::fixed(7).slot(b'S', set),
         Record::Close => Size::fixed(8),
@@ -55,38 +55,38 @@ fn size_of(r: Record) -> Size
     }
 }
 
-// Each form is put from its last byte to its first.
-
-// The line of a form with one slot, the last before the closing bracket.
+// The line of a form with one slot, the last before the closing bracket. Bytes are put from the last to the first: the
+// line ends at the place to.
 fn put_one(out: &mut [u8], to: usize, word: &[u8], slot: u8, n: u64) -> usize
-    requires { ⌜ (length (slotText slot n) + (length (now word) + 2) ≤ to) × (to ≤ length (now out)) ⌝ }
-    ensures { λ r. ⌜ Put (now (out .entry)) (now (out .exit)) r to ((now (word .entry) ++ slotText slot n) ++ (41 ∷ 10 ∷ [])) ⌝ }
+    requires { ⌜ Room (now out) to (length (slot-text slot n) + (length (now word) + 2)) ⌝ }
+    ensures { λ r. ⌜ Put (now (out .entry)) (now (out .exit)) r to (one-slot (now (word .entry)) slot n) ⌝ }
 {
     let to = put(out, to, b")\n");
     put_field(out, to, word, slot, n)
 }
 
+// The line of the plan form; and so for each form with several slots.
 fn put_plan(out: &mut [u8], to: usize, depth: u64, width: u64) -> usize
-    requires { ⌜ (length (line (Record.Plan depth width)) ≤ to) × (to ≤ length (now out)) ⌝ }
-    ensures { λ r. ⌜ Put (now (out .entry)) (now (out .exit)) r to (line (Record.Plan depth width)) ⌝ }
+    requires { ⌜ Room (now out) to (line-length (Record.Plan depth width)) ⌝ }
+    ensures { λ r. ⌜ Puts (now (out .entry)) (now (out .exit)) r to (Record.Plan depth width) ⌝ }
 {
     let to = put(out, to, b"))\n");
-    let to = put_field(out, to, b") (width ", b'N', width);
-    put_field(out, to, b"(plan (depth ", b'N', depth)
+    let to = put_field(out, to, b") (width ", b'I', width);
+    put_field(out, to, b"(plan (depth ", b'I', depth)
 }
 
 fn put_campaign(out: &mut [u8], to: usize, price: u64, budget: u64) -> usize
-    requires { ⌜ (length (line (Record.Campaign price budget)) ≤ to) × (to ≤ length (now out)) ⌝ }
-    ensures { λ r. ⌜ Put (now (out .entry)) (now (out .exit)) r to (line (Record.Campaign price budget)) ⌝ }
+    requires { ⌜ Room (now out) to (line-length (Record.Campaign price budget)) ⌝ }
+    ensures { λ r. ⌜ Puts (now (out .entry)) (now (out .exit)) r to (Record.Campaign price budget) ⌝ }
 {
     let to = put(out, to, b"))\n");
-    let to = put_field(out, to, b") (budget ", b'N', budget);
-    put_field(out, to, b"(campaign (price ", b'N', price)
+    let to = put_field(out, to, b") (budget ", b'I', budget);
+    put_field(out, to, b"(campaign (price ", b'I', price)
 }
 
 fn put_play(out: &mut [u8], to: usize, campaign: u64, paid: u64) -> usize
-    requires { ⌜ (length (line (Record.Play campaign paid)) ≤ to) × (to ≤ length (now out)) ⌝ }
-    ensures { λ r. ⌜ Put (now (out .entry)) (now (out .exit)) r to (line (Record.Play campaign paid)) ⌝ }
+    requires { ⌜ Room (now out) to (line-length (Record.Play campaign paid)) ⌝ }
+    ensures { λ r. ⌜ Puts (now (out .entry)) (now (out .exit)) r to (Record.Play campaign paid) ⌝ }
 {
     let to = put(out, to, b"))\n");
     let to = put_field(out, to, b" (paid ", b'N', paid);
@@ -94,8 +94,8 @@ fn put_play(out: &mut [u8], to: usize, campaign: u64, paid: u64) -> usize
 }
 
 fn put_closed(out: &mut [u8], to: usize, takings: u64, claim: u64, full: u64) -> usize
-    requires { ⌜ (length (line (Record.Closed takings claim full)) ≤ to) × (to ≤ length (now out)) ⌝ }
-    ensures { λ r. ⌜ Put (now (out .entry)) (now (out .exit)) r to (line (Record.Closed takings claim full)) ⌝ }
+    requires { ⌜ Room (now out) to (line-length (Record.Closed takings claim full)) ⌝ }
+    ensures { λ r. ⌜ Puts (now (out .entry)) (now (out .exit)) r to (Record.Closed takings claim full) ⌝ }
 {
     let to = put(out, to, b"))\n");
     let to = put_field(out, to, b") (full ", b'M', full);
@@ -112,8 +112,8 @@ fn put_tally(
     age: u64,
     named: u64,
 ) -> usize
-    requires { ⌜ (length (line (Record.Tally campaign plays turns age named)) ≤ to) × (to ≤ length (now out)) ⌝ }
-    ensures { λ r. ⌜ Put (now (out .entry)) (now (out .exit)) r to (line (Record.Tally campaign plays turns age named)) ⌝ }
+    requires { ⌜ Room (now out) to (line-length (Record.Tally campaign plays turns age named)) ⌝ }
+    ensures { λ r. ⌜ Puts (now (out .entry)) (now (out .exit)) r to (Record.Tally campaign plays turns age named) ⌝ }
 {
     let to = put(out, to, b"))\n");
     let to = put_field(out, to, b") (named ", b'N', named);
@@ -123,9 +123,10 @@ fn put_tally(
     put_field(out, to, b"(tally ", b'C', campaign)
 }
 
+// The line of the record, ending at the place to.
 fn put_record(r: Record, out: &mut [u8], to: usize) -> usize
-    requires { ⌜ (length (line r) ≤ to) × (to ≤ length (now out)) ⌝ }
-    ensures { λ n. ⌜ Put (now (out .entry)) (now (out .exit)) n to (line r) ⌝ }
+    requires { ⌜ Room (now out) to (line-length r) ⌝ }
+    ensures { λ n. ⌜ Puts (now (out .entry)) (now (out .exit)) n to r ⌝ }
 {
     match r {
         Record::Plan { depth, width } => put_plan(out, to, depth, width),

@@ -1,127 +1,181 @@
+-- A line that is not too long: the bytes at 1, 4 and 6 leave one form, `leaves` of Choice, and only that one is read.
+-- Each arm shows which form its bytes leave (`first`, and `other` where an arm takes the rest), and that its code holds
+-- the line to that form (`reads`); `answers` joins the two.
 use mathlib.Core.Path.{_≡_, refl, ap, sym, _∙_}
 use mathlib.Core.Bool.{Bool, cond}
 use mathlib.Core.List.{List}
 use Prim.Native.Nat.{ℕ, _≤_}
-use lib.Dec.{eqb, lit≤}
+use native.Mathlib.Omega.{arith}
+use lib.Dec.{eqb}
 use lib.ListN.{length, getD}
 use borrow.Author.Tests.{lt-ltb, ne-eqb}
 use Rattle.lines.specs.declared.Record.{Record}
-use Rattle.lines.specs.declared.Record.the-variants.{Plan, Campaign, Start, View, Close, Done, Play, Nobody, Refused, Closed, Tally}
+use Rattle.lines.specs.declared.Record.the-variants.{Plan, Campaign, Start, View, Close, Done, Play, Nobody}
+use Rattle.lines.specs.declared.Record.the-variants.{Refused, Closed, Tally}
 use Rattle.lines.specs.declared.Reading.{Reading}
 use Rattle.lines.specs.declared.Reading.the-variants.{Refusal}
-use Rattle.lines.specs.Form.{bytes, template}
-use Rattle.lines.specs.Reading.{Rest, some, step, restOf, numbersOf, made, endedOr, heldOr, reading}
-use Rattle.lines.specs.Place.{place, stripped}
-use Rattle.lines.proofs.Places.{place-start}
+use Rattle.lines.specs.Limits.{max-line}
+use Rattle.lines.specs.Form.{template}
+use Rattle.lines.specs.Reading.{made, held-or, reading}
+use Rattle.lines.proofs.Fields.{reads}
+use Rattle.lines.proofs.Fields.Scanned.{field, last-word}
 use Rattle.lines.proofs.Choice.{leaves, chosen, first-chosen}
 use Rattle.lines.proofs.Inverse.{reading-short}
 use Rattle.lines.proofs.read_line.Statement.{statement}
 use Rattle.lines.proofs.read_line.Tie as tie
 
 -- a is what the chosen form f reads
-answers : (l : List ℕ) (f : Record) {a : Reading} → length l ≤ 200 → chosen l ≡ f → a ≡ heldOr (Refusal 17) f l → a ≡ reading l
-answers l f h p q = q ∙ ap (λ (x : Record). heldOr (Refusal 17) x l) (sym p) ∙ sym (first-chosen l) ∙ sym (reading-short l h)
+answers : (l : List ℕ) (f : Record) {a : Reading} → length l ≤ max-line → chosen l ≡ f
+    → a ≡ held-or (Refusal 17) f l → a ≡ reading l
+answers l f h p q =
+    q ∙ ap (λ (x : Record). held-or (Refusal 17) x l) (sym p) ∙ sym (first-chosen l) ∙ sym (reading-short l h)
 
 -- the form is known from the byte at 1, or then from another
 first : (l : List ℕ) {r b : ℕ} → r ≡ getD l 1 0 → r ≡ b → chosen l ≡ leaves b (getD l 4 0) (getD l 6 0)
 unfolding chosen
 first l p q = ap (λ (x : ℕ). leaves x (getD l 4 0) (getD l 6 0)) (sym p ∙ q)
 
-last : (b d e : ℕ) → (b ≡ 118 → ⊥) → (b ≡ 112 → ⊥) → (b ≡ 99 → ⊥) → (b ≡ 115 → ⊥) → (b ≡ 111 → ⊥) → (b ≡ 110 → ⊥) → (b ≡ 114 → ⊥) → leaves b d e ≡ Tally 0 0 0 0 0
-last b d e v p c s o n r = simp (ne-eqb b 118 v, ne-eqb b 112 p, ne-eqb b 99 c, ne-eqb b 115 s, ne-eqb b 111 o, ne-eqb b 110 n, ne-eqb b 114 r)
-
--- a form without slots is its word
-word : (l w : List ℕ) (f : Record) {a : Reading} → a ≡ endedOr (Refusal 17) (stripped w (place l 0)) f → a ≡ endedOr (Refusal 17) (stripped w (some l)) f
-word l w f q = q ∙ ap (λ (x : Rest). endedOr (Refusal 17) (stripped w x) f) (place-start l)
+-- a byte that is not the one asked for leaves the other form
+other : {b r : ℕ} (k : ℕ) (f g : Record) → r ≡ b → (r ≡ k → ⊥) → cond (eqb b k) f g ≡ g
+other {b} k f g e h = ap (λ (t : Bool). cond t f g) (ne-eqb b k (λ p. h (e ∙ p)))
 
 too-long : tie.Need-returns
 unfolding reading
-too-long c = rw (lt-ltb 200 (length (c .before .before .args .s .now)) (c .if1 .taken))
+too-long c = let start = c .before .before in rw (lt-ltb max-line (length (start .args .s .now)) (c .if1 .taken))
 
 view : tie.Need-returns-2
-unfolding heldOr template restOf numbersOf step made stripped
+unfolding template made
 view c =
-    let b = c .before .before .before .before in
-    let l = b .before .before .before .before .args .s .now in
-    let x = c .before .before .field .ensures in
-    answers l (View 0) (c .before .before .before .before .before .before .if1 .left) (first l (b .before .byte .ensures) (b .match .keys1)) (rw (← place-start l, ← x .end, ← x .number) (c .ended .ensures))
+    let set = c .before .before in
+    let arm = set .before .before in
+    let start = arm .before .before .before .before in
+    let l = start .args .s .now in
+    answers l (View 0) (omega arith) (first l (arm .before .byte .ensures) (arm .match .keys1))
+    (reads (View 0) (field refl (set .field .ensures) (last-word refl)) (c .ended .ensures))
 
 plan : tie.Need-returns-3
 plan c =
-    let l = c .before .before .before .before .before .before .before .args .s .now in
-    answers l (Plan 0 0) (c .before .before .before .before .before .if1 .left) (
-    first l (c .before .before .before .before .byte .ensures) (c .before .before .before .match .keys2)
-    ∙ ap (λ (d : ℕ). leaves 112 d (getD l 6 0)) (sym (c .before .before .byte2 .ensures) ∙ c .before .match2 .keys1)
+    let fourth = c .before .before in
+    let arm = fourth .before in
+    let start = arm .before .before .before .before in
+    let l = start .args .s .now in
+    answers l (Plan 0 0) (omega arith) (
+    first l (arm .before .byte .ensures) (arm .match .keys2)
+    ∙ ap (λ (d : ℕ). leaves 112 d (getD l 6 0)) (sym (fourth .byte2 .ensures) ∙ c .before .match2 .keys1)
     ) (c .read-plan .ensures)
 
 play : tie.Need-returns-4
 play c =
-    let l = c .before .before .before .before .before .before .before .args .s .now in
-    answers l (Play 0 0) (c .before .before .before .before .before .if1 .left) (
-    first l (c .before .before .before .before .byte .ensures) (c .before .before .before .match .keys2)
-    ∙ ap (λ (t : Bool). cond t (Plan 0 0) (Play 0 0)) (ne-eqb (getD l 4 0) 110 (λ p. c .before .match2 .rest .1 (c .before .before .byte2 .ensures ∙ p)))
+    let fourth = c .before .before in
+    let arm = fourth .before in
+    let start = arm .before .before .before .before in
+    let l = start .args .s .now in
+    answers l (Play 0 0) (omega arith) (
+    first l (arm .before .byte .ensures) (arm .match .keys2)
+    ∙ other 110 (Plan 0 0) (Play 0 0) (fourth .byte2 .ensures) (c .before .match2 .rest .1)
     ) (c .read-play .ensures)
 
 close : tie.Need-returns-5
-unfolding heldOr template restOf numbersOf step made stripped
+unfolding template made
 close c =
-    let l = c .before .before .before .before .before .before .before .before .args .s .now in
-    answers l Close (c .before .before .before .before .before .before .if1 .left) (
-    first l (c .before .before .before .before .before .byte .ensures) (c .before .before .before .before .match .keys3)
-    ∙ ap (leaves 99 (getD l 4 0)) (sym (c .before .before .before .byte3 .ensures) ∙ c .before .before .match3 .keys1)
-    ) (word l (bytes "(close)") Close (c .ended2 .ensures))
+    let sixth = c .before .before .before in
+    let arm = sixth .before in
+    let start = arm .before .before .before .before in
+    let l = start .args .s .now in
+    answers l Close (omega arith) (
+    first l (arm .before .byte .ensures) (arm .match .keys3)
+    ∙ ap (leaves 99 (getD l 4 0)) (sym (sixth .byte3 .ensures) ∙ c .before .before .match3 .keys1)
+    ) (reads Close (last-word refl) (c .ended2 .ensures))
 
 closed : tie.Need-returns-6
 closed c =
-    let l = c .before .before .before .before .before .before .before .args .s .now in
-    answers l (Closed 0 0 0) (c .before .before .before .before .before .if1 .left) (
-    first l (c .before .before .before .before .byte .ensures) (c .before .before .before .match .keys3)
-    ∙ ap (leaves 99 (getD l 4 0)) (sym (c .before .before .byte3 .ensures) ∙ c .before .match3 .keys2)
+    let sixth = c .before .before in
+    let arm = sixth .before in
+    let start = arm .before .before .before .before in
+    let l = start .args .s .now in
+    answers l (Closed 0 0 0) (omega arith) (
+    first l (arm .before .byte .ensures) (arm .match .keys3)
+    ∙ ap (leaves 99 (getD l 4 0)) (sym (sixth .byte3 .ensures) ∙ c .before .match3 .keys2)
     ) (c .read-closed .ensures)
 
 campaign : tie.Need-returns-7
 campaign c =
-    let l = c .before .before .before .before .before .before .before .args .s .now in
-    answers l (Campaign 0 0) (c .before .before .before .before .before .if1 .left) (
-    first l (c .before .before .before .before .byte .ensures) (c .before .before .before .match .keys3)
-    ∙ ap (λ (t : Bool). cond t Close (cond (eqb (getD l 6 0) 100) (Closed 0 0 0) (Campaign 0 0))) (ne-eqb (getD l 6 0) 41 (λ p. c .before .match3 .rest .0 .1 (c .before .before .byte3 .ensures ∙ p)))
-    ∙ ap (λ (t : Bool). cond t (Closed 0 0 0) (Campaign 0 0)) (ne-eqb (getD l 6 0) 100 (λ p. c .before .match3 .rest .1 (c .before .before .byte3 .ensures ∙ p)))
+    let sixth = c .before .before in
+    let arm = sixth .before in
+    let start = arm .before .before .before .before in
+    let l = start .args .s .now in
+    let none = c .before .match3 .rest in
+    let rest = cond (eqb (getD l 6 0) 100) (Closed 0 0 0) (Campaign 0 0) in
+    answers l (Campaign 0 0) (omega arith) (
+    first l (arm .before .byte .ensures) (arm .match .keys3)
+    ∙ other 41 Close rest (sixth .byte3 .ensures) (none .0 .1)
+    ∙ other 100 (Closed 0 0 0) (Campaign 0 0) (sixth .byte3 .ensures) (none .1)
     ) (c .read-campaign .ensures)
 
 start : tie.Need-returns-8
-unfolding heldOr template restOf numbersOf step made stripped
+unfolding template made
 start c =
-    let l = c .before .before .before .before .before .before .args .s .now in
-    answers l Start (c .before .before .before .before .if1 .left) (first l (c .before .before .before .byte .ensures) (c .before .before .match .keys4)) (word l (bytes "(start)") Start (c .ended3 .ensures))
+    let arm = c .before .before in
+    let start = arm .before .before .before .before in
+    let l = start .args .s .now in
+    answers l Start (omega arith) (first l (arm .before .byte .ensures) (arm .match .keys4))
+    (reads Start (last-word refl) (c .ended3 .ensures))
 
 ok : tie.Need-returns-9
-unfolding heldOr template restOf numbersOf step made stripped
+unfolding template made
 ok c =
-    let l = c .before .before .before .before .before .before .args .s .now in
-    answers l Done (c .before .before .before .before .if1 .left) (first l (c .before .before .before .byte .ensures) (c .before .before .match .keys5)) (word l (bytes "(ok)") Done (c .ended4 .ensures))
+    let arm = c .before .before in
+    let start = arm .before .before .before .before in
+    let l = start .args .s .now in
+    answers l Done (omega arith) (first l (arm .before .byte .ensures) (arm .match .keys5))
+    (reads Done (last-word refl) (c .ended4 .ensures))
 
 nobody : tie.Need-returns-10
-unfolding heldOr template restOf numbersOf step made stripped
+unfolding template made
 nobody c =
-    let l = c .before .before .before .before .before .before .args .s .now in
-    answers l Nobody (c .before .before .before .before .if1 .left) (first l (c .before .before .before .byte .ensures) (c .before .before .match .keys6)) (word l (bytes "(nobody)") Nobody (c .ended5 .ensures))
+    let arm = c .before .before in
+    let start = arm .before .before .before .before in
+    let l = start .args .s .now in
+    answers l Nobody (omega arith) (first l (arm .before .byte .ensures) (arm .match .keys6))
+    (reads Nobody (last-word refl) (c .ended5 .ensures))
 
 refused : tie.Need-returns-11
-unfolding heldOr template restOf numbersOf step made stripped
+unfolding template made
 refused c =
-    let b = c .before .before .before .before in
-    let l = b .before .before .before .before .args .s .now in
-    let x = c .before .before .field2 .ensures in
-    answers l (Refused 0) (c .before .before .before .before .before .before .if1 .left) (first l (b .before .byte .ensures) (b .match .keys7)) (rw (← place-start l, ← x .end, ← x .number) (c .ended6 .ensures))
+    let number = c .before .before in
+    let arm = number .before .before in
+    let start = arm .before .before .before .before in
+    let l = start .args .s .now in
+    answers l (Refused 0) (omega arith) (first l (arm .before .byte .ensures) (arm .match .keys7))
+    (reads (Refused 0) (field refl (number .field2 .ensures) (last-word refl)) (c .ended6 .ensures))
+
+-- no other byte at 1 was found
+last : (b d e : ℕ) → (b ≡ 118 → ⊥) → (b ≡ 112 → ⊥) → (b ≡ 99 → ⊥) → (b ≡ 115 → ⊥) → (b ≡ 111 → ⊥) → (b ≡ 110 → ⊥)
+    → (b ≡ 114 → ⊥) → leaves b d e ≡ Tally 0 0 0 0 0
+last b d e v p c s o n r =
+    simp (
+      ne-eqb b 118 v,
+      ne-eqb b 112 p,
+      ne-eqb b 99 c,
+      ne-eqb b 115 s,
+      ne-eqb b 111 o,
+      ne-eqb b 110 n,
+      ne-eqb b 114 r,
+    )
 
 tally : tie.Need-returns-12
 tally c =
-    let l = c .before .before .before .before .before .args .s .now in
-    let b = c .before .before .byte in
-    let m = c .before .match .rest in
-    answers l (Tally 0 0 0 0 0) (c .before .before .before .if1 .left)
-    (first l (b .ensures) refl ∙ last (b .result) (getD l 4 0) (getD l 6 0) (m .0 .0 .0 .0 .0 .0 .1) (m .0 .0 .0 .0 .0 .1) (m .0 .0 .0 .0 .1) (m .0 .0 .0 .1) (m .0 .0 .1) (m .0 .1) (m .1))
-    (c .read-tally .ensures)
+    let arm = c .before in
+    let start = arm .before .before .before .before in
+    let l = start .args .s .now in
+    let b = arm .before .byte in
+    let none = arm .match .rest in
+    let few = none .0 .0 .0 in
+    answers l (Tally 0 0 0 0 0) (omega arith) (
+    first l (b .ensures) refl
+    ∙ last (b .result) (getD l 4 0) (getD l 6 0) (few .0 .0 .0 .1) (few .0 .0 .1) (few .0 .1) (few .1)
+    (none .0 .0 .1) (none .0 .1) (none .1)
+    ) (c .read-tally .ensures)
 
 pub read-line-spec : {M : Type 1} → statement M
 read-line-spec =
@@ -130,28 +184,28 @@ read-line-spec =
     too-long
     (λ c κs. tt)
     (λ c. refl)
-    (λ c κs. (c .before .before .before .if1 .left, lit≤ tt))
+    (λ c κs. omega arith)
     (λ c. refl)
-    (λ c κs. c .before .before .before .before .before .if1 .left)
+    (λ c κs. omega arith)
     (λ c κs. tt)
-    (λ c κs. c .before .before .before .before .if1 .left)
-    (λ c κs. c .before .before .before .before .if1 .left)
+    (λ c κs. omega arith)
+    (λ c κs. omega arith)
     (λ c κs. tt)
     (λ c. refl)
-    (λ c κs. c .before .before .before .before .before .if1 .left)
-    (λ c κs. c .before .before .before .before .if1 .left)
-    (λ c κs. c .before .before .before .before .if1 .left)
+    (λ c κs. omega arith)
+    (λ c κs. omega arith)
+    (λ c κs. omega arith)
     (λ c. refl)
-    (λ c κs. c .before .before .before .if1 .left)
+    (λ c κs. omega arith)
     (λ c. refl)
-    (λ c κs. c .before .before .before .if1 .left)
+    (λ c κs. omega arith)
     (λ c. refl)
-    (λ c κs. c .before .before .before .if1 .left)
+    (λ c κs. omega arith)
     (λ c. refl)
-    (λ c κs. (c .before .before .before .if1 .left, lit≤ tt))
+    (λ c κs. omega arith)
     (λ c. refl)
-    (λ c κs. c .before .before .before .before .before .if1 .left)
-    (λ c κs. c .before .before .if1 .left)
+    (λ c κs. omega arith)
+    (λ c κs. omega arith)
     view
     plan
     play

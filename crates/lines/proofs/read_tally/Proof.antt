@@ -1,34 +1,42 @@
+-- The tally form: its fields are read in turn, and by `reads` this is holding the line to the form's template.
 use mathlib.Core.Path.{refl}
-use lib.Dec.{lit≤}
+use native.Mathlib.Omega.{arith}
+use Rattle.lines.specs.declared.Record.the-variants.{Tally}
 use Rattle.lines.specs.Form.{template}
-use Rattle.lines.specs.Reading.{step, restOf, numbersOf, made, heldOr}
-use Rattle.lines.specs.Place.{stripped}
-use Rattle.lines.proofs.Places.{place-start}
+use Rattle.lines.specs.Reading.{made}
+use Rattle.lines.proofs.Fields.{reads}
+use Rattle.lines.proofs.Fields.Scanned.{field, last-word}
 use Rattle.lines.proofs.read_tally.Statement.{statement}
 use Rattle.lines.proofs.read_tally.Tie as tie
 
 pub read-tally-spec : {M : Type 1} → statement M
-unfolding heldOr template restOf numbersOf step made stripped
+unfolding template made
 read-tally-spec =
     tie.close
     (tie.spec
     (λ c. refl)
-    (λ c κs. (c .before .before .pre, lit≤ tt))
+    (λ c κs. omega arith)
     (λ c. refl)
-    (λ c κs. (c .before .before .before .before .pre, lit≤ tt))
+    (λ c κs. omega arith)
     (λ c. refl)
-    (λ c κs. (c .before .before .before .before .before .before .pre, lit≤ tt))
+    (λ c κs. omega arith)
     (λ c. refl)
-    (λ c κs. (c .before .before .before .before .before .before .before .before .pre, lit≤ tt))
+    (λ c κs. omega arith)
     (λ c. refl)
-    (λ c κs. (c .before .before .before .before .before .before .before .before .before .before .pre, lit≤ tt))
+    (λ c κs. omega arith)
     (λ c. refl)
-    (λ c κs. c .before .before .before .before .before .before .before .before .before .before .before .before .pre)
+    (λ c κs. omega arith)
     (λ c.
-    let a = c .before .before .before .before .before .before .before .before .before .before .before .before .before .args in
-    let x1 = c .before .before .before .before .before .before .before .before .before .before .field .ensures in
-    let x2 = c .before .before .before .before .before .before .before .before .field2 .ensures in
-    let x3 = c .before .before .before .before .before .before .field3 .ensures in
-    let x4 = c .before .before .before .before .field4 .ensures in
-    let x5 = c .before .before .field5 .ensures in
-    rw (← place-start (a .s .now), ← x1 .end, ← x2 .end, ← x3 .end, ← x4 .end, ← x5 .end, ← x1 .number, ← x2 .number, ← x3 .number, ← x4 .number, ← x5 .number) (c .ended .ensures)))
+    let named = c .before .before in
+    let age = named .before .before in
+    let turns = age .before .before in
+    let plays = turns .before .before in
+    let campaign = plays .before .before in
+    reads (Tally 0 0 0 0 0)
+    (field refl (campaign .field .ensures)
+    (field refl (plays .field2 .ensures)
+    (field refl (turns .field3 .ensures)
+    (field refl (age .field4 .ensures)
+    (field refl (named .field5 .ensures)
+    (last-word refl))))))
+    (c .ended .ensures)))

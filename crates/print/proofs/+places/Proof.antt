@@ -1,3 +1,4 @@
+-- The digits of a numeral, four a call: the number falls, and each case is a law of Lengths.
 use native.Mathlib.Omega.{arith}
 use Prim.Native.Nat.{_/_, _+_, ℕ, _<_}
 use mathlib.Core.Path.{sym, ap, _∙_}
@@ -34,7 +35,8 @@ places-returns-3 t c = sym (len-three (c .before .before .before .args .n) (omeg
 
 places-returns-4 :
     (t : ℕ) → places-lts.Need-returns-4 (places-below t, places.Post) (places-at t) places.Post
-places-returns-4 t c = sym (len-four (c .before .before .before .before .args .n) (omega arith) (omega arith))
+places-returns-4 t c =
+    let start = c .before .before .before .before in sym (len-four (start .args .n) (omega arith) (omega arith))
 
 places-places-requires :
     (t : ℕ) →
@@ -43,11 +45,15 @@ places-places-requires t c κs = (omega arith, tt)
 
 places-add-result :
     (t : ℕ) → places-lts.Need-add-result (places-below t, places.Post) (places-at t) places.Post
-places-add-result t c = omega (arith, c .places .ensures, numeral-most (c .before .before .before .before .before .args .n / 10000))
+places-add-result t c =
+    let start = c .before .before .before .before .before in
+    omega (arith, c .places .ensures, numeral-most (start .args .n / 10000))
 
 places-returns-5 :
     (t : ℕ) → places-lts.Need-returns-5 (places-below t, places.Post) (places-at t) places.Post
-places-returns-5 t c = ap (λ (x : ℕ). 4 + x) (c .places .ensures) ∙ sym (len-skip (c .before .before .before .before .before .args .n) (omega arith) (omega arith))
+places-returns-5 t c =
+    let start = c .before .before .before .before .before in
+    ap (λ (x : ℕ). 4 + x) (c .places .ensures) ∙ sym (len-skip (start .args .n) (omega arith) (omega arith))
 
 pub +places-spec : {M : Type 1} → statement M
 +places-spec =

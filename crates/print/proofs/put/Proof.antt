@@ -1,11 +1,12 @@
+-- A word that ends at a place. The loop puts it byte by byte; its invariant: the bytes so far lie over the buffer.
 use mathlib.Core.Path.{_≡_, refl, ap, sym, _∙_}
 use mathlib.Core.List.{List}
 use Prim.Native.Nat.{ℕ, _+_, _-_, _≤_}
 use native.Mathlib.Omega.{arith}
 use lib.ListN.{length, take, getD, set, length-set}
 use lib.Seq.{take-length}
-use Rattle.print.specs.Buffer.{over}
-use Rattle.print.proofs.Buffers.{over-none, over-next}
+use Rattle.buffer.specs.Buffer.{over}
+use Rattle.buffer.proofs.Over.{over-none, over-next}
 use Rattle.print.proofs.put.Statement.{statement}
 use Rattle.print.proofs.put.Tie as tie
 
@@ -22,7 +23,8 @@ loop-again c =
     let at = a .to - length (a .word .now) in
     let b = getD (a .word .now) (o .i) 0 in (
       omega arith,
-      ap (λ (x : List ℕ). set x (at + o .i) b) (o .inv .1) ∙ over-next (a .out .now) at (a .word .now) (o .i) (omega arith),
+      ap (λ (x : List ℕ). set x (at + o .i) b) (o .inv .1)
+          ∙ over-next (a .out .now) at (a .word .now) (o .i) (omega arith),
       length-set (o .out) (at + o .i) b ∙ o .inv .2,
     )
 
@@ -33,7 +35,9 @@ returns c =
     let e : o .i ≡ length (a .word .now) = omega arith in
     record {
       next = omega arith;
-      here = o .inv .1 ∙ ap (over (a .out .now) (a .to - length (a .word .now))) (ap (λ (k : ℕ). take k (a .word .now)) e ∙ take-length (a .word .now));
+      here =
+          o .inv .1 ∙ ap (over (a .out .now) (a .to - length (a .word .now)))
+          (ap (λ (k : ℕ). take k (a .word .now)) e ∙ take-length (a .word .now));
       same = o .inv .2;
     }
 

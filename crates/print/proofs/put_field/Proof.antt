@@ -1,6 +1,7 @@
+-- A word before the slot: two puts, the second joined to the first by `put-before`.
 use native.Mathlib.Omega.{arith}
 use borrow.Author.Needs.{needs}
-use Rattle.print.proofs.Buffers.{before}
+use Rattle.buffer.proofs.Puts.{put-before}
 use Rattle.print.proofs.put_field.Statement.{statement}
 use Rattle.print.proofs.put_field.Tie as tie
 
@@ -12,6 +13,6 @@ put-field-spec =
     (λ c κs. omega arith)
     (λ c. search needs)
     (λ c.
-    let p1 = c .before .before in
-    let s1 = p1 .before .before .before .before in
-    before (s1 .put-slot .ensures) (p1 .put .ensures)))
+    let word = c .before .before in
+    let slot = word .before .before .before .before in
+    put-before (slot .put-slot .ensures) (word .put .ensures)))

@@ -1,3 +1,4 @@
+-- The slot's range joins the others', its bytes join the count, and neither sum wraps.
 use mathlib.Core.Path.{ap}
 use mathlib.Core.Bool.{Bool, _&&_}
 use native.Mathlib.Omega.{arith}
@@ -11,4 +12,10 @@ slot-spec =
     (λ c κs. tt)
     (λ c κs. tt)
     (λ c. omega arith)
-    (λ c. (ap (λ (t : Bool). t && c .before .before .before .before .args .self .ok) (c .before .before .before .in-slot .ensures), omega arith, omega arith)))
+    (λ c.
+    let in-range = c .before .before .before in
+    record {
+      ok = ap (λ (t : Bool). t && in-range .before .args .self .ok) (in-range .in-slot .ensures);
+      len = omega arith;
+      most = omega arith;
+    }))

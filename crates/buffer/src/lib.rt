@@ -1,0 +1,1 @@
+// Bytes laid over a lent buffer: definitions and laws only, no code.

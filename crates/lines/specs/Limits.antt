@@ -1,0 +1,46 @@
+-- The limits of document 01's lines, each by its name. The code's constants are proved to have these values.
+use Prim.Native.Nat.{ℕ, _+_}
+
+-- the longest line that is read, and a buffer for it with its byte 10
+abbrev pub max-line : ℕ
+max-line = 200
+
+abbrev pub line-buffer : ℕ
+line-buffer = max-line + 1
+
+-- the longest line that is written as an answer, and its room with the byte 10
+abbrev pub max-answer : ℕ
+max-answer = 200
+
+abbrev pub answer-room : ℕ
+answer-room = max-answer + 1
+
+-- the greatest number of an input line: depth, width, price, budget
+abbrev pub max-input : ℕ
+max-input = 4294967295
+
+-- the greatest number of an output line that has no range of its own: paid, plays, turns, age, named
+abbrev pub max-output : ℕ
+max-output = 4294967295
+
+-- the greatest campaign number; a view's set has a bit for each
+abbrev pub max-campaign : ℕ
+max-campaign = 63
+
+abbrev pub set-bits : ℕ
+set-bits = 64
+
+-- the highest refusal number that the documents give
+abbrev pub max-question : ℕ
+max-question = 18
+
+-- all of 64 bits: takings, claim, full, and a view's set
+abbrev pub max-u64 : ℕ
+max-u64 = 18446744073709551615
+
+-- the most digits of such a number, and the most bytes of a view's names, each of them a space and two digits
+abbrev pub max-digits : ℕ
+max-digits = 20
+
+abbrev pub max-names : ℕ
+max-names = 192
