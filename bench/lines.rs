@@ -6,8 +6,8 @@ use std::hint::black_box;
 use std::time::Instant;
 
 extern "C" {
-    fn lines_read(s: *const u8, len: usize, numbers: *mut u64) -> u64;
-    fn lines_write(form: u64, numbers: *const u64, out: *mut u8, len: usize) -> u64;
+    fn wezghuli_read_line(line: *const u8, line_len: usize, words: *mut u64) -> u64;
+    fn wezghuli_write_line(words: *const u64, out: *mut u8, out_len: usize, length: *mut u64) -> u64;
 }
 
 struct Rng(u64);
@@ -161,8 +161,8 @@ fn read_race(name: &str, lines: &[Vec<u8>]) {
     same_records(name, lines);
     let ours = || {
         for l in lines {
-            let mut n = [0u64; 5];
-            black_box(unsafe { lines_read(l.as_ptr(), l.len(), n.as_mut_ptr()) });
+            let mut n = [0u64; 6];
+            black_box(unsafe { wezghuli_read_line(l.as_ptr(), l.len(), n.as_mut_ptr()) });
             black_box(n);
         }
     };
@@ -177,11 +177,13 @@ fn read_race(name: &str, lines: &[Vec<u8>]) {
 fn write_race(name: &str, records: &[Made]) {
     same_lines(name, records);
     let plains: Vec<Record> = records.iter().map(|r| plain(*r)).collect();
+    let words: Vec<[u64; 6]> = records.iter().map(|(f, n)| [*f, n[0], n[1], n[2], n[3], n[4]]).collect();
+    let mut length = [0];
     let mut out = [0u8; 256];
     let mut back = [0u8; 256];
     let ours = || {
-        for r in records {
-            black_box(unsafe { lines_write(r.0, r.1.as_ptr(), out.as_mut_ptr(), out.len()) });
+        for w in &words {
+            black_box(unsafe { wezghuli_write_line(w.as_ptr(), out.as_mut_ptr(), out.len(), length.as_mut_ptr()) });
         }
     };
     let rust = || {

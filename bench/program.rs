@@ -92,6 +92,64 @@ fn refusals() -> String {
     out
 }
 
+/// A block of lines again and again, up to the size of an input.
+fn repeated(first: &str, block: &str) -> String {
+    let mut out = String::from(first);
+    while out.len() < BYTES {
+        out.push_str(block);
+    }
+    out
+}
+
+/// Days whose plans are filled and closed unshown.
+fn fillings() -> String {
+    let campaigns = "(campaign (price 5000) (budget 20000000))\n".repeat(64);
+    repeated("", &format!("(plan (depth 8) (width 4))\n{campaigns}(start)\n(close)\n"))
+}
+
+/// Days of a plan, a campaign, a start, a view and a close.
+fn short_days() -> String {
+    repeated("", "(plan (depth 2) (width 2))\n(campaign (price 5) (budget 10))\n(start)\n(view 0)\n(close)\n")
+}
+
+/// A full plan that is handed further campaigns.
+fn full_plan() -> String {
+    let campaigns = "(campaign (price 5) (budget 5000))\n".repeat(64);
+    repeated(&format!("(plan (depth 8) (width 4))\n{campaigns}"), "(campaign (price 7) (budget 700))\n")
+}
+
+/// Calls that the blank state refuses.
+fn before_the_plan() -> String {
+    repeated("", "(campaign (price 5) (budget 10))\n(start)\n(view 0 1)\n(close)\n")
+}
+
+/// Views that a running day refuses with 13 and with 14.
+fn refused_views() -> String {
+    let campaigns = "(campaign (price 5) (budget 5000))\n".repeat(16);
+    repeated(&format!("(plan (depth 8) (width 4))\n{campaigns}(start)\n"), "(view 3 16)\n(view 0 2 4 6 8)\n")
+}
+
+/// Days of 16 campaigns in which a fifth of the lines has a byte changed or left out.
+fn damaged() -> String {
+    let mut r = Random(5);
+    let mut out = String::new();
+    for line in days(16, 4).lines() {
+        let at = r.below(line.len() as u64) as usize;
+        match r.below(10) {
+            0 => out.extend([&line[..at], &line[at + 1..]]),
+            1 => out.extend([&line[..at], "x", &line[at + 1..]]),
+            _ => out.push_str(line),
+        }
+        out.push('\n');
+    }
+    out
+}
+
+/// Lines of a million bytes.
+fn long_lines() -> String {
+    repeated("", &format!("{}\n", "x".repeat(1_000_000)))
+}
+
 extern "C" {
     fn getrusage(who: i32, usage: *mut i64) -> i32;
 }
@@ -137,6 +195,14 @@ fn main() {
         ("64 campaigns, width 4", days(64, 4)),
         ("64 campaigns, width 16", days(64, 16)),
         ("refused lines", refusals()),
+        ("views refused 13 and 14", refused_views()),
+        ("damaged days", damaged()),
+        ("filling 64 campaigns", fillings()),
+        ("days of five lines", short_days()),
+        ("a full plan, further campaigns", full_plan()),
+        ("calls on the blank state", before_the_plan()),
+        ("empty lines", repeated("", "\n")),
+        ("lines of 1,000,000 bytes", long_lines()),
     ];
     let commands: [&[&str]; 3] = [&[pumpday], &[second], &["wc", "-l"]];
     println!("Processor time, least of {rounds} rounds in turn; ns a line.\n");

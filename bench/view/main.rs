@@ -2,6 +2,7 @@
 //! numbers of campaigns. Both show the same views in turn, in one run; what they answer is compared by a checksum.
 
 mod checksum;
+mod library;
 mod plain;
 
 use std::hint::black_box;
@@ -10,7 +11,7 @@ use std::hint::black_box;
 type Views = unsafe extern "C" fn(u64, u64, *const u64, usize, *const u64, usize) -> u64;
 
 extern "C" {
-    fn wezghuli_views(
+    fn bench_views_by_value(
         depth: u64,
         width: u64,
         terms: *const u64,
@@ -18,7 +19,7 @@ extern "C" {
         views: *const u64,
         views_len: usize,
     ) -> u64;
-    fn wezghuli_views_in_place(
+    fn bench_views_in_place(
         depth: u64,
         width: u64,
         terms: *const u64,
@@ -34,17 +35,6 @@ const DEPTH: u64 = 8;
 const RUNS: usize = 300;
 /// Campaigns and width.
 const DAYS: [(u64, u64); 5] = [(2, 2), (16, 4), (16, 16), (64, 4), (64, 16)];
-
-/// The state as the library lays it out: the phase's tag and takings, then its other fields.
-#[repr(C)]
-struct State {
-    phase: (u64, u64),
-    plan: [u64; 2],
-    count: u64,
-    accepted: u64,
-    money: [[u32; 64]; 2],
-    counts: [[u16; 64]; 4],
-}
 
 struct Day {
     width: u64,
@@ -97,6 +87,15 @@ fn proved(show: Views, day: &Day) -> u64 {
     }
 }
 
+fn by_library(day: &Day) -> u64 {
+    let mut state = library::Day::start(DEPTH, day.width, &day.terms);
+    let sum = day
+        .views
+        .iter()
+        .fold(0, |sum, &set| checksum::fold_answer(sum, state.view(set)));
+    state.fold_counts(sum)
+}
+
 fn plain(day: &Day) -> u64 {
     let mut state = plain::Day::start(DEPTH, day.width, &day.terms);
     let sum = day
@@ -134,27 +133,30 @@ fn median(times: &[f64]) -> f64 {
 }
 
 fn main() {
-    println!("state: {} bytes", std::mem::size_of::<State>());
     println!(
         "nanoseconds for one view, best of {RUNS} days of {VIEWS} views, depth {DEPTH}; in brackets plain Rust's time"
     );
     println!("by ours: of the best, and the median over days run one after the other");
-    println!("campaigns width  plain Rust      in place               by value");
+    println!(
+        "campaigns width  plain Rust      by the library         in place               by value"
+    );
     let only: Vec<u64> = std::env::args().skip(1).flat_map(|a| a.parse()).collect();
     for (campaigns, width) in DAYS {
         if !only.is_empty() && only != [campaigns, width] {
             continue;
         }
         let day = day(campaigns, width);
-        let (mut in_place, mut by_value, mut theirs) = (vec![], vec![], vec![]);
+        let (mut called, mut in_place, mut by_value, mut theirs) = (vec![], vec![], vec![], vec![]);
         for _ in 0..RUNS {
-            let (a, time) = timed(|day| proved(wezghuli_views_in_place, day), &day);
+            let (a, time) = timed(|day| proved(bench_views_in_place, day), &day);
             in_place.push(time);
-            let (b, time) = timed(|day| proved(wezghuli_views, day), &day);
+            let (b, time) = timed(|day| proved(bench_views_by_value, day), &day);
             by_value.push(time);
-            let (c, time) = timed(plain, &day);
+            let (c, time) = timed(by_library, &day);
+            called.push(time);
+            let (d, time) = timed(plain, &day);
             theirs.push(time);
-            assert!(a == c && b == c, "the checksums differ");
+            assert!(a == d && b == d && c == d, "the checksums differ");
         }
         let speed = |ours: &[f64]| {
             let speeds: Vec<f64> = ours.iter().zip(&theirs).map(|(a, b)| b / a).collect();
@@ -166,8 +168,9 @@ fn main() {
             )
         };
         println!(
-            "{campaigns:9} {width:5}    {:8.1}  {}   {}",
+            "{campaigns:9} {width:5}    {:8.1}  {}   {}   {}",
             best(&theirs),
+            speed(&called),
             speed(&in_place),
             speed(&by_value)
         );

@@ -18,21 +18,22 @@ use std::io::Write;
 use std::path::{Path, PathBuf};
 use std::process::Command;
 
-const CRATES: [&str; 14] = [
+const CRATES: [&str; 15] = [
     "sets",
     "powers",
     "campaigns",
     "audit",
-    "views",
+    "choice",
     "day",
     "lines",
     "print",
     "writer",
     "reply",
-    "stretch",
-    "desk",
+    "batch",
+    "stream",
     "replay",
     "pumpday",
+    "wezghuli",
 ];
 
 pub struct Mutant {

@@ -5,16 +5,16 @@ mod model;
 mod random;
 mod states;
 
-use library::{operate, OUTCOME, STATE};
+use library::Lent;
 use model::{Call, KINDS};
 use random::Random;
 use second::day::{Day, Phase, MAX_BUDGET, MAX_PRICE, MAX_VIEWS};
 use states::{EDGES, PLANS};
 
-/// What the lent words hold before a call, so that a word left untouched is seen.
-const BLANK: u64 = 0x5a5a_5a5a_5a5a_5a5a;
-/// The words of a state or the lengths of the slices are none that the library reads.
-const UNREADABLE: u64 = 1;
+/// The six words are no head of a state.
+const NO_HEAD: u64 = 100;
+/// The first two words of an answer that refuses with question 1.
+const UNSOUND: [u64; 2] = [0, 1];
 
 #[derive(Default)]
 struct Tally {
@@ -25,44 +25,39 @@ struct Tally {
 }
 
 impl Tally {
-    /// One call on one state, by both; gives what both hand back.
-    fn compare(&mut self, day: &Day, call: Call) -> [u64; OUTCOME] {
-        let state = model::words(day);
-        let mut out = [BLANK; OUTCOME];
-        let status = operate(&state, call.kind, call.a, call.b, &mut out);
-        let (due_status, due) = if model::fits(&state) {
-            (0, model::outcome(day, call))
-        } else {
-            (UNREADABLE, [BLANK; OUTCOME])
-        };
-        if (status, out) != (due_status, due) {
-            self.differ(day, call, (status, &out), (due_status, &due));
+    /// One call on one state, by both; gives the answer of both, or none where the library's arrays cannot hold the state.
+    fn compare(&mut self, day: &Day, call: Call) -> Option<[u64; 5]> {
+        let mut found = model::lent(day)?;
+        let status = found.operate(call);
+        let (due_status, due) = model::outcome(day, call);
+        if (status, &found) != (due_status, &due) {
+            self.differ(day, call, (status, &found), (due_status, &due));
         }
         self.calls += 1;
-        match due[STATE..STATE + 2] {
-            [0, 1] => self.unsound += 1,
-            [1..=5, _] => self.accepted += 1,
-            _ => {}
-        }
-        due
+        self.accepted += u64::from(status == 0);
+        self.unsound += u64::from(due.answer[..2] == UNSOUND);
+        Some(due.answer)
     }
 
-    fn differ(&self, day: &Day, call: Call, found: (u64, &[u64]), due: (u64, &[u64])) -> ! {
+    fn differ(&self, day: &Day, call: Call, found: (u64, &Lent), due: (u64, &Lent)) -> ! {
         println!("state: {day:?}");
         println!("call: {call:?}");
         println!("library: status {}, {:?}", found.0, found.1);
         println!("second program: status {}, {:?}", due.0, due.1);
+        self.fail()
+    }
+
+    fn fail(&self) -> ! {
         println!("{} passed, 1 failed", self.groups);
         std::process::exit(1);
     }
 
     /// A call that must be refused with question 1.
     fn refused(&mut self, rule: &str, day: &Day, call: Call) {
-        let due = self.compare(day, call);
-        if due[STATE..STATE + 2] != [0, 1] {
+        let answer = self.compare(day, call);
+        if answer.is_none_or(|a| a[..2] != UNSOUND) {
             println!("state: {day:?}\nnot refused with 1, though it breaks a rule: {rule}");
-            println!("{} passed, 1 failed", self.groups);
-            std::process::exit(1);
+            self.fail()
         }
     }
 
@@ -388,42 +383,47 @@ fn limits(tally: &mut Tally, seed: u64) {
     }
 }
 
-/// Slices of another length, an unknown phase and numbers too wide: nothing is written.
-fn unreadable(tally: &mut Tally) {
-    let good = model::words(&Day::blank());
-    let mut check = |state: &[u64], len: usize, due: u64| {
-        let mut out = vec![BLANK; len];
-        for kind in 0..KINDS {
-            let status = operate(state, kind, 1, 1, &mut out);
-            let untouched = out.iter().all(|&w| w == BLANK);
-            if status != due || untouched != (due == UNREADABLE) {
-                println!("words: {state:?}, kind {kind}, status {status}, {len} words lent");
-                println!("{} passed, 1 failed", tally.groups);
-                std::process::exit(1);
+/// Phases that are none and takings held outside Closed: every call says so, and nothing is written.
+fn misuse(tally: &mut Tally, seed: u64) {
+    let mut random = Random::new(seed);
+    for _ in 0..40 {
+        let n = states::size(&mut random);
+        let day = states::run(&mut random, n, 20);
+        let good = model::lent(&day).expect("a day fits");
+        let phases = [3, 4, 1 << 32, u64::MAX].map(|phase| (phase, 0));
+        let held = [(0, 1), (1, 1), (0, u64::MAX), (1, u64::MAX), (3, 1)];
+        for (phase, takings) in phases.into_iter().chain(held) {
+            let mut state = good.clone();
+            (state.head[0], state.head[1]) = (phase, takings);
+            if random.one_in(2) {
+                state.terms.fill(random.next() as u32);
+                state.counts.fill(random.next() as u16);
             }
-            tally.calls += 1;
-            out.fill(BLANK);
+            for kind in 0..KINDS {
+                let mut after = state.clone();
+                let call = Call { kind, a: 1, b: 1 };
+                let status = after.operate(call);
+                if status != NO_HEAD || after != state {
+                    println!("lent: {state:?}\ncall: {call:?}, status {status}, left: {after:?}");
+                    tally.fail()
+                }
+                tally.calls += 1;
+            }
         }
-    };
-    check(&good, OUTCOME, 0);
-    for len in [0, 1, STATE - 1, STATE + 1, OUTCOME] {
-        check(&vec![0; len], OUTCOME, UNREADABLE);
     }
-    for len in [0, 1, STATE, OUTCOME - 1, OUTCOME + 1] {
-        check(&good, len, UNREADABLE);
-    }
-    for tag in [3, 4, 1 << 32, u64::MAX] {
-        let mut state = good;
-        state[0] = tag;
-        check(&state, OUTCOME, UNREADABLE);
-    }
-    for at in 6..STATE {
-        let limit = if at < 134 { 1u64 << 32 } else { 1 << 16 };
-        for (value, due) in [(limit - 1, 0), (limit, UNREADABLE), (u64::MAX, UNREADABLE)] {
-            let mut state = good;
-            state[at] = value;
-            check(&state, OUTCOME, due);
+}
+
+/// The blank state over whatever was there.
+fn made_blank(tally: &mut Tally) {
+    let due = model::lent(&Day::blank()).expect("the blank state fits");
+    for word in [0, 1, u64::MAX, 0x1234_5678_9abc_def0] {
+        let mut state = Lent::new([word; 6], [word as u32; 128], [word as u16; 256]);
+        state.blank();
+        if state != due {
+            println!("made blank over {word:#x}: {state:?}");
+            tally.fail()
         }
+        tally.calls += 1;
     }
 }
 
@@ -449,7 +449,8 @@ fn blank(tally: &mut Tally) {
 fn main() {
     let mut tally = Tally::default();
     tally.group("the blank state", blank);
-    tally.group("words that are no state", unreadable);
+    tally.group("made blank", made_blank);
+    tally.group("words that are no head", |t| misuse(t, 5));
     tally.group("claims beyond 64 bits", overflow);
     for seed in 1..=3 {
         tally.group("days", |t| days(t, seed));

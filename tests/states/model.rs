@@ -1,9 +1,9 @@
-//! The second program's model, seen as the library's words.
+//! The second program's model, seen as what is lent to the library.
 
-use crate::library::{OUTCOME, STATE};
+use crate::library::Lent;
 use second::day::{Answer, Day, Phase};
 
-/// An operation with its arguments, by the library's numbers.
+/// An operation with its arguments.
 #[derive(Clone, Copy, Debug)]
 pub struct Call {
     pub kind: u64,
@@ -14,30 +14,28 @@ pub struct Call {
 /// Number of kinds of call: opening, adding, starting, a view, a tally, closing.
 pub const KINDS: u64 = 6;
 
-pub fn words(day: &Day) -> [u64; STATE] {
-    let mut w = [0; STATE];
-    (w[0], w[1]) = match day.phase {
+/// The state in the library's layout, or none where its arrays cannot hold it: 32 bits of money, 16 of a count.
+pub fn lent(day: &Day) -> Option<Lent> {
+    let (phase, takings) = match day.phase {
         Phase::Filling => (0, 0),
         Phase::Running => (1, 0),
         Phase::Closed(takings) => (2, takings),
     };
-    (w[2], w[3], w[4], w[5]) = (day.depth, day.width, day.count, day.views);
+    let head = [phase, takings, day.depth, day.width, day.count, day.views];
+    let (mut terms, mut counts) = ([0; 128], [0; 256]);
     for (i, c) in day.campaigns.iter().enumerate() {
-        let row = [c.price, c.budget, c.plays, c.turns, c.age, c.named];
-        for (column, value) in row.into_iter().enumerate() {
-            w[6 + 64 * column + i] = value;
+        for (column, value) in [c.price, c.budget].into_iter().enumerate() {
+            terms[64 * column + i] = value.try_into().ok()?;
+        }
+        for (column, value) in [c.plays, c.turns, c.age, c.named].into_iter().enumerate() {
+            counts[64 * column + i] = value.try_into().ok()?;
         }
     }
-    w
+    Some(Lent::new(head, terms, counts))
 }
 
-/// Whether the library's arrays can hold the state: 32 bits of money, 16 of a count.
-pub fn fits(w: &[u64; STATE]) -> bool {
-    w[6..134].iter().all(|&x| x < 1 << 32) && w[134..].iter().all(|&x| x < 1 << 16)
-}
-
-/// What the model hands back, as the words of an outcome.
-pub fn outcome(day: &Day, call: Call) -> [u64; OUTCOME] {
+/// What the model hands back: the status, and the lent memory afterwards.
+pub fn outcome(day: &Day, call: Call) -> (u64, Lent) {
     let day = day.clone();
     let Call { kind, a, b } = call;
     let (next, answer) = match kind {
@@ -48,9 +46,8 @@ pub fn outcome(day: &Day, call: Call) -> [u64; OUTCOME] {
         4 => day.tally(a),
         _ => day.close(),
     };
-    let mut out = [0; OUTCOME];
-    out[..STATE].copy_from_slice(&words(&next));
-    let reply = match answer {
+    let mut after = lent(&next).expect("a call of a state that fits hands back one that fits");
+    after.answer = match answer {
         Answer::Refused(question) => [0, question, 0, 0, 0],
         Answer::Ok => [1, 0, 0, 0, 0],
         Answer::Play { campaign, paid } => [2, campaign, paid, 0, 0],
@@ -68,6 +65,9 @@ pub fn outcome(day: &Day, call: Call) -> [u64; OUTCOME] {
             full,
         } => [5, takings, claim, full, 0],
     };
-    out[STATE..].copy_from_slice(&reply);
-    out
+    let status = match answer {
+        Answer::Refused(question) => question,
+        _ => 0,
+    };
+    (status, after)
 }

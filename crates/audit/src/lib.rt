@@ -5,6 +5,7 @@ pub mod sums;
 use crate::columns::columns_hold;
 use crate::sums::Sums;
 use crate::sums::sum_all;
+use campaigns::Head;
 use campaigns::Phase;
 use campaigns::Plan;
 use campaigns::Terms;
@@ -40,14 +41,15 @@ impl Audit {
 }
 
 // Questions 3 to 5 of a state's plan, and the limits of its campaigns and its views.
-pub fn limits_hold(plan: Plan, count: u64, accepted: u64) -> bool
-    ensures { λ r. ⌜ r ≡ limits plan count accepted ⌝ }
+pub fn limits_hold(head: Head) -> bool
+    ensures { λ r. ⌜ r ≡ limits (head .plan) (head .count) (head .accepted) ⌝ }
 {
+    let plan = head.plan;
     plan.depth_fits()
         & plan.width_fits()
         & (plan.depth <= powers::deepest(plan.width))
-        & (count <= Plan::MAX_CAMPAIGNS)
-        & (accepted <= Plan::MAX_VIEWS)
+        & (head.count <= Plan::MAX_CAMPAIGNS)
+        & (head.accepted <= Plan::MAX_VIEWS)
 }
 
 // In Filling no view is accepted; a Closed phase holds the takings.
@@ -62,7 +64,7 @@ fn phase_holds(phase: Phase, accepted: u64, takings: u64) -> bool
 }
 
 // The last question of soundness: the total claim, turned × (d^k − (d−1)^k) + waited, is at most full. The product is
-// formed only once it is known to be at most full. `examine` has the bounds of the sums from its tests.
+// formed only once it is known to be at most full, so that nothing overflows.
 fn settle(sums: Sums, plan: Plan, weights: &[u64; 33]) -> Audit
     requires { ⌜ Weights plan (now weights) ⌝ }
     requires { ⌜ Bounded sums ⌝ }
@@ -87,43 +89,27 @@ fn settle(sums: Sums, plan: Plan, weights: &[u64; 33]) -> Audit
     }
 }
 
-// The audit of a state within its limits, handed in by its parts so that no array is copied. `Day::audit`
-// and `day::view::show` have tested the limits and taken the weights.
+// The audit of a state within its limits, whose arrays are lent, by the weights of its plan.
 pub fn examine<'a>(
-    phase: Phase,
-    plan: Plan,
-    count: u64,
-    accepted: u64,
+    head: Head,
     weights: &'a [u64; 33],
-    prices: &'a [u32; 64],
-    budgets: &'a [u32; 64],
-    plays: &'a [u16; 64],
-    turns: &'a [u16; 64],
-    ages: &'a [u16; 64],
-    named: &'a [u16; 64],
+    terms: &'a [u32; 128],
+    counts: &'a [u16; 256],
 ) -> Audit
-    requires { ⌜ Weights plan (now weights) × (count ≤ 64) × (accepted ≤ 4096) ⌝ }
-    ensures { λ r. ⌜ r ≡ examined phase plan accepted count (campaign-at (now (prices .entry)) (now (budgets .entry)) (now (plays .entry)) (now (turns .entry)) (now (ages .entry)) (now (named .entry))) ⌝ }
+    requires { ⌜ Weights (head .plan) (now weights) × (head .count ≤ 64) × (head .accepted ≤ 4096) ⌝ }
+    ensures { λ r. ⌜ r ≡ examined (head .phase) (head .plan) (head .accepted) (head .count)
+        (campaign-at (now (terms .entry)) (now (counts .entry))) ⌝ }
 {
-    let n = count as usize;
-    if !columns_hold(
-        phase,
-        plan,
-        accepted,
-        n,
-        prices,
-        budgets,
-        plays,
-        turns,
-        ages,
-        named,
-    ) {
+    let plan = head.plan;
+    let phase = head.phase;
+    let n = head.count as usize;
+    if !columns_hold(head, n, terms, counts) {
         return Audit::unsound();
     }
-    let sums = sum_all(n, plan, weights, prices, budgets, plays, turns, ages);
+    let sums = sum_all(n, plan, weights, terms, counts);
     if !(sums.within
         & (sums.budgets <= Terms::MAX_BUDGET)
-        & phase_holds(phase, accepted, sums.takings)) {
+        & phase_holds(phase, head.accepted, sums.takings)) {
         return Audit::unsound();
     }
     settle(sums, plan, weights)

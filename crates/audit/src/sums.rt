@@ -5,6 +5,7 @@ use campaigns::entry::wide32;
 use campaigns::weights::weigh;
 ghost use mathlib.Core.Path.{_≡_};
 ghost use Prim.Native.Nat.{_≤_};
+ghost use Rattle.campaigns.specs.Campaign.{campaign-at};
 ghost use Rattle.campaigns.specs.Inner.{Weights};
 ghost use Rattle.audit.specs.Inner.{spent-of, waited-of, Entries-bounded, no-sums, summed};
 
@@ -41,24 +42,19 @@ pub struct Spent {
     pub turned: u64,
 }
 
-// No sum of 64 products of a u32 and a u16 overflows; `sum_all` is told that there are at most 64.
-fn spend_all<'a>(
-    n: usize,
-    prices: &'a [u32; 64],
-    budgets: &'a [u32; 64],
-    plays: &'a [u16; 64],
-    turns: &'a [u16; 64],
-) -> Spent
+// The sums that no weight enters, unless a campaign has paid more than its budget. No sum of 64 products of a u32 and a
+// u16 overflows.
+fn spend_all<'a>(n: usize, terms: &'a [u32; 128], counts: &'a [u16; 256]) -> Spent
     requires { ⌜ n ≤ 64 ⌝ }
-    ensures { λ r. ⌜ r ≡ spent-of n (now (prices .entry)) (now (budgets .entry)) (now (plays .entry)) (now (turns .entry)) ⌝ }
+    ensures { λ r. ⌜ r ≡ spent-of n (campaign-at (now (terms .entry)) (now (counts .entry))) ⌝ }
 {
     let mut all: u64 = 0;
     let mut takings: u64 = 0;
     let mut turned: u64 = 0;
     for i in 0..n {
-        let price = wide32(prices[i]);
-        let budget = wide32(budgets[i]);
-        let spent = price * wide16(plays[i]);
+        let price = wide32(terms[i]);
+        let budget = wide32(terms[i + 64]);
+        let spent = price * wide16(counts[i]);
         if budget < spent {
             return Spent {
                 within: false,
@@ -69,7 +65,7 @@ fn spend_all<'a>(
         }
         all = all + budget;
         takings = takings + spent;
-        turned = turned + price * wide16(turns[i]);
+        turned = turned + price * wide16(counts[i + 64]);
     }
     Spent {
         within: true,
@@ -79,47 +75,42 @@ fn spend_all<'a>(
     }
 }
 
-// The sum of price × (W(age) − W(0)), of campaigns whose prices and ages `sum_all` is told to be within
-// their limits.
+// The sum of price × (W(age) − W(0)), of campaigns whose prices and ages are within their limits.
 fn wait_all<'a>(
     n: usize,
     plan: Plan,
     weights: &'a [u64; 33],
-    prices: &'a [u32; 64],
-    ages: &'a [u16; 64],
+    terms: &'a [u32; 128],
+    counts: &'a [u16; 256],
 ) -> u64
     requires { ⌜ n ≤ 64 ⌝ }
     requires { ⌜ Weights plan (now weights) ⌝ }
-    requires { ⌜ Entries-bounded plan n (now prices) (now ages) ⌝ }
-    ensures { λ r. ⌜ r ≡ waited-of plan n (now (prices .entry)) (now (ages .entry)) ⌝ }
+    requires { ⌜ Entries-bounded plan n (campaign-at (now terms) (now counts)) ⌝ }
+    ensures { λ r. ⌜ r ≡ waited-of plan n (campaign-at (now (terms .entry)) (now (counts .entry))) ⌝ }
 {
     let low = weigh(0, plan, weights);
     let mut sum: u64 = 0;
     for i in 0..n {
-        let weight = weigh(wide16(ages[i]), plan, weights);
-        sum = sum + wide32(prices[i]) * (weight - low);
+        let weight = weigh(wide16(counts[i + 128]), plan, weights);
+        sum = sum + wide32(terms[i]) * (weight - low);
     }
     sum
 }
 
-// The sums over the first n campaigns, or none where one has paid more than its budget. `examine` has tested the columns
-// of at most 64 campaigns, and has the plan's weights.
+// The sums over the first n campaigns, whose tests by columns pass, or none where one has paid more than its budget.
 pub fn sum_all<'a>(
     n: usize,
     plan: Plan,
     weights: &'a [u64; 33],
-    prices: &'a [u32; 64],
-    budgets: &'a [u32; 64],
-    plays: &'a [u16; 64],
-    turns: &'a [u16; 64],
-    ages: &'a [u16; 64],
+    terms: &'a [u32; 128],
+    counts: &'a [u16; 256],
 ) -> Sums
     requires { ⌜ n ≤ 64 ⌝ }
     requires { ⌜ Weights plan (now weights) ⌝ }
-    requires { ⌜ Entries-bounded plan n (now prices) (now ages) ⌝ }
-    ensures { λ r. ⌜ r ≡ summed plan n (now (prices .entry)) (now (budgets .entry)) (now (plays .entry)) (now (turns .entry)) (now (ages .entry)) ⌝ }
+    requires { ⌜ Entries-bounded plan n (campaign-at (now terms) (now counts)) ⌝ }
+    ensures { λ r. ⌜ r ≡ summed plan n (campaign-at (now (terms .entry)) (now (counts .entry))) ⌝ }
 {
-    let spent = spend_all(n, prices, budgets, plays, turns);
+    let spent = spend_all(n, terms, counts);
     if !spent.within {
         return Sums::none();
     }
@@ -128,6 +119,6 @@ pub fn sum_all<'a>(
         budgets: spent.budgets,
         takings: spent.takings,
         turned: spent.turned,
-        waited: wait_all(n, plan, weights, prices, ages),
+        waited: wait_all(n, plan, weights, terms, counts),
     }
 }

@@ -1,4 +1,5 @@
--- One campaign: its whole plays, score and claim, what a view does to it, and what soundness asks of it. Depth is k, width d.
+-- One campaign: its whole plays, score and claim, what a view does to it, and what soundness asks of it. Depth is k,
+-- width d.
 use mathlib.Core.Bool.{Bool, true, false, _&&_}
 use mathlib.Core.List.{List}
 use Prim.Native.Nat.{ℕ, _+_, _-_, _*_, _/_, _^_}
@@ -35,7 +36,14 @@ claim k d c = c .price * (c .turns * share k d + weight k d (c .age) - weight k 
 
 -- the campaign with other counts, named once more (rule 4)
 abbrev pub named-again : Campaign → (plays turns age : ℕ) → Campaign
-named-again c p t a = record { price = c .price; budget = c .budget; plays = p; turns = t; age = a; named = c .named + 1 }
+named-again c p t a = record {
+  price = c .price;
+  budget = c .budget;
+  plays = p;
+  turns = t;
+  age = a;
+  named = c .named + 1;
+}
 
 -- rule 3: one of age more; if that makes k, one turn more and age 0
 abbrev pub aged : Bool → Campaign → Campaign
@@ -78,7 +86,8 @@ priced c = price-fits (c .price) && budget-fits (c .price) (c .budget)
 
 -- age < depth, plays ≤ whole plays, plays ≤ turns ≤ named ≤ accepted views
 unfoldable pub counted : Plan → (accepted : ℕ) → Campaign → Bool
-counted pl n c = ltb (c .age) (pl .depth) && leb (c .plays) (whole c) && leb (c .plays) (c .turns) && leb (c .turns) (c .named) && leb (c .named) n
+counted pl n c = ltb (c .age) (pl .depth) && leb (c .plays) (whole c) && leb (c .plays) (c .turns) &&
+    leb (c .turns) (c .named) && leb (c .named) n
 
 -- zero counts
 unfoldable pub uncounted : Campaign → Bool
@@ -97,6 +106,13 @@ untouched (Closed t) c = true
 unfoldable pub sound-campaign : Phase → Plan → (accepted : ℕ) → Campaign → Bool
 sound-campaign p pl n c = priced c && counted pl n c && untouched p c
 
--- the state holds campaigns in six parallel arrays; campaign i of them
-abbrev pub campaign-at : (prices budgets plays turns ages named : List ℕ) → ℕ → Campaign
-campaign-at p b l t a m i = record { price = getD p i 0; budget = getD b i 0; plays = getD l i 0; turns = getD t i 0; age = getD a i 0; named = getD m i 0 }
+-- the state holds campaigns by columns in two arrays; campaign i of them
+abbrev pub campaign-at : (terms counts : List ℕ) → ℕ → Campaign
+campaign-at t n i = record {
+  price = getD t i 0;
+  budget = getD t (i + 64) 0;
+  plays = getD n i 0;
+  turns = getD n (i + 64) 0;
+  age = getD n (i + 128) 0;
+  named = getD n (i + 192) 0;
+}

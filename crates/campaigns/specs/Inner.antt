@@ -1,5 +1,5 @@
--- Names for the contracts of the inner functions: the widths of the arrays, a play of a campaign that was taken to be passed
--- over, and the weights of a plan.
+-- Names for the contracts of the inner functions: the widths of the arrays, a play of a campaign that was taken to be
+-- passed over, and the weights of a plan.
 use mathlib.Core.Path.{_≡_}
 use mathlib.Core.Bool.{true, cond}
 use mathlib.Core.List.{List}
@@ -20,11 +20,23 @@ pub record Narrow (c : Campaign) : Type 0 where
   pub age-narrow : c .age < 65_536
   pub named-narrow : c .named < 65_536
 
--- the play of a campaign whose counts are those of one passed over: one turn more, unless an age that reached the depth has
--- brought it (`Laws.played-passed`: the same as rule 2)
+-- lent arrays have the entries that their types say
+pub record Room (terms counts : List ℕ) : Type 0 where
+  pub terms-length : length terms ≡ 128
+  pub counts-length : length counts ≡ 256
+
+-- the play of a campaign whose counts are those of one passed over: one turn more, unless an age that reached the depth
+-- has brought it (`Laws.played-passed`: the same as rule 2)
 abbrev pub played : Campaign → Campaign
 played c =
-    record { price = c .price; budget = c .budget; plays = c .plays + 1; turns = cond (eqb (c .age) 0) (c .turns) (c .turns + 1); age = 0; named = c .named }
+    record {
+      price = c .price;
+      budget = c .budget;
+      plays = c .plays + 1;
+      turns = cond (eqb (c .age) 0) (c .turns) (c .turns + 1);
+      age = 0;
+      named = c .named;
+    }
 
 -- 33 numbers, (d − 1)^(k − a) at each age a up to the depth
 pub record Falling (pl : Plan) (l : List ℕ) : Type 0 where

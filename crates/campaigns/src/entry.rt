@@ -3,7 +3,7 @@ use crate::Campaign;
 ghost use mathlib.Core.Path.{_≡_};
 ghost use Prim.Native.Nat.{_<_};
 ghost use Rattle.campaigns.specs.Campaign.{campaign-at};
-ghost use Rattle.campaigns.specs.Inner.{Narrow};
+ghost use Rattle.campaigns.specs.Inner.{Narrow, Room};
 
 pub fn wide32(x: u32) -> u64
     ensures { λ r. ⌜ (r ≡ x) × (r < 4294967296) ⌝ }
@@ -17,25 +17,17 @@ pub fn wide16(x: u16) -> u64
     x as u64
 }
 
-// Campaign i. `views::walk` and `views::play`, `Day::tally` and `reply`'s tallies keep i below 64.
-pub fn entry<'a>(
-    i: usize,
-    prices: &'a [u32; 64],
-    budgets: &'a [u32; 64],
-    plays: &'a [u16; 64],
-    turns: &'a [u16; 64],
-    ages: &'a [u16; 64],
-    named: &'a [u16; 64],
-) -> Campaign
+// Campaign i, read out of the six columns: none of its numbers is wider than its column.
+pub fn entry<'a>(i: usize, terms: &'a [u32; 128], counts: &'a [u16; 256]) -> Campaign
     requires { ⌜ i < 64 ⌝ }
-    ensures { λ r. ⌜ (r ≡ campaign-at (now (prices .entry)) (now (budgets .entry)) (now (plays .entry)) (now (turns .entry)) (now (ages .entry)) (now (named .entry)) i) × Narrow r ⌝ }
+    ensures { λ r. ⌜ (r ≡ campaign-at (now (terms .entry)) (now (counts .entry)) i) × Narrow r ⌝ }
 {
-    let price = wide32(prices[i]);
-    let budget = wide32(budgets[i]);
-    let play = wide16(plays[i]);
-    let turn = wide16(turns[i]);
-    let age = wide16(ages[i]);
-    let name = wide16(named[i]);
+    let price = wide32(terms[i]);
+    let budget = wide32(terms[i + 64]);
+    let play = wide16(counts[i]);
+    let turn = wide16(counts[i + 64]);
+    let age = wide16(counts[i + 128]);
+    let name = wide16(counts[i + 192]);
     Campaign {
         price: price,
         budget: budget,
@@ -44,4 +36,12 @@ pub fn entry<'a>(
         age: age,
         named: name,
     }
+}
+
+// The lengths that the types say, as a fact: a function that is lent two arrays knows them from a copy of each, which
+// the compiler never makes.
+pub fn sized(terms: [u32; 128], counts: [u16; 256]) -> bool
+    ensures { λ _. ⌜ Room terms counts ⌝ }
+{
+    true
 }

@@ -1,5 +1,6 @@
-// A plan, its phases and its campaigns: the rules for one campaign. Campaigns stand in parallel arrays of small integers,
-// which the passes over all of them, in `audit` and `views`, are lent.
+// A plan, its phases and its campaigns: the rules for one campaign. Campaigns stand by columns in two flat arrays of
+// small integers, which are lent: `terms` has the prices at i and the budgets at i + 64; `counts` has the plays, turns,
+// ages and named at i, i + 64, i + 128 and i + 192.
 pub mod entry;
 pub mod rules;
 pub mod weights;
@@ -26,6 +27,14 @@ pub enum Phase {
     Running,
     // with the final takings
     Closed(u64),
+}
+
+// A state but for its campaigns.
+pub struct Head {
+    pub phase: Phase,
+    pub plan: Plan,
+    pub count: u64,
+    pub accepted: u64,
 }
 
 // One campaign, read out of the arrays.

@@ -1,7 +1,9 @@
 -- The state: how its arrays hold the campaigns, and the states that the operations hand back.
+use mathlib.Core.List.{List, _++_}
 use Prim.Native.Nat.{ℕ}
 use Rattle.finite.specs.Finite.{sum, table}
 use Rattle.campaigns.specs.declared.Campaign.{Campaign}
+use Rattle.campaigns.specs.declared.Head.{Head}
 use Rattle.day.specs.declared.Day.{Day}
 use Rattle.campaigns.specs.declared.Phase.{Phase}
 use Rattle.campaigns.specs.declared.Phase.the-variants.{Closed}
@@ -12,7 +14,18 @@ use Rattle.campaigns.specs.View.{takings, claims}
 
 -- campaign i of the record
 abbrev pub campaign : Day → ℕ → Campaign
-campaign s i = campaign-at (s .prices) (s .budgets) (s .plays) (s .turns) (s .ages) (s .named) i
+campaign s i = campaign-at (s .terms) (s .counts) i
+
+-- the state of a head and two arrays
+abbrev pub state-of : Head → (terms counts : List ℕ) → Day
+state-of h t n = record {
+  phase = h .phase;
+  plan = h .plan;
+  count = h .count;
+  accepted = h .accepted;
+  terms = t;
+  counts = n;
+}
 
 -- the state that holds n campaigns, f i at entry i
 abbrev pub holding : Phase → Plan → (count accepted : ℕ) → (ℕ → Campaign) → Day
@@ -21,12 +34,9 @@ holding p pl n a f = record {
   plan = pl;
   count = n;
   accepted = a;
-  prices = table 64 (λ i. f i .price);
-  budgets = table 64 (λ i. f i .budget);
-  plays = table 64 (λ i. f i .plays);
-  turns = table 64 (λ i. f i .turns);
-  ages = table 64 (λ i. f i .age);
-  named = table 64 (λ i. f i .named);
+  terms = table 64 (λ i. f i .price) ++ table 64 (λ i. f i .budget);
+  counts = table 64 (λ i. f i .plays) ++
+      (table 64 (λ i. f i .turns) ++ (table 64 (λ i. f i .age) ++ table 64 (λ i. f i .named)));
 }
 
 -- the state s in another phase
@@ -36,12 +46,8 @@ in-phase s p = record {
   plan = s .plan;
   count = s .count;
   accepted = s .accepted;
-  prices = s .prices;
-  budgets = s .budgets;
-  plays = s .plays;
-  turns = s .turns;
-  ages = s .ages;
-  named = s .named;
+  terms = s .terms;
+  counts = s .counts;
 }
 
 -- an entry past the last is all zero

@@ -1,26 +1,28 @@
-// The day's record: its state and the six operations on it, each of which takes a state and hands back a state.
+// The day's record: its state and the six operations on it, which change the lent arrays of its campaigns where they
+// stand.
 pub mod ops;
+pub mod six;
+pub mod value;
 pub mod view;
 
+use campaigns::Head;
 use campaigns::Phase;
 use campaigns::Plan;
 use campaigns::Terms;
+use campaigns::View;
 ghost use mathlib.Core.Path.{_≡_};
-ghost use Rattle.day.specs.Day.{blank, planned};
-ghost use Rattle.day.specs.Calls.{refused};
+ghost use lib.ListN.{replicate};
+ghost use Rattle.day.specs.Day.{state-of, blank};
+ghost use Rattle.day.specs.Parts.{refusing};
 
-// The state. Its campaigns stand in parallel arrays of small integers, lent one by one to the passes that read them.
+// The whole state, for those who hold it by value. The operations take it by its head and its two arrays.
 pub struct Day {
     pub phase: Phase,
     pub plan: Plan,
     pub count: u64,
     pub accepted: u64,
-    pub prices: [u32; 64],
-    pub budgets: [u32; 64],
-    pub plays: [u16; 64],
-    pub turns: [u16; 64],
-    pub ages: [u16; 64],
-    pub named: [u16; 64],
+    pub terms: [u32; 128],
+    pub counts: [u16; 256],
 }
 
 pub enum Answer {
@@ -50,52 +52,41 @@ pub struct Outcome {
     pub answer: Answer,
 }
 
-impl Day {
-    // The limits, for callers; they are those of `Plan` and `Terms`.
-    pub const MAX_CAMPAIGNS: u64 = Plan::MAX_CAMPAIGNS;
+// The same of an operation in place: what changes of the campaigns has changed in the lent arrays.
+pub struct Step {
+    pub head: Head,
+    pub answer: Answer,
+}
 
-    pub const MAX_VIEWS: u64 = Plan::MAX_VIEWS;
+// What is asked of the day.
+pub enum Call {
+    Open(Plan),
+    Add(Terms),
+    Start,
+    Show(View),
+    Tally(u64),
+    Close,
+}
 
-    pub const MAX_DEPTH: u64 = Plan::MAX_DEPTH;
-
-    pub const MAX_WIDTH: u64 = Plan::MAX_WIDTH;
-
-    pub const MAX_PRICE: u64 = Terms::MAX_PRICE;
-
-    pub const MAX_BUDGET: u64 = Terms::MAX_BUDGET;
-
-    // A plan with no campaigns and zero counts.
-    fn planned(phase: Phase, plan: Plan) -> Self
-        ensures { λ r. ⌜ r ≡ planned phase plan ⌝ }
+impl Step {
+    pub fn refused(head: Head, question: u64) -> Step
+        ensures { λ r. ⌜ r ≡ refusing head question ⌝ }
     {
-        Self {
-            phase: phase,
-            plan: plan,
-            count: 0,
-            accepted: 0,
-            prices: [0; 64],
-            budgets: [0; 64],
-            plays: [0; 64],
-            turns: [0; 64],
-            ages: [0; 64],
-            named: [0; 64],
-        }
-    }
-
-    // The blank state: Closed, depth 1, width 1, no campaigns.
-    pub fn blank() -> Self
-        ensures { λ r. ⌜ r ≡ blank ⌝ }
-    {
-        Self::planned(Phase::Closed(0), Plan { depth: 1, width: 1 })
-    }
-
-    // The unchanged state and the number of the question that failed.
-    pub fn refused(self, question: u64) -> Outcome
-        ensures { λ r. ⌜ r ≡ refused self question ⌝ }
-    {
-        Outcome {
-            day: self,
+        Step {
+            head: head,
             answer: Answer::Refused(question),
         }
+    }
+}
+
+// The head of the blank state, whose arrays are all zero: Closed, depth 1, width 1, no campaigns.
+pub fn blank() -> Head
+    ensures { λ r. ⌜ state-of r (replicate 128 0) (replicate 256 0) ≡ blank ⌝ }
+{
+    Head {
+        phase: Phase::Closed(0),
+        plan: Plan { depth: 1, width: 1 },
+        count: 0,
+        accepted: 0,
     }
 }

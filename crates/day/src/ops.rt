@@ -1,19 +1,31 @@
-// Opening a plan, adding a campaign, starting the day, asking for a tally and closing.
+// Opening a plan, adding a campaign, starting the day, asking for a tally and closing, of a sound state; and any call
+// of any state, which is audited first. A loop that has audited its state once goes on with `obey_sound`.
 use crate::Answer;
-use crate::Day;
-use crate::Outcome;
+use crate::Call;
+use crate::Step;
+use crate::view::show_sound;
 use audit::Audit;
+use campaigns::Head;
 use campaigns::Phase;
 use campaigns::Plan;
 use campaigns::Terms;
+use campaigns::entry::entry;
+use campaigns::entry::sized;
+use campaigns::entry::wide32;
+use campaigns::weights::weights;
 ghost use mathlib.Core.Path.{_≡_};
-ghost use Rattle.day.specs.Day.{in-phase};
-ghost use Rattle.day.specs.Calls.{first-no, questions, result, call};
+ghost use Prim.Native.Nat.{_≤_};
+ghost use Rattle.finite.specs.Finite.{sum};
+ghost use Rattle.campaigns.specs.Campaign.{campaign-at};
+ghost use Rattle.campaigns.specs.Inner.{Room, Weights};
+ghost use Rattle.day.specs.Day.{state-of};
+ghost use Rattle.day.specs.Calls.{first-no, call};
 ghost use Rattle.day.specs.Calls.Call.{open-plan, add-campaign, start-day, ask-tally, close-day};
-ghost use Rattle.day.specs.Parts.{audited};
-ghost use Rattle.day.specs.Inner.{plan-questions, Joinable};
+ghost use Rattle.day.specs.Parts.{audited, outcome-of, Kept, Ready, asked};
+ghost use Rattle.day.specs.Inner.{plan-questions, add-questions};
 
-// The number of the first of questions 3 to 5 that a plan fails, or 0; the last is looked up in the table.
+// The number of the first of questions 3 to 5 that a plan fails, or 0. The last is looked up in the table, unless
+// `deepest` already tells yes: a constant table is written to the stack at each use.
 fn plan_question(plan: Plan) -> u64
     ensures { λ r. ⌜ r ≡ first-no (plan-questions plan) ⌝ }
 {
@@ -23,218 +35,276 @@ fn plan_question(plan: Plan) -> u64
     if !plan.width_fits() {
         return 4;
     }
+    if plan.depth <= powers::deepest(plan.width) {
+        return 0;
+    }
     if powers::power(plan.width, plan.depth) == 0 {
         return 5;
     }
     0
 }
 
-impl Day {
-    // Whether the state is sound and, if so, its sums.
-    pub fn audit(self) -> Audit
-        ensures { λ r. ⌜ r ≡ audited self ⌝ }
-    {
-        let phase = self.phase;
-        let plan = self.plan;
-        if !audit::limits_hold(plan, self.count, self.accepted) {
-            return Audit::unsound();
-        }
-        let weights = campaigns::weights::weights(plan);
-        audit::examine(
-            phase,
-            plan,
-            self.count,
-            self.accepted,
-            &weights,
-            &self.prices,
-            &self.budgets,
-            &self.plays,
-            &self.turns,
-            &self.ages,
-            &self.named,
-        )
+// Whether the state is sound and, if so, its sums.
+pub fn audited<'a>(head: Head, terms: &'a [u32; 128], counts: &'a [u16; 256]) -> Audit
+    ensures { λ r. ⌜ r ≡ audited (state-of head (now (terms .entry)) (now (counts .entry))) ⌝ }
+{
+    if !audit::limits_hold(head) {
+        return Audit::unsound();
     }
+    let plan = head.plan;
+    let list = weights(plan);
+    audit::examine(head, &list, terms, counts)
+}
 
-    // The state in another phase.
-    fn in_phase(self, phase: Phase) -> Day
-        ensures { λ r. ⌜ r ≡ in-phase self phase ⌝ }
-    {
-        let plan = self.plan;
-        let prices = self.prices;
-        let budgets = self.budgets;
-        let plays = self.plays;
-        let turns = self.turns;
-        let ages = self.ages;
-        let named = self.named;
-        Day {
+// A new plan with no campaigns, in Filling.
+pub fn open_sound<'a>(
+    head: Head,
+    plan: Plan,
+    terms: &'a mut [u32; 128],
+    counts: &'a mut [u16; 256],
+) -> Step
+    requires { ⌜ Kept head (now terms) (now counts) ⌝ }
+    ensures { λ r. ⌜ outcome-of r (now (terms .exit)) (now (counts .exit))
+        ≡ call (state-of head (now (terms .entry)) (now (counts .entry))) (open-plan plan) ⌝ }
+{
+    let phase = head.phase;
+    if !phase.closed() {
+        return Step::refused(head, 2);
+    }
+    let question = plan_question(plan);
+    if question != 0 {
+        return Step::refused(head, question);
+    }
+    *terms = [0; 128];
+    *counts = [0; 256];
+    Step {
+        head: Head {
+            phase: Phase::Filling,
+            plan: plan,
+            count: 0,
+            accepted: 0,
+        },
+        answer: Answer::Done,
+    }
+}
+
+// The sum of the budgets.
+fn budgeted<'a>(n: usize, terms: &'a [u32; 128], counts: &'a [u16; 256]) -> u64
+    requires { ⌜ n ≤ 64 ⌝ }
+    ensures { λ r. ⌜ (r ≡ sum n (λ i. campaign-at (now (terms .entry)) (now (counts .entry)) i .budget))
+        × (r ≤ 274877906944) ⌝ }
+{
+    let mut all: u64 = 0;
+    for i in 0..n {
+        all = all + wide32(terms[i + 64]);
+    }
+    all
+}
+
+// The number of the first of questions 6 to 10 that an adding fails, or 0.
+fn add_question(head: Head, t: Terms, budgets: u64) -> u64
+    requires { ⌜ budgets ≤ 274877906944 ⌝ }
+    ensures { λ r. ⌜ r ≡ first-no (add-questions head t budgets) ⌝ }
+{
+    let phase = head.phase;
+    if !phase.filling() {
+        return 6;
+    }
+    if Plan::MAX_CAMPAIGNS <= head.count {
+        return 7;
+    }
+    if !t.price_fits() {
+        return 8;
+    }
+    if !t.budget_fits() {
+        return 9;
+    }
+    if Terms::MAX_BUDGET < budgets + t.budget {
+        return 10;
+    }
+    0
+}
+
+// One campaign more, with zero counts.
+pub fn add_sound<'a>(
+    head: Head,
+    t: Terms,
+    terms: &'a mut [u32; 128],
+    counts: &'a [u16; 256],
+) -> Step
+    requires { ⌜ Kept head (now terms) (now counts) ⌝ }
+    ensures { λ r. ⌜ outcome-of r (now (terms .exit)) (now (counts .entry))
+        ≡ call (state-of head (now (terms .entry)) (now (counts .entry))) (add-campaign t) ⌝ }
+{
+    let at = head.count as usize;
+    let budgets = budgeted(at, terms, counts);
+    let question = add_question(head, t, budgets);
+    if question != 0 {
+        return Step::refused(head, question);
+    }
+    terms[at] = t.price as u32;
+    terms[at + 64] = t.budget as u32;
+    let phase = head.phase;
+    let plan = head.plan;
+    Step {
+        head: Head {
             phase: phase,
             plan: plan,
-            count: self.count,
-            accepted: self.accepted,
-            prices: prices,
-            budgets: budgets,
-            plays: plays,
-            turns: turns,
-            ages: ages,
-            named: named,
-        }
+            count: head.count + 1,
+            accepted: head.accepted,
+        },
+        answer: Answer::Done,
     }
+}
 
-    // The number of the first question that an opening fails, or 0.
-    fn open_question(self, plan: Plan) -> u64
-        ensures { λ r. ⌜ r ≡ first-no (questions self (open-plan plan)) ⌝ }
-    {
-        let audit = self.audit();
-        if !audit.sound {
-            return 1;
-        }
-        let phase = self.phase;
-        if !phase.closed() {
-            return 2;
-        }
-        plan_question(plan)
+// The day starts: no campaign is added from now on.
+pub fn start_sound<'a>(head: Head, terms: &'a [u32; 128], counts: &'a [u16; 256]) -> Step
+    requires { ⌜ Kept head (now terms) (now counts) ⌝ }
+    ensures { λ r. ⌜ outcome-of r (now (terms .entry)) (now (counts .entry))
+        ≡ call (state-of head (now (terms .entry)) (now (counts .entry))) start-day ⌝ }
+{
+    let phase = head.phase;
+    if !phase.filling() {
+        return Step::refused(head, 6);
     }
+    let plan = head.plan;
+    Step {
+        head: Head {
+            phase: Phase::Running,
+            plan: plan,
+            count: head.count,
+            accepted: head.accepted,
+        },
+        answer: Answer::Done,
+    }
+}
 
-    // A new plan with no campaigns, in Filling.
-    pub fn open(self, plan: Plan) -> Outcome
-        ensures { λ r. ⌜ r ≡ call self (open-plan plan) ⌝ }
-    {
-        let question = self.open_question(plan);
-        if question != 0 {
-            return self.refused(question);
-        }
-        let day = Day::planned(Phase::Filling, plan);
-        Outcome {
-            day: day,
-            answer: Answer::Done,
-        }
+// The four counts of a campaign; the state stays.
+pub fn tally_sound<'a>(
+    head: Head,
+    campaign: u64,
+    terms: &'a [u32; 128],
+    counts: &'a [u16; 256],
+) -> Step
+    requires { ⌜ Kept head (now terms) (now counts) ⌝ }
+    ensures { λ r. ⌜ outcome-of r (now (terms .entry)) (now (counts .entry))
+        ≡ call (state-of head (now (terms .entry)) (now (counts .entry))) (ask-tally campaign) ⌝ }
+{
+    if head.count <= campaign {
+        return Step::refused(head, 15);
     }
+    let at = campaign as usize;
+    let c = entry(at, terms, counts);
+    Step {
+        head: head,
+        answer: Answer::Tallied {
+            plays: c.plays,
+            turns: c.turns,
+            age: c.age,
+            named: c.named,
+        },
+    }
+}
 
-    // The number of the first question that an adding fails, or 0.
-    fn add_question(self, terms: Terms) -> u64
-        ensures { λ r. ⌜ r ≡ first-no (questions self (add-campaign terms)) ⌝ }
-    {
-        let audit = self.audit();
-        if !audit.sound {
-            return 1;
-        }
-        let phase = self.phase;
-        if !phase.filling() {
-            return 6;
-        }
-        if Day::MAX_CAMPAIGNS <= self.count {
-            return 7;
-        }
-        if !terms.price_fits() {
-            return 8;
-        }
-        if !terms.budget_fits() {
-            return 9;
-        }
-        if Day::MAX_BUDGET < audit.budgets + terms.budget {
-            return 10;
-        }
-        0
+// The day closes with its takings, total claim and full.
+pub fn close_sound<'a>(
+    head: Head,
+    list: &'a [u64; 33],
+    terms: &'a [u32; 128],
+    counts: &'a [u16; 256],
+) -> Step
+    requires { ⌜ Weights (head .plan) (now list) ⌝ }
+    requires { ⌜ Kept head (now terms) (now counts) ⌝ }
+    ensures { λ r. ⌜ outcome-of r (now (terms .entry)) (now (counts .entry))
+        ≡ call (state-of head (now (terms .entry)) (now (counts .entry))) close-day ⌝ }
+{
+    let phase = head.phase;
+    if !phase.running() {
+        return Step::refused(head, 11);
     }
+    let plan = head.plan;
+    // a copy made here, so that no other operation has to keep its head in memory
+    let copy = Head {
+        phase: phase,
+        plan: plan,
+        count: head.count,
+        accepted: head.accepted,
+    };
+    let audit = audit::examine(copy, list, terms, counts);
+    Step {
+        head: Head {
+            phase: Phase::Closed(audit.takings),
+            plan: plan,
+            count: head.count,
+            accepted: head.accepted,
+        },
+        answer: Answer::Closing {
+            takings: audit.takings,
+            claim: audit.claim,
+            full: audit.full,
+        },
+    }
+}
 
-    // The state with one campaign more, for which there is room.
-    fn joined(mut self, terms: Terms) -> Day
-        requires { ⌜ Joinable self terms ⌝ }
-        ensures { λ r. ⌜ r ≡ result self (add-campaign terms) .day ⌝ }
-    {
-        let at = self.count as usize;
-        self.prices[at] = terms.price as u32;
-        self.budgets[at] = terms.budget as u32;
-        self.count = self.count + 1;
-        self
+// A call of a sound state.
+pub fn obey_sound<'a>(
+    head: Head,
+    ask: Call,
+    weights: &'a [u64; 33],
+    terms: &'a mut [u32; 128],
+    counts: &'a mut [u16; 256],
+) -> Step
+    requires { ⌜ Weights (head .plan) (now weights) ⌝ }
+    requires { ⌜ Kept head (now terms) (now counts) ⌝ }
+    ensures { λ r. ⌜ outcome-of r (now (terms .exit)) (now (counts .exit))
+        ≡ call (state-of head (now (terms .entry)) (now (counts .entry))) (asked ask) ⌝ }
+{
+    match ask {
+        Call::Open(plan) => open_sound(head, plan, terms, counts),
+        Call::Add(t) => add_sound(head, t, terms, counts),
+        Call::Start => start_sound(head, terms, counts),
+        Call::Show(view) => show_sound(head, view, weights, terms, counts),
+        Call::Tally(campaign) => tally_sound(head, campaign, terms, counts),
+        Call::Close => close_sound(head, weights, terms, counts),
     }
+}
 
-    // One campaign more, with zero counts.
-    pub fn add(self, terms: Terms) -> Outcome
-        ensures { λ r. ⌜ r ≡ call self (add-campaign terms) ⌝ }
-    {
-        let question = self.add_question(terms);
-        if question != 0 {
-            return self.refused(question);
-        }
-        let day = self.joined(terms);
-        Outcome {
-            day: day,
-            answer: Answer::Done,
-        }
+// Whether the state is sound; where it is, the list gets the weights of its plan.
+pub fn prepare<'a>(
+    head: Head,
+    list: &'a mut [u64; 33],
+    terms: &'a [u32; 128],
+    counts: &'a [u16; 256],
+) -> bool
+    requires { ⌜ Room (now terms) (now counts) ⌝ }
+    ensures { λ r. ⌜ Ready r head (now (list .exit)) (now (terms .entry)) (now (counts .entry)) ⌝ }
+{
+    if !audit::limits_hold(head) {
+        return false;
     }
+    let plan = head.plan;
+    let all = weights(plan);
+    *list = all;
+    let audit = audit::examine(head, list, terms, counts);
+    audit.sound
+}
 
-    // The day starts: no campaign is added from now on.
-    pub fn start(self) -> Outcome
-        ensures { λ r. ⌜ r ≡ call self start-day ⌝ }
-    {
-        let audit = self.audit();
-        if !audit.sound {
-            return self.refused(1);
-        }
-        let phase = self.phase;
-        if !phase.filling() {
-            return self.refused(6);
-        }
-        let day = self.in_phase(Phase::Running);
-        Outcome {
-            day: day,
-            answer: Answer::Done,
-        }
+// A call of any state.
+pub fn obey<'a>(
+    head: Head,
+    ask: Call,
+    terms: &'a mut [u32; 128],
+    counts: &'a mut [u16; 256],
+) -> Step
+    ensures { λ r. ⌜ outcome-of r (now (terms .exit)) (now (counts .exit))
+        ≡ call (state-of head (now (terms .entry)) (now (counts .entry))) (asked ask) ⌝ }
+{
+    let all_terms = *terms;
+    let all_counts = *counts;
+    sized(all_terms, all_counts);
+    let mut list: [u64; 33] = [0; 33];
+    if !prepare(head, &mut list, terms, counts) {
+        return Step::refused(head, 1);
     }
-
-    // The four counts of a campaign; the state stays.
-    pub fn tally(self, campaign: u64) -> Outcome
-        ensures { λ r. ⌜ r ≡ call self (ask-tally campaign) ⌝ }
-    {
-        let audit = self.audit();
-        if !audit.sound {
-            return self.refused(1);
-        }
-        if self.count <= campaign {
-            return self.refused(15);
-        }
-        let at = campaign as usize;
-        let c = campaigns::entry::entry(
-            at,
-            &self.prices,
-            &self.budgets,
-            &self.plays,
-            &self.turns,
-            &self.ages,
-            &self.named,
-        );
-        Outcome {
-            day: self,
-            answer: Answer::Tallied {
-                plays: c.plays,
-                turns: c.turns,
-                age: c.age,
-                named: c.named,
-            },
-        }
-    }
-
-    // The day closes with its takings, total claim and full.
-    pub fn close(self) -> Outcome
-        ensures { λ r. ⌜ r ≡ call self close-day ⌝ }
-    {
-        let audit = self.audit();
-        if !audit.sound {
-            return self.refused(1);
-        }
-        let phase = self.phase;
-        if !phase.running() {
-            return self.refused(11);
-        }
-        let day = self.in_phase(Phase::Closed(audit.takings));
-        Outcome {
-            day: day,
-            answer: Answer::Closing {
-                takings: audit.takings,
-                claim: audit.claim,
-                full: audit.full,
-            },
-        }
-    }
+    obey_sound(head, ask, &list, terms, counts)
 }

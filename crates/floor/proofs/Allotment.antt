@@ -1,4 +1,4 @@
--- The double count of an allotment.
+-- The takings of an allotment, summed over the views, are price × how often it is given one, summed over the campaigns.
 use mathlib.Core.Path.{_≡_, refl, ap, sym, _∙_}
 use mathlib.Core.Bool.{Bool, true, false, cond}
 use Prim.Native.Nat.{ℕ, zero, suc, _+_, _*_, _≤_}

@@ -1,4 +1,5 @@
--- Demand 3.
+-- Demand 3: an allotment takes at most what is due, the total claim reaches the share of what is due, and it is at most
+-- full; so the share of every allotment's takings is at most d^k × the day's takings.
 use mathlib.Core.Path.{_≡_, refl, ap, sym, _∙_, subst}
 use mathlib.Core.Bool.{Bool, true, false, cond}
 use mathlib.Core.List.{List}
@@ -23,8 +24,8 @@ use Rattle.day.specs.Sound.{sound}
 use Rattle.campaigns.specs.Phase.{phase-holds}
 use Rattle.day.specs.Calls.{Call}
 use Rattle.day.proofs.State.{Sound, sound-facts, held-at}
-use Rattle.laws.specs.Transcript.{transcript, final}
-use Rattle.laws.proofs.Laws.{claim-of, claim-turns}
+use Rattle.demands.specs.Transcript.{transcript, final}
+use Rattle.demands.proofs.Laws.{claim-of, claim-turns}
 use Rattle.floor.specs.History.{Starts, History, history}
 use Rattle.floor.specs.Allotment.{takings-of, times}
 use Rattle.floor.specs.Floor.{trace, price-of, whole-of, falls-short, unstruck, Allotted, Covered, Floor, Demand-3}

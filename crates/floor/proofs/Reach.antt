@@ -32,11 +32,11 @@ use Rattle.day.specs.Calls.{number, Call, questions, joined, player, offers, sh
 use Rattle.day.specs.Calls.Call.{open-plan, add-campaign, start-day, show-view, ask-tally, close-day}
 use Rattle.day.proofs.Questions.{Yes, call-elim}
 use Rattle.day.proofs.State.{Sound, sound-facts, held-at, campaign-holding}
-use Rattle.laws.specs.Transcript.{transcript, final}
-use Rattle.laws.proofs.Step.{takings-step}
-use Rattle.laws.proofs.Holding.{sum-holding, joined-old, joined-new, takings-joined}
-use Rattle.laws.proofs.Sound.{blank-sound, sound-kept, opening-sound}
-use Rattle.laws.proofs.Refusals.{result-number}
+use Rattle.demands.specs.Transcript.{transcript, final}
+use Rattle.demands.proofs.Step.{takings-step}
+use Rattle.demands.proofs.Holding.{sum-holding, joined-old, joined-new, takings-joined}
+use Rattle.demands.proofs.Sound.{blank-sound, sound-kept, opening-sound}
+use Rattle.demands.proofs.Refusals.{result-number}
 use Rattle.floor.specs.History.{accepted, Starts, History, opening, paid-in, with-call, entered, continued, history}
 use Rattle.floor.specs.History.Starts.{from-blank, from-opening}
 use Rattle.floor.specs.Floor.{trace}

@@ -17,7 +17,7 @@ use Rattle.campaigns.specs.View.{names, full}
 use Rattle.day.specs.Day.{blank, taken, claimed, budgeted}
 use Rattle.day.specs.Sound.{sound}
 use Rattle.day.specs.Calls.{first-no, width-holds, call}
-use Rattle.laws.specs.Transcript.{transcript}
+use Rattle.demands.specs.Transcript.{transcript}
 use Rattle.floor.specs.History.{History, continued, history}
 use Rattle.floor.specs.History.Starts.{from-blank}
 use Rattle.floor.specs.Allotment.{times, view-at, takings-of}

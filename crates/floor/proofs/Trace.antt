@@ -15,7 +15,7 @@ use Rattle.campaigns.specs.Choice.{role-of}
 use Rattle.campaigns.specs.Campaign.{whole, can-pay, aged, after, fresh}
 use Rattle.campaigns.specs.View.{names, pays, becomes}
 use Rattle.audit.proofs.Totals.{Held}
-use Rattle.laws.proofs.Laws.{Steady}
+use Rattle.demands.proofs.Laws.{Steady}
 use Rattle.floor.specs.Floor.{Trace}
 
 -- while a campaign can pay, every view that named it is in a finished turn or in its age

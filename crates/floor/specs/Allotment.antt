@@ -21,7 +21,8 @@ view-at vs j = getD vs j no-view
 abbrev pub times : (m : ℕ) → (ℕ → ℕ) → ℕ → ℕ
 times m to i = count m (λ j. eqb (to j) i)
 
--- each view goes to nobody, written 64, or to one campaign that it names, and no campaign is given more than its whole plays
+-- each view goes to nobody, written 64, or to one campaign that it names, and no campaign is given more than its whole
+-- plays
 pub record Allotment (n : ℕ) (whole : ℕ → ℕ) (vs : List View) (to : ℕ → ℕ) : Type 0 where
   pub given : (j : ℕ) → j < length vs → (to j ≡ 64) ⊎ (names (view-at vs j) (to j) ≡ true)
   pub bought : (i : ℕ) → i < n → times (length vs) to i ≤ whole i

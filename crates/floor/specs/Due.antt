@@ -9,7 +9,7 @@ use Rattle.day.specs.declared.Day.{Day}
 use Rattle.day.specs.Day.{campaign, claimed}
 use Rattle.campaigns.specs.View.{full}
 use Rattle.day.specs.Calls.{Call}
-use Rattle.laws.specs.Transcript.{transcript, final}
+use Rattle.demands.specs.Transcript.{transcript, final}
 use Rattle.floor.specs.History.{History, Starts, history}
 use Rattle.floor.specs.Floor.{trace, price-of, whole-of}
 
@@ -23,7 +23,8 @@ pub record Dues (h : History) (s : Day) : Type 0 where
   pub named-is : (i : ℕ) → i < length (h .terms) → campaign s i .named ≡ trace h i .named
   pub turns-enough : (i : ℕ) → i < length (h .terms) → due h i ≤ campaign s i .turns
   -- the total claim lies between (d^k − (d−1)^k) × the prices of what is due and full
-  pub claims-enough : share (h .plan .depth) (h .plan .width) * sum (length (h .terms)) (λ i. price-of h i * due h i) ≤ claimed s
+  pub claims-enough : share (h .plan .depth) (h .plan .width) * sum (length (h .terms)) (λ i. price-of h i * due h i) ≤
+      claimed s
   pub claims-most : claimed s ≤ full (h .plan) (h .paid)
 
 abbrev pub At-every-moment : Type 0

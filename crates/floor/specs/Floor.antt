@@ -14,11 +14,12 @@ use Rattle.campaigns.specs.View.{names, full}
 use Rattle.day.specs.declared.Day.{Day}
 use Rattle.day.specs.Day.{no-terms, taken}
 use Rattle.day.specs.Calls.{Call}
-use Rattle.laws.specs.Transcript.{transcript, final}
+use Rattle.demands.specs.Transcript.{transcript, final}
 use Rattle.floor.specs.History.{History, Starts, history}
 use Rattle.floor.specs.Allotment.{Allotment, takings-of}
 
--- what was handed in about campaign i: its price and budget, and how many of the day's views named it, also after it is spent
+-- what was handed in about campaign i: its price and budget, and how many of the day's views named it, also after it is
+-- spent
 pub record Trace : Type 0 where
   pub terms : Terms
   pub named : ℕ
@@ -44,14 +45,16 @@ unstruck h i = cond (falls-short h i) 0 (price-of h i)
 abbrev pub Allotted : History → (ℕ → ℕ) → Type 0
 Allotted h to = Allotment (length (h .terms)) (whole-of h) (h .views) to
 
--- (width to the power depth, less (width − 1) to the power depth) × an amount is at most width to the power depth × the day's takings
+-- (width to the power depth, less (width − 1) to the power depth) × an amount is at most width to the power depth × the
+-- day's takings
 abbrev pub Covered : History → ℕ → Type 0
 Covered h x = share (h .plan .depth) (h .plan .width) * x ≤ full (h .plan) (h .paid)
 
 -- the day h, at whose end the state is s
 pub record Floor (h : History) (s : Day) : Type 0 where
   -- provided that no campaign falls short, the takings of every allotment are covered
-  pub floor : ((i : ℕ) → i < length (h .terms) → falls-short h i ≡ false) → (to : ℕ → ℕ) → Allotted h to → Covered h (takings-of (price-of h) (h .views) to)
+  pub floor : ((i : ℕ) → i < length (h .terms) → falls-short h i ≡ false) → (to : ℕ → ℕ) → Allotted h to
+      → Covered h (takings-of (price-of h) (h .views) to)
   -- in any case they are without the part of the campaigns that fall short
   pub struck : (to : ℕ → ℕ) → Allotted h to → Covered h (takings-of (unstruck h) (h .views) to)
   -- the takings of the state, and those that its phase holds if it is Closed, are the day's takings

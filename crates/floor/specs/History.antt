@@ -13,7 +13,7 @@ use Rattle.day.specs.declared.Day.{Day}
 use Rattle.day.specs.Day.{blank-plan, blank}
 use Rattle.day.specs.Calls.{number, Call, call}
 use Rattle.day.specs.Calls.Call.{open-plan, add-campaign, start-day, show-view, ask-tally, close-day}
-use Rattle.laws.specs.Transcript.{Exchange}
+use Rattle.demands.specs.Transcript.{Exchange}
 
 -- a call is accepted when it isn't refused: its answer has no question's number
 abbrev pub accepted : Answer → Bool
@@ -22,10 +22,12 @@ accepted a = eqb (number a) 0
 -- the first call is given the blank state or, where it is an opening that is accepted, any state
 pub data Starts : Day → List Call → Type 0 where
   from-blank : (cs : List Call) → Starts blank cs
-  from-opening : (s : Day) (pl : Plan) (cs : List Call) → accepted (call s (open-plan pl) .answer) ≡ true → Starts s (open-plan pl ∷ cs)
+  from-opening : (s : Day) (pl : Plan) (cs : List Call) → accepted (call s (open-plan pl) .answer) ≡ true
+      → Starts s (open-plan pl ∷ cs)
 
 -- the day: the last accepted opening with the accepted calls after it. Depth and width are those handed to the opening,
--- price and budget those handed to the accepted adding, a view is the set handed in, and paid is the sum of the prices in the answers.
+-- price and budget those handed to the accepted adding, a view is the set handed in, and paid is the sum of the prices
+-- in the answers.
 pub record History : Type 0 where
   pub plan : Plan
   pub terms : List Terms
@@ -47,9 +49,19 @@ paid-in (Closing t c f) = 0
 -- the day with an accepted call more
 abbrev pub with-call : History → Call → Answer → History
 with-call h (open-plan pl) a = opening pl
-with-call h (add-campaign t) a = record { plan = h .plan; terms = h .terms ++ (t ∷ []); views = h .views; paid = h .paid }
+with-call h (add-campaign t) a = record {
+  plan = h .plan;
+  terms = h .terms ++ (t ∷ []);
+  views = h .views;
+  paid = h .paid;
+}
 with-call h start-day a = h
-with-call h (show-view w) a = record { plan = h .plan; terms = h .terms; views = h .views ++ (w ∷ []); paid = h .paid + paid-in a }
+with-call h (show-view w) a = record {
+  plan = h .plan;
+  terms = h .terms;
+  views = h .views ++ (w ∷ []);
+  paid = h .paid + paid-in a;
+}
 with-call h (ask-tally i) a = h
 with-call h close-day a = h
 

@@ -1,4 +1,5 @@
--- A day with a campaign that falls short, on which the floor fails unless its part is struck out: demand 3's proviso is needed.
+-- A day with a campaign that falls short, on which the floor fails unless its part is struck out: demand 3's proviso is
+-- needed.
 use mathlib.Core.Path.{_≡_}
 use mathlib.Core.Bool.{true, false}
 use mathlib.Core.List.{List, [], _∷_}
@@ -7,8 +8,8 @@ use lib.ListN.{getD}
 use Rattle.day.specs.Day.{blank}
 use Rattle.day.specs.Calls.{Call}
 use Rattle.day.specs.Calls.Call.{start-day, close-day}
-use Rattle.laws.specs.Transcript.{transcript}
-use Rattle.laws.specs.Cases.{plan, campaign-of, view}
+use Rattle.demands.specs.Transcript.{transcript}
+use Rattle.demands.specs.Cases.{plan, campaign-of, view}
 use Rattle.floor.specs.History.{Starts, History, history}
 use Rattle.floor.specs.Allotment.{takings-of}
 use Rattle.floor.specs.Floor.{price-of, unstruck, falls-short, Allotted, Covered}
@@ -24,7 +25,8 @@ short-day = history (transcript blank short-calls)
 abbrev pub short-to : ℕ → ℕ
 short-to j = getD (1 ∷ 0 ∷ []) j 64
 
--- campaign 0 was named often enough, campaign 1 was not; the allotment's takings are not covered, those without campaign 1's part are
+-- campaign 0 was named often enough, campaign 1 was not; the allotment's takings are not covered, those without
+-- campaign 1's part are
 pub record Proviso-needed : Type 0 where
   pub starts : Starts blank short-calls
   pub allotted : Allotted short-day short-to

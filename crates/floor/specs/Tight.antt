@@ -9,8 +9,8 @@ use Rattle.day.specs.Day.{blank}
 use Rattle.campaigns.specs.View.{full}
 use Rattle.day.specs.Calls.{Call}
 use Rattle.day.specs.Calls.Call.{start-day}
-use Rattle.laws.specs.Transcript.{transcript}
-use Rattle.laws.specs.Cases.{plan, campaign-of, view}
+use Rattle.demands.specs.Transcript.{transcript}
+use Rattle.demands.specs.Cases.{plan, campaign-of, view}
 use Rattle.floor.specs.History.{Starts, History, history}
 use Rattle.floor.specs.Allotment.{takings-of}
 use Rattle.floor.specs.Floor.{price-of, falls-short, Allotted}
@@ -37,9 +37,32 @@ exact-days =
     -- {0, 1} plays 0; {0} plays nobody, and an allotment gives 1 the first view and 0 the second
     record { depth = 1; width = 2; campaigns = 2; views = 3 ∷ 1 ∷ []; paid = 1; to = 1 ∷ 0 ∷ [] } ∷
     -- each round sets campaigns of equal age against each other; the last one never plays
-    record { depth = 2; width = 2; campaigns = 4; views = 3 ∷ 12 ∷ 10 ∷ 1 ∷ 4 ∷ []; paid = 3; to = 1 ∷ 3 ∷ 64 ∷ 0 ∷ 2 ∷ [] } ∷
-    record { depth = 3; width = 2; campaigns = 8; views = 3 ∷ 12 ∷ 48 ∷ 192 ∷ 10 ∷ 160 ∷ 136 ∷ 5 ∷ 5 ∷ 80 ∷ 80 ∷ 34 ∷ []; paid = 7; to = 1 ∷ 3 ∷ 5 ∷ 7 ∷ 64 ∷ 64 ∷ 64 ∷ 0 ∷ 2 ∷ 4 ∷ 6 ∷ 64 ∷ [] } ∷
-    record { depth = 2; width = 3; campaigns = 9; views = 7 ∷ 56 ∷ 448 ∷ 146 ∷ 292 ∷ 73 ∷ 73 ∷ 73 ∷ 6 ∷ []; paid = 5; to = 1 ∷ 4 ∷ 8 ∷ 7 ∷ 5 ∷ 0 ∷ 3 ∷ 6 ∷ 2 ∷ [] } ∷
+    record {
+      depth = 2;
+      width = 2;
+      campaigns = 4;
+      views = 3 ∷ 12 ∷ 10 ∷ 1 ∷ 4 ∷ [];
+      paid = 3;
+      to = 1 ∷ 3 ∷ 64 ∷ 0 ∷ 2 ∷
+          [];
+    } ∷
+    record {
+      depth = 3;
+      width = 2;
+      campaigns = 8;
+      views = 3 ∷ 12 ∷ 48 ∷ 192 ∷ 10 ∷ 160 ∷ 136 ∷ 5 ∷ 5 ∷ 80 ∷ 80 ∷ 34 ∷
+          [];
+      paid = 7;
+      to = 1 ∷ 3 ∷ 5 ∷ 7 ∷ 64 ∷ 64 ∷ 64 ∷ 0 ∷ 2 ∷ 4 ∷ 6 ∷ 64 ∷ [];
+    } ∷
+    record {
+      depth = 2;
+      width = 3;
+      campaigns = 9;
+      views = 7 ∷ 56 ∷ 448 ∷ 146 ∷ 292 ∷ 73 ∷ 73 ∷ 73 ∷ 6 ∷ [];
+      paid = 5;
+      to = 1 ∷ 4 ∷ 8 ∷ 7 ∷ 5 ∷ 0 ∷ 3 ∷ 6 ∷ 2 ∷ [];
+    } ∷
     []
 
 -- its calls
@@ -53,4 +76,5 @@ calls-of x = plan (x .depth) (x .width) ∷ adding (x .campaigns) (start-day ∷
 -- its calls are a list of demand 3, and their day meets the floor exactly
 abbrev pub Tight : List Exact → Type 0
 Tight [] = Unit {0}
-Tight (x ∷ xs) = (Starts blank (calls-of x) × Met (history (transcript blank (calls-of x))) (λ j. getD (x .to) j 64)) × Tight xs
+Tight (x ∷ xs) = (Starts blank (calls-of x) × Met (history (transcript blank (calls-of x))) (λ j. getD (x .to) j 64))
+    × Tight xs

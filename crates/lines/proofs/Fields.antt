@@ -1,6 +1,5 @@
--- A form is read field by field, a word and the slot behind it. `reads` turns what the code saw, for any number of
--- slots, into what holding the line to the form's template gives: a form's proof cites it with its fields.
--- The idea: a template is its first word, its first slot and the rest, and a line held to it is held to these in turn.
+-- `reads` turns what the code saw of a form, field by field, into what holding the line to the form's template gives:
+-- a template is its first word, its first slot and the rest, and a line held to it is held to these in turn.
 use mathlib.Core.Path.{_≡_, refl, sym, ap, ap₂, _∙_}
 use mathlib.Core.Bool.{Bool, true, false, cond, _||_}
 use mathlib.Core.List.{List, [], _∷_}

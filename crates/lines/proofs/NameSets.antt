@@ -1,6 +1,5 @@
--- The names of a set are read as that set, and what is read as a set is its names.
--- Both go name by name: a set with a name above all of its members is the sum with that name's power of two, and its
--- names are the others' with that one behind them.
+-- The names of a set are read as that set, and what is read as a set is its names. Both go name by name: a set with a
+-- name above its members is the sum with that name's power of two, and its names are the others' with that one behind.
 use mathlib.Core.Path.{_≡_, refl, sym, ap, ap₂, _∙_}
 use mathlib.Core.Bool.{Bool, true, false, cond, not}
 use mathlib.Core.List.{List, [], _∷_, _++_, append-assoc, append-nil}

@@ -1,6 +1,5 @@
--- A template that is filled with numbers in their ranges is read as those numbers, and what is read fills it.
--- Both go along the template: a slot by the laws of numerals and names, any other byte by itself. A slot ends where no
--- byte that could belong to it follows, `fair`.
+-- A template that is filled with numbers in their ranges is read as those numbers, and what is read fills it. Both go
+-- along the template; a slot ends where no byte that could belong to it follows, `fair`.
 use mathlib.Core.Path.{_≡_, refl, sym, ap, ap₂, _∙_}
 use mathlib.Core.Bool.{Bool, true, false, cond, not, _&&_}
 use mathlib.Core.List.{List, [], _∷_, _++_, append-assoc}

@@ -1,4 +1,4 @@
--- What the table's entries say of powers.
+-- The table's entries are the powers up to 4,294,967,296; no true entry is 0, so that 0 tells of a greater power.
 use mathlib.Core.Path.{_≡_, refl, ap, ap₂, _∙_, subst}
 use mathlib.Core.Bool.{Bool, true, false, cond}
 use mathlib.Core.List.{List, []}

@@ -1,4 +1,4 @@
--- Laws of the weights.
+-- The weights rise with the age from (d − 1)^k to d^k: each step adds `slope`, and all steps sum to the share.
 use mathlib.Core.Path.{_≡_, ap, subst}
 use Prim.Native.Nat.{ℕ, zero, suc, _+_, _-_, _*_, _^_, _≤_, _<_}
 use native.Mathlib.Nat.{pow-suc, pow-zero, le-refl, mul-one, one-mul, sub-self, sub-zero, pow-le-pow-left, sub-add-cancel}

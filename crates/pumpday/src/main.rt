@@ -1,29 +1,30 @@
-// Standard input to standard output: each line is answered, and all answers are written before more input is waited for.
+// Standard input to standard output: each line is answered, and all answers are written before more input is waited
+// for.
 ghost use Prim.Native.Nat.{_≤_};
 ghost use lib.ListN.{length};
-use desk::feed::Desk;
 use libc::STDIN_FILENO;
 use libc::STDOUT_FILENO;
+use stream::feed::Stream;
 
-// The desk, the place in the block, whether the input goes on, and whether all answers were written.
+// The stream, the place in the block, whether the input goes on, and whether all answers were written.
 struct Turn {
-    desk: Desk,
+    stream: Stream,
     from: usize,
     more: bool,
     sent: bool,
 }
 
 // The block from a place on, as far as there is room for its answers, which are written.
-fn answer_part(desk: Desk, block: &[u8], from: usize, out: &mut [u8]) -> Turn
+fn answer_part(stream: Stream, block: &[u8], from: usize, out: &mut [u8]) -> Turn
     requires { ⌜ from ≤ length (now block) ⌝ }
     ensures { λ r. ⌜ r .from ≤ length (now (block .entry)) ⌝ }
 {
-    let fed = desk.feed(&block[from..], out);
-    let next = fed.desk;
+    let fed = stream.feed(&block[from..], out);
+    let next = fed.stream;
     let written = fed.written;
     let sent = io::write_all(STDOUT_FILENO, &out[..written]);
     Turn {
-        desk: next,
+        stream: next,
         from: from + fed.consumed,
         more: true,
         sent: sent,
@@ -31,9 +32,9 @@ fn answer_part(desk: Desk, block: &[u8], from: usize, out: &mut [u8]) -> Turn
 }
 
 // The whole block, part by part. A proved loop has to end: this one counts down from a number that no run uses up.
-fn answer_block(desk: Desk, block: &[u8], out: &mut [u8]) -> Turn {
+fn answer_block(stream: Stream, block: &[u8], out: &mut [u8]) -> Turn {
     let mut t = Turn {
-        desk: desk,
+        stream: stream,
         from: 0,
         more: true,
         sent: true,
@@ -46,7 +47,7 @@ fn answer_block(desk: Desk, block: &[u8], out: &mut [u8]) -> Turn {
         if !t.sent {
             return t;
         }
-        let next = answer_part(t.desk, block, t.from, out);
+        let next = answer_part(t.stream, block, t.from, out);
         t = next;
         turns -= 1;
     }
@@ -54,31 +55,31 @@ fn answer_block(desk: Desk, block: &[u8], out: &mut [u8]) -> Turn {
 }
 
 // One read. One that fails counts as the end of input.
-fn read_block(desk: Desk, block: &mut [u8], out: &mut [u8]) -> Turn {
+fn read_block(stream: Stream, block: &mut [u8], out: &mut [u8]) -> Turn {
     let got = libc::read(STDIN_FILENO, block);
     if got <= 0 {
         return Turn {
-            desk: desk,
+            stream: stream,
             from: 0,
             more: false,
             sent: true,
         };
     }
     let n = io::count(got, block);
-    answer_block(desk, &block[..n], out)
+    answer_block(stream, &block[..n], out)
 }
 
 // A last line without byte 10.
-fn finish(desk: Desk, out: &mut [u8]) {
-    let fed = desk.finish(out);
+fn finish(stream: Stream, out: &mut [u8]) {
+    let fed = stream.finish(out);
     let written = fed.written;
     io::write_all(STDOUT_FILENO, &out[..written]);
 }
 
 fn run(block: &mut [u8], out: &mut [u8]) {
-    let desk = Desk::new();
+    let stream = Stream::new();
     let mut t = Turn {
-        desk: desk,
+        stream: stream,
         from: 0,
         more: true,
         sent: true,
@@ -89,10 +90,10 @@ fn run(block: &mut [u8], out: &mut [u8]) {
             return;
         }
         if !t.more {
-            finish(t.desk, out);
+            finish(t.stream, out);
             return;
         }
-        let next = read_block(t.desk, block, out);
+        let next = read_block(t.stream, block, out);
         t = next;
         turns -= 1;
     }

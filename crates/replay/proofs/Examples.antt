@@ -1,4 +1,4 @@
--- The two days, by computation.
+-- Document 01's listing pays 16, and the day replayed behind it begins again and pays 2: both by computation.
 use mathlib.Core.Path.{_≡_, refl, ap, _∙_, subst⁻¹}
 use mathlib.Core.List.{List}
 use Prim.Native.Nat.{ℕ}
@@ -11,7 +11,7 @@ use Rattle.day.specs.declared.Day.{Day}
 use Rattle.day.specs.Day.{blank, taken, claimed, budgeted}
 use Rattle.day.specs.Sound.{sound}
 use Rattle.day.specs.Calls.{first-no, width-holds, Call, call}
-use Rattle.laws.specs.Transcript.{transcript, final}
+use Rattle.demands.specs.Transcript.{transcript, final}
 use Rattle.floor.specs.History.{Starts, continued, history}
 use Rattle.floor.specs.History.Starts.{from-blank, from-opening}
 use Rattle.replay.specs.Replay.{call-in, decode}

@@ -1,4 +1,5 @@
--- The calls one by one: the takings fit, the words in hand decode one call at a time, and the last state and takings are the list's.
+-- The calls one by one: the takings fit, the words in hand decode one call at a time, and the last state and takings
+-- are the list's.
 use mathlib.Core.Path.{_≡_, refl, ap, sym, _∙_, subst, subst⁻¹}
 use mathlib.Core.Bool.{Bool, true, false, cond}
 use mathlib.Core.List.{List, [], _∷_, _++_}
@@ -23,9 +24,9 @@ use Rattle.day.specs.Calls.{number, Call, questions, player, offers, told, resu
 use Rattle.day.specs.Calls.Call.{open-plan, add-campaign, start-day, show-view, ask-tally, close-day}
 use Rattle.day.proofs.Questions.{Yes, call-elim}
 use Rattle.day.proofs.State.{Sound, sound-facts, held-at}
-use Rattle.laws.specs.Choice.{Right}
-use Rattle.laws.specs.Transcript.{transcript, final}
-use Rattle.laws.proofs.Choice.{player-right}
+use Rattle.demands.specs.Choice.{Right}
+use Rattle.demands.specs.Transcript.{transcript, final}
+use Rattle.demands.proofs.Choice.{player-right}
 use Rattle.floor.specs.History.{accepted, paid-in, History, opening, with-call, entered, continued, history}
 use Rattle.floor.specs.Floor.{Floor}
 use Rattle.floor.proofs.Floor.{demand-3}

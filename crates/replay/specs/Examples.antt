@@ -6,8 +6,8 @@ use Rattle.day.specs.declared.Day.{Day}
 use Rattle.day.specs.Day.{blank, taken}
 use Rattle.day.specs.Calls.{Call}
 use Rattle.day.specs.Calls.Call.{start-day, ask-tally, close-day}
-use Rattle.laws.specs.Transcript.{final}
-use Rattle.laws.specs.Cases.{plan, campaign-of, view}
+use Rattle.demands.specs.Transcript.{final}
+use Rattle.demands.specs.Cases.{plan, campaign-of, view}
 use Rattle.floor.specs.History.{Starts}
 use Rattle.replay.specs.declared.Replayed.{Replayed}
 use Rattle.replay.specs.Replay.{decode, Replays}

@@ -6,7 +6,7 @@ use lib.ListN.{take, drop}
 use Rattle.day.specs.declared.Day.{Day}
 use Rattle.day.specs.Calls.{Call}
 use Rattle.day.specs.Calls.Call.{open-plan, add-campaign, start-day, show-view, ask-tally, close-day}
-use Rattle.laws.specs.Transcript.{transcript, final}
+use Rattle.demands.specs.Transcript.{transcript, final}
 use Rattle.floor.specs.History.{Starts, history}
 use Rattle.floor.specs.Floor.{Floor}
 use Rattle.replay.specs.declared.Replayed.{Replayed}

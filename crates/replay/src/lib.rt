@@ -1,4 +1,5 @@
-// A list of encoded calls, run: three words a call, its kind and what it is handed. The contract of `replay` is demand 3.
+// A list of encoded calls, run: three words a call, its kind and what it is handed. The contract of `replay` is demand
+// 3.
 use campaigns::Plan;
 use campaigns::Terms;
 use campaigns::View;

@@ -1,68 +1,73 @@
+-- The tests of soundness in the order of the code (`staged`): the columns, then the sums. Where one fails the audit is
+-- that of an unsound state; where all pass the sums are within `Bounded`, and `settle` gives the rest.
 use Rattle.audit.proofs.Totals.{columns, columns-bounded}
 use Rattle.audit.proofs.Settling.{sums-hold, staged, summed-is, sums-bounded, examined-is, examined-not}
 use Rattle.campaigns.proofs.Laws.{plan-sized}
 use Rattle.finite.proofs.Tests.{both-left}
+use Rattle.campaigns.specs.declared.Head.{Head}
 use Rattle.audit.specs.declared.sums.Sums.{Sums}
 use Rattle.audit.specs.Inner.{sums-of, columns-hold, summed, empty-from, Bounded, settled, tested}
-use Rattle.campaigns.specs.declared.Campaign.{Campaign}
-use Rattle.campaigns.specs.Campaign.{campaign-at}
 use lib.Dec.{leb}
 use borrow.Author.Tests.{not-true, not-false}
-use Prim.Native.Nat.{ℕ}
 use mathlib.Core.Bool.{Bool, true, _&&_}
 use mathlib.Core.Path.{_≡_, ap, sym, subst, _∙_}
+use Rattle.campaigns.specs.declared.Campaign.{Campaign}
+use Rattle.campaigns.specs.Campaign.{campaign-at}
+use Prim.Native.Nat.{ℕ}
 use borrow.Author.Needs.{needs}
 use Rattle.audit.proofs.examine.Statement.{statement}
 use Rattle.audit.proofs.examine.Tie as tie
 
-abbrev campaign : tie.Start → ℕ → Campaign
-campaign s = campaign-at (s .args .prices .now) (s .args .budgets .now) (s .args .plays .now) (s .args .turns .now) (s .args .ages .now) (s .args .named .now)
+abbrev came : tie.Start → ℕ → Campaign
+came s = campaign-at (s .args .terms .now) (s .args .counts .now)
 
 abbrev passed : tie.Start → Bool
-passed s = tested (s .args .phase) (s .args .plan) (s .args .accepted) (s .args .count) (campaign s)
+passed s = let h = s .args .head in tested (h .phase) (h .plan) (h .accepted) (h .count) (came s)
 
 abbrev summed-up : tie.Start → Sums
-summed-up s = summed (s .args .plan) (s .args .count) (s .args .prices .now) (s .args .budgets .now) (s .args .plays .now) (s .args .turns .now) (s .args .ages .now)
+summed-up s = summed (s .args .head .plan) (s .args .head .count) (came s)
 
 -- the tests by columns
-columns-pass : (c : tie.Else1) → columns-hold (c .before .before .args .phase) (c .before .before .args .plan) (c .before .before .args .accepted) (c .before .before .args .count) (c .before .before .args .prices .now) (c .before .before .args .budgets .now) (c .before .before .args .plays .now) (c .before .before .args .turns .now) (c .before .before .args .ages .now) (c .before .before .args .named .now) ≡ true
+columns-pass : (c : tie.Else1) → let s = c .before .before .before in let h = s .args .head in columns-hold (h .phase) (h .plan) (h .accepted) (h .count) (came s) ≡ true
 columns-pass c = sym (c .before .columns-hold .ensures) ∙ not-false (c .before .columns-hold .result) (c .if1 .left)
 
 -- and those on what was summed
-sums-are : (c : tie.After-phase-holds) → c .before .before .before .sum-all .result ≡ summed-up (c .before .before .before .before .before .before)
+sums-are : (c : tie.After-phase-holds) → c .before .before .before .sum-all .result ≡ summed-up (c .before .before .before .before .before .before .before)
 sums-are c = c .before .before .before .sum-all .ensures
 
 abbrev test : tie.After-phase-holds → Bool
-test c = c .before .before .before .sum-all .result .within && leb (c .before .before .before .sum-all .result .budgets) 2_000_000_000 && c .phase-holds .result
+test c = let r = c .before .before .before .sum-all .result in r .within && leb (r .budgets) 2_000_000_000 && c .phase-holds .result
 
-test-is : (c : tie.After-phase-holds) → test c ≡ sums-hold (c .before .before .before .before .before .before .args .phase) (c .before .before .before .before .before .before .args .accepted) (summed-up (c .before .before .before .before .before .before))
+test-is : (c : tie.After-phase-holds) → test c ≡ sums-hold (c .before .before .before .before .before .before .before .args .head .phase) (c .before .before .before .before .before .before .before .args .head .accepted) (summed-up (c .before .before .before .before .before .before .before))
 test-is c = rw (c .phase-holds .ensures, sums-are c)
 
-passed-is : (c : tie.After-phase-holds) → passed (c .before .before .before .before .before .before) ≡ test c
-passed-is c = staged (c .before .before .before .before .before .before .args .phase) (c .before .before .before .before .before .before .args .plan) (c .before .before .before .before .before .before .args .accepted) (c .before .before .before .before .before .before .args .count) (c .before .before .before .before .before .before .args .prices .now) (c .before .before .before .before .before .before .args .budgets .now) (c .before .before .before .before .before .before .args .plays .now) (c .before .before .before .before .before .before .args .turns .now) (c .before .before .before .before .before .before .args .ages .now) (c .before .before .before .before .before .before .args .named .now) ∙ rw (columns-pass (c .before .before .before .before)) (sym (test-is c))
+passed-is : (c : tie.After-phase-holds) → passed (c .before .before .before .before .before .before .before) ≡ test c
+passed-is c = let s = c .before .before .before .before .before .before .before in let h = s .args .head in staged (h .phase) (h .plan) (h .accepted) (h .count) (came s) ∙ rw (columns-pass (c .before .before .before .before)) (sym (test-is c))
 
 passes : (c : tie.Else2) → test (c .before) ≡ true
 passes c = not-false (test (c .before)) (c .if2 .left)
 
-sums-total : (c : tie.Else2) → c .before .before .before .before .sum-all .result ≡ sums-of (c .before .before .before .before .before .before .before .args .plan) (c .before .before .before .before .before .before .before .args .count) (campaign (c .before .before .before .before .before .before .before))
-sums-total c = sums-are (c .before) ∙ summed-is (c .before .before .before .before .before .before .before .args .phase) (c .before .before .before .before .before .before .before .args .plan) (c .before .before .before .before .before .before .before .args .accepted) (c .before .before .before .before .before .before .before .args .count) (c .before .before .before .before .before .before .before .args .prices .now) (c .before .before .before .before .before .before .before .args .budgets .now) (c .before .before .before .before .before .before .before .args .plays .now) (c .before .before .before .before .before .before .before .args .turns .now) (c .before .before .before .before .before .before .before .args .ages .now) (c .before .before .before .before .before .before .before .args .named .now) (sym (test-is (c .before)) ∙ passes c)
+sums-total : (c : tie.Else2) → c .before .before .before .before .sum-all .result ≡ sums-of (c .before .before .before .before .before .before .before .before .args .head .plan) (c .before .before .before .before .before .before .before .before .args .head .count) (came (c .before .before .before .before .before .before .before .before))
+sums-total c = let s = c .before .before .before .before .before .before .before .before in let h = s .args .head in sums-are (c .before) ∙ summed-is (h .phase) (h .plan) (h .accepted) (h .count) (came s) (sym (test-is (c .before)) ∙ passes c)
 
 columns-hold-requires : tie.Need-columns-hold-requires
-columns-hold-requires c κs = (c .pre .1, plan-sized (c .args .plan) (c .pre .0 .plan-sound) .shallow, c .pre .2)
+columns-hold-requires c κs = let s = c .before in (s .pre .1, plan-sized (s .args .head .plan) (s .pre .0 .plan-sound) .shallow, s .pre .2)
 
 unsound-requires : tie.Need-unsound-requires
 unsound-requires c κs = search needs
 
 returns : tie.Need-returns
 returns c =
-    let s = c .before .before .before in
+    let s = c .before .before .before .before in
+    let h = s .args .head in
     let e = sym (c .before .before .columns-hold .ensures) ∙ not-true (c .before .before .columns-hold .result) (c .before .if1 .taken) in
-    c .unsound .ensures ∙ sym (examined-not (s .args .phase) (s .args .plan) (s .args .accepted) (s .args .count) (campaign s) (staged (s .args .phase) (s .args .plan) (s .args .accepted) (s .args .count) (s .args .prices .now) (s .args .budgets .now) (s .args .plays .now) (s .args .turns .now) (s .args .ages .now) (s .args .named .now) ∙ ap (λ (b : Bool). b && sums-hold (s .args .phase) (s .args .accepted) (summed-up s)) e))
+    c .unsound .ensures ∙ sym (examined-not (h .phase) (h .plan) (h .accepted) (h .count) (came s) (staged (h .phase) (h .plan) (h .accepted) (h .count) (came s) ∙ ap (λ (b : Bool). b && sums-hold (h .phase) (h .accepted) (summed-up s)) e))
 
 sum-all-requires : tie.Need-sum-all-requires
 sum-all-requires c κs =
-    let s = c .before .before in
-    (s .pre .1, (s .pre .0, columns-bounded (s .args .phase) (s .args .plan) (s .args .accepted) (s .args .count) (s .args .prices .now) (s .args .budgets .now) (s .args .plays .now) (s .args .turns .now) (s .args .ages .now) (s .args .named .now) (both-left (columns (s .args .phase) (s .args .plan) (s .args .accepted) (s .args .count) (s .args .prices .now) (s .args .budgets .now) (s .args .plays .now) (s .args .turns .now) (s .args .ages .now) (s .args .named .now)) (empty-from (s .args .count) (campaign s)) (columns-pass c))))
+    let s = c .before .before .before in
+    let h = s .args .head in
+    (s .pre .1, (s .pre .0, columns-bounded (h .phase) (h .plan) (h .accepted) (h .count) (came s) (both-left (columns (h .phase) (h .plan) (h .accepted) (h .count) (came s)) (empty-from (h .count) (came s)) (columns-pass c))))
 
 phase-holds-requires : tie.Need-phase-holds-requires
 phase-holds-requires c κs = search needs
@@ -72,18 +77,21 @@ unsound-requires-2 c κs = search needs
 
 returns-2 : tie.Need-returns-2
 returns-2 c =
-    let s = c .before .before .before .before .before .before .before .before in
-    c .unsound2 .ensures ∙ sym (examined-not (s .args .phase) (s .args .plan) (s .args .accepted) (s .args .count) (campaign s) (passed-is (c .before .before) ∙ not-true (test (c .before .before)) (c .before .if2 .taken)))
+    let s = c .before .before .before .before .before .before .before .before .before in
+    let h = s .args .head in
+    c .unsound2 .ensures ∙ sym (examined-not (h .phase) (h .plan) (h .accepted) (h .count) (came s) (passed-is (c .before .before) ∙ not-true (test (c .before .before)) (c .before .if2 .taken)))
 
 settle-requires : tie.Need-settle-requires
 settle-requires c κs =
-    let s = c .before .before .before .before .before .before .before in
-    (s .pre .0, subst Bounded (sym (sums-total c)) (sums-bounded (s .args .phase) (s .args .plan) (s .args .accepted) (s .args .count) (campaign s) (passed-is (c .before) ∙ passes c) (s .pre .1) (s .pre .2) (s .pre .0 .plan-sound)))
+    let s = c .before .before .before .before .before .before .before .before in
+    let h = s .args .head in
+    (s .pre .0, subst Bounded (sym (sums-total c)) (sums-bounded (h .phase) (h .plan) (h .accepted) (h .count) (came s) (passed-is (c .before) ∙ passes c) (s .pre .1) (s .pre .2) (s .pre .0 .plan-sound)))
 
 returns-3 : tie.Need-returns-3
 returns-3 c =
-    let s = c .before .before .before .before .before .before .before .before in
-    c .settle .ensures ∙ ap (settled (s .args .plan)) (sums-total (c .before)) ∙ sym (examined-is (s .args .phase) (s .args .plan) (s .args .accepted) (s .args .count) (campaign s) (passed-is (c .before .before) ∙ passes (c .before)))
+    let s = c .before .before .before .before .before .before .before .before .before in
+    let h = s .args .head in
+    c .settle .ensures ∙ ap (settled (h .plan)) (sums-total (c .before)) ∙ sym (examined-is (h .phase) (h .plan) (h .accepted) (h .count) (came s) (passed-is (c .before .before) ∙ passes (c .before)))
 
 pub examine-spec : {M : Type 1} → statement M
 examine-spec =

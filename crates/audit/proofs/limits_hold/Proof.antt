@@ -1,3 +1,4 @@
+-- Depth, width, `deepest` and the two limits: within width 16, depth ≤ deepest is question 5, by `plan-tells`.
 use Rattle.audit.proofs.Settling.{plan-tells}
 use lib.Dec.{leb}
 use mathlib.Core.Bool.{Bool, _&&_}
@@ -16,10 +17,11 @@ deepest-requires : tie.Need-deepest-requires
 deepest-requires c κs = search needs
 
 returns : tie.Need-returns
-returns c = let a = c .before .before .before .before .args in
-    let r = c .before .deepest in
+returns c =
+    let a = c .before .before .before .before .before .before .before .args .head in
+    let r = c .before .before .before .deepest in
     ap (λ (x : Bool). x && leb (a .count) 64 && leb (a .accepted) 4_096)
-    (ap₂ (λ (x y : Bool). x && y && leb (a .plan .depth) (r .result)) (c .before .before .before .depth-fits .ensures) (c .before .before .width-fits .ensures) ∙ plan-tells (a .plan) (r .result) (r .ensures .0))
+    (ap₂ (λ (x y : Bool). x && y && leb (a .plan .depth) (r .result)) (c .before .before .before .before .before .depth-fits .ensures) (c .before .before .before .before .width-fits .ensures) ∙ plan-tells (a .plan) (r .result) (r .ensures .0))
 
 pub limits-hold-spec : {M : Type 1} → statement M
 limits-hold-spec =

@@ -1,6 +1,5 @@
--- A line that is not too long: the bytes at 1, 4 and 6 leave one form, `leaves` of Choice, and only that one is read.
--- Each arm shows which form its bytes leave (`first`, and `other` where an arm takes the rest), and that its code holds
--- the line to that form (`reads`); `answers` joins the two.
+-- A line that is not too long: the bytes at 1, 4 and 6 leave one form (`leaves`; each arm by `first` or `other`), and
+-- its code holds the line to that form (`reads`); `answers` joins the two.
 use mathlib.Core.Path.{_≡_, refl, ap, sym, _∙_}
 use mathlib.Core.Bool.{Bool, cond}
 use mathlib.Core.List.{List}

@@ -1,3 +1,5 @@
+-- The constant table is the grid of power or 0: all 528 entries are compared in one computation, and an entry inside
+-- is read off it. Outside the code and the definition give 0.
 use mathlib.Core.Path.{_≡_, sym, _∙_}
 use mathlib.Core.Bool.{true, cond, _&&_}
 use Prim.Native.Nat.{ℕ, _≤_}

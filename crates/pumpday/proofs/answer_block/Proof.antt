@@ -1,3 +1,4 @@
+-- Safe, and it ends: the loop keeps its place in the block and the length of out, and `turns` falls.
 use mathlib.Core.Path.{_≡_, refl}
 use Prim.Native.Nat.{_≤_}
 use native.Mathlib.Omega.{arith}

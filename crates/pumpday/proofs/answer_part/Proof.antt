@@ -1,3 +1,4 @@
+-- Safe: what `feed` has written fits out, and what it has consumed is no longer than the rest of the block.
 use mathlib.Core.Path.{sym}
 use lib.Seq.{length-take-le}
 use borrow.Author.Needs.{needs}

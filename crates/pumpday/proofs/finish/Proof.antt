@@ -1,3 +1,4 @@
+-- Safe: what `Stream::finish` has written fits out.
 use mathlib.Core.Path.{sym}
 use lib.Seq.{length-take-le}
 use borrow.Author.Needs.{needs}

@@ -1,3 +1,4 @@
+-- Safe, and it ends: the loop keeps the lengths of both buffers, and `turns` falls.
 use mathlib.Core.Path.{_≡_, refl}
 use native.Mathlib.Omega.{arith}
 use lib.ListN.{length}

@@ -1,7 +1,9 @@
+-- The entries from n on have no terms and no counts exactly if each is all zero: `empty-joins` makes the two tests one.
 use mathlib.Core.Path.{_∙_, ap₂}
 use mathlib.Core.Bool.{Bool, _&&_}
-use borrow.Author.Needs.{needs}
 use Rattle.audit.proofs.Zeros.{empty-joins}
+use Rattle.campaigns.specs.Campaign.{campaign-at}
+use borrow.Author.Needs.{needs}
 use Rattle.audit.proofs.columns.empty_from.Statement.{statement}
 use Rattle.audit.proofs.columns.empty_from.Tie as tie
 
@@ -14,8 +16,7 @@ no-counts-in-requires c κs = search needs
 returns : tie.Need-returns
 returns c =
     let a = c .before .before .args in
-    ap₂ (λ (x y : Bool). x && y) (c .before .no-terms-from .ensures) (c .no-counts-in .ensures)
-    ∙ empty-joins (a .n) (a .prices .now) (a .budgets .now) (a .plays .now) (a .turns .now) (a .ages .now) (a .named .now)
+    ap₂ (λ (x y : Bool). x && y) (c .before .no-terms-from .ensures) (c .no-counts-in .ensures) ∙ empty-joins (a .n) (campaign-at (a .terms .now) (a .counts .now))
 
 pub empty-from-spec : {M : Type 1} → statement M
 empty-from-spec = tie.close (tie.spec no-terms-from-requires no-counts-in-requires returns)

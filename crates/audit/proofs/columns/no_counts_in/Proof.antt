@@ -1,26 +1,31 @@
+-- The loop keeps: the "or" so far is zero exactly if the entries from n on and below i have no counts.
+use Rattle.audit.specs.Inner.{no-counts-in}
 use Rattle.audit.proofs.Zeros.{or-zero}
 use Rattle.finite.proofs.Tests.{from-start, from-next}
-use Rattle.audit.specs.Inner.{no-counts-in}
-use lib.ListN.{getD}
 use lib.Dec.{eqb}
-use native.Mathlib.Omega.{arith}
 use native.Mathlib.Nat.{le-refl}
-use Prim.Native.Nat.{_-_, _≤_}
 use mathlib.Core.Bool.{_&&_, and-assoc}
 use mathlib.Core.Path.{_≡_, ap, _∙_}
 use borrow.Author.Needs.{needs}
+use Rattle.campaigns.specs.declared.Campaign.{Campaign}
+use Rattle.campaigns.specs.Campaign.{campaign-at}
+use native.Mathlib.Omega.{arith}
+use Prim.Native.Nat.{ℕ, _-_, _≤_}
 use Rattle.audit.proofs.columns.no_counts_in.Statement.{statement}
 use Rattle.audit.proofs.columns.no_counts_in.Tie as tie
 
 abbrev Inv-loop : tie.InvT-loop
-Inv-loop n m plays turns ages named any₀ i₀ any i = (n ≤ i) × (i ≤ m) × (eqb any 0 ≡ no-counts-in n plays turns ages named i)
+Inv-loop n m terms counts any₀ i₀ any i = (n ≤ i) × (i ≤ m) × (eqb any 0 ≡ no-counts-in n (campaign-at terms counts) i)
 
 abbrev μ-loop : tie.MeasureT-loop
-μ-loop n m plays turns ages named any₀ i₀ any i = m - i
+μ-loop n m terms counts any₀ i₀ any i = m - i
+
+abbrev came : tie.Start Inv-loop μ-loop → ℕ → Campaign
+came s = campaign-at (s .args .terms .now) (s .args .counts .now)
 
 loop-holds : tie.Need-loop-holds Inv-loop μ-loop
 unfolding no-counts-in
-loop-holds c = (le-refl (c .args .n), c .pre .0, from-start (c .args .n) (λ i. eqb (getD (c .args .plays .now) i 0) 0 && eqb (getD (c .args .turns .now) i 0) 0 && eqb (getD (c .args .ages .now) i 0) 0 && eqb (getD (c .args .named .now) i 0) 0))
+loop-holds c = (le-refl (c .args .n), c .pre .0, from-start (c .args .n) (λ i. eqb (came c i .plays) 0 && eqb (came c i .turns) 0 && eqb (came c i .age) 0 && eqb (came c i .named) 0))
 
 mul-any : tie.Need-mul-any Inv-loop μ-loop
 mul-any c = search needs
@@ -28,17 +33,26 @@ mul-any c = search needs
 element-copy-out-any : tie.Need-element-copy-out-any Inv-loop μ-loop
 element-copy-out-any c = search needs
 
+add-any : tie.Need-add-any Inv-loop μ-loop
+add-any c = search needs
+
 mul-any-2 : tie.Need-mul-any-2 Inv-loop μ-loop
 mul-any-2 c = search needs
 
 element-copy-out-any-2 : tie.Need-element-copy-out-any-2 Inv-loop μ-loop
 element-copy-out-any-2 c = search needs
 
+add-any-2 : tie.Need-add-any-2 Inv-loop μ-loop
+add-any-2 c = search needs
+
 mul-any-3 : tie.Need-mul-any-3 Inv-loop μ-loop
 mul-any-3 c = search needs
 
 element-copy-out-any-3 : tie.Need-element-copy-out-any-3 Inv-loop μ-loop
 element-copy-out-any-3 c = search needs
+
+add-any-3 : tie.Need-add-any-3 Inv-loop μ-loop
+add-any-3 c = search needs
 
 mul-any-4 : tie.Need-mul-any-4 Inv-loop μ-loop
 mul-any-4 c = search needs
@@ -55,15 +69,15 @@ loop-less c = search needs
 loop-again : tie.Need-loop-again Inv-loop μ-loop
 unfolding no-counts-in
 loop-again c =
-    let a = c .before .before .before .before .before .before .args in
+    let s = c .before .before .before .before .before .before in
     let l = c .before .before .before .before .before .loop in (
       omega arith,
       omega arith,
-      rw (from-next (a .n) (l .i) (λ i. eqb (getD (a .plays .now) i 0) 0 && eqb (getD (a .turns .now) i 0) 0 && eqb (getD (a .ages .now) i 0) 0 && eqb (getD (a .named .now) i 0) 0) (l .inv .0), ← l .inv .2) (simp (or-zero, and-assoc)),
+      rw (from-next (s .args .n) (l .i) (λ i. eqb (came s i .plays) 0 && eqb (came s i .turns) 0 && eqb (came s i .age) 0 && eqb (came s i .named) 0) (l .inv .0), ← l .inv .2) (simp (or-zero, and-assoc)),
     )
 
 returns : tie.Need-returns Inv-loop μ-loop
-returns c = let e : c .before .loop .i ≡ c .before .before .args .m = omega arith in c .before .loop .inv .2 ∙ ap (no-counts-in (c .before .before .args .n) (c .before .before .args .plays .now) (c .before .before .args .turns .now) (c .before .before .args .ages .now) (c .before .before .args .named .now)) e
+returns c = let s = c .before .before in let e : c .before .loop .i ≡ s .args .m = omega arith in c .before .loop .inv .2 ∙ ap (no-counts-in (s .args .n) (came s)) e
 
 pub no-counts-in-spec : {M : Type 1} → statement M
 no-counts-in-spec =
@@ -74,10 +88,13 @@ no-counts-in-spec =
     loop-holds
     mul-any
     element-copy-out-any
+    add-any
     mul-any-2
     element-copy-out-any-2
+    add-any-2
     mul-any-3
     element-copy-out-any-3
+    add-any-3
     mul-any-4
     element-copy-out-any-4
     add-i

@@ -1,32 +1,40 @@
+-- The loop keeps: the "or" so far is zero exactly if the entries from n on and below i have no price and no budget.
+use Rattle.audit.specs.Inner.{no-terms-from}
 use Rattle.audit.proofs.Zeros.{or-zero}
 use Rattle.finite.proofs.Tests.{from-start, from-next}
-use Rattle.audit.specs.Inner.{no-terms-from}
-use lib.ListN.{getD}
 use lib.Dec.{eqb}
-use native.Mathlib.Omega.{arith}
 use native.Mathlib.Nat.{le-refl}
-use Prim.Native.Nat.{_-_, _≤_}
 use mathlib.Core.Bool.{_&&_, and-assoc}
 use mathlib.Core.Path.{_≡_, ap, _∙_}
 use borrow.Author.Needs.{needs}
+use Rattle.campaigns.specs.declared.Campaign.{Campaign}
+use Rattle.campaigns.specs.Campaign.{campaign-at}
+use native.Mathlib.Omega.{arith}
+use Prim.Native.Nat.{ℕ, _-_, _≤_}
 use Rattle.audit.proofs.columns.no_terms_from.Statement.{statement}
 use Rattle.audit.proofs.columns.no_terms_from.Tie as tie
 
 abbrev Inv-loop : tie.InvT-loop
-Inv-loop n prices budgets any₀ i₀ any i = (n ≤ i) × (i ≤ 64) × (eqb any 0 ≡ no-terms-from n prices budgets i)
+Inv-loop n terms counts any₀ i₀ any i = (n ≤ i) × (i ≤ 64) × (eqb any 0 ≡ no-terms-from n (campaign-at terms counts) i)
 
 abbrev μ-loop : tie.MeasureT-loop
-μ-loop n prices budgets any₀ i₀ any i = 64 - i
+μ-loop n terms counts any₀ i₀ any i = 64 - i
+
+abbrev came : tie.Start Inv-loop μ-loop → ℕ → Campaign
+came s = campaign-at (s .args .terms .now) (s .args .counts .now)
 
 loop-holds : tie.Need-loop-holds Inv-loop μ-loop
 unfolding no-terms-from
-loop-holds c = (le-refl (c .args .n), c .pre, from-start (c .args .n) (λ i. eqb (getD (c .args .prices .now) i 0) 0 && eqb (getD (c .args .budgets .now) i 0) 0))
+loop-holds c = (le-refl (c .args .n), c .pre, from-start (c .args .n) (λ i. eqb (came c i .price) 0 && eqb (came c i .budget) 0))
 
 mul-any : tie.Need-mul-any Inv-loop μ-loop
 mul-any c = search needs
 
 element-copy-out-any : tie.Need-element-copy-out-any Inv-loop μ-loop
 element-copy-out-any c = search needs
+
+add-any : tie.Need-add-any Inv-loop μ-loop
+add-any c = search needs
 
 mul-any-2 : tie.Need-mul-any-2 Inv-loop μ-loop
 mul-any-2 c = search needs
@@ -43,15 +51,15 @@ loop-less c = search needs
 loop-again : tie.Need-loop-again Inv-loop μ-loop
 unfolding no-terms-from
 loop-again c =
-    let a = c .before .before .before .before .args in
+    let s = c .before .before .before .before in
     let l = c .before .before .before .loop in (
       omega arith,
       omega arith,
-      rw (from-next (a .n) (l .i) (λ i. eqb (getD (a .prices .now) i 0) 0 && eqb (getD (a .budgets .now) i 0) 0) (l .inv .0), ← l .inv .2) (simp (or-zero, and-assoc)),
+      rw (from-next (s .args .n) (l .i) (λ i. eqb (came s i .price) 0 && eqb (came s i .budget) 0) (l .inv .0), ← l .inv .2) (simp (or-zero, and-assoc)),
     )
 
 returns : tie.Need-returns Inv-loop μ-loop
-returns c = let e : c .before .loop .i ≡ 64 = omega arith in c .before .loop .inv .2 ∙ ap (no-terms-from (c .before .before .args .n) (c .before .before .args .prices .now) (c .before .before .args .budgets .now)) e
+returns c = let s = c .before .before in let e : c .before .loop .i ≡ 64 = omega arith in c .before .loop .inv .2 ∙ ap (no-terms-from (s .args .n) (came s)) e
 
 pub no-terms-from-spec : {M : Type 1} → statement M
 no-terms-from-spec =
@@ -62,6 +70,7 @@ no-terms-from-spec =
     loop-holds
     mul-any
     element-copy-out-any
+    add-any
     mul-any-2
     element-copy-out-any-2
     add-i

@@ -1,20 +1,25 @@
+-- The loop keeps: `fit` says whether the prices and budgets of the first i campaigns are within their limits.
 use Rattle.finite.proofs.Tests.{every-next}
 use Rattle.campaigns.specs.Campaign.{price-fits, budget-fits}
-use lib.ListN.{getD}
 use mathlib.Core.Bool.{_&&_, and-assoc}
 use Rattle.audit.specs.Inner.{priced-columns}
 use Rattle.finite.specs.Finite.{every}
+use mathlib.Core.Path.{_≡_, refl, ap, _∙_}
+use Rattle.campaigns.specs.declared.Campaign.{Campaign}
+use Rattle.campaigns.specs.Campaign.{campaign-at}
 use native.Mathlib.Omega.{arith}
 use Prim.Native.Nat.{ℕ, _-_, _≤_}
-use mathlib.Core.Path.{_≡_, refl, ap, _∙_}
 use Rattle.audit.proofs.columns.priced_all.Statement.{statement}
 use Rattle.audit.proofs.columns.priced_all.Tie as tie
 
 abbrev Inv-loop : tie.InvT-loop
-Inv-loop n prices budgets fit₀ i₀ fit i = (i ≤ n) × (fit ≡ priced-columns i prices budgets)
+Inv-loop n terms counts fit₀ i₀ fit i = (i ≤ n) × (fit ≡ priced-columns i (campaign-at terms counts))
 
 abbrev μ-loop : tie.MeasureT-loop
-μ-loop n prices budgets fit₀ i₀ fit i = n - i
+μ-loop n terms counts fit₀ i₀ fit i = n - i
+
+abbrev came : tie.Start Inv-loop μ-loop → ℕ → Campaign
+came s = campaign-at (s .args .terms .now) (s .args .counts .now)
 
 loop-holds : tie.Need-loop-holds Inv-loop μ-loop
 unfolding priced-columns every
@@ -25,6 +30,9 @@ mul-price c = omega arith
 
 element-copy-out-price : tie.Need-element-copy-out-price Inv-loop μ-loop
 element-copy-out-price c = omega arith
+
+add-budget : tie.Need-add-budget Inv-loop μ-loop
+add-budget c = omega arith
 
 mul-budget : tie.Need-mul-budget Inv-loop μ-loop
 mul-budget c = omega arith
@@ -40,12 +48,13 @@ loop-less c = omega arith
 
 loop-again : tie.Need-loop-again Inv-loop μ-loop
 unfolding priced-columns
-loop-again c = let a = c .before .before .before .before .args in
+loop-again c =
+    let f = came (c .before .before .before .before) in
     let l = c .before .before .before .loop in
-    (omega arith, rw (every-next (l .i) (λ i. price-fits (getD (a .prices .now) i 0) && budget-fits (getD (a .prices .now) i 0) (getD (a .budgets .now) i 0)), ← l .inv .1) (simp and-assoc))
+    (omega arith, rw (every-next (l .i) (λ i. price-fits (f i .price) && budget-fits (f i .price) (f i .budget)), ← l .inv .1) (simp and-assoc))
 
 returns : tie.Need-returns Inv-loop μ-loop
-returns c = let a = c .before .before .args in let e : c .before .loop .i ≡ a .n = omega arith in c .before .loop .inv .1 ∙ ap (λ (m : ℕ). priced-columns m (a .prices .now) (a .budgets .now)) e
+returns c = let s = c .before .before in let e : c .before .loop .i ≡ s .args .n = omega arith in c .before .loop .inv .1 ∙ ap (λ (m : ℕ). priced-columns m (came s)) e
 
 pub priced-all-spec : {M : Type 1} → statement M
 priced-all-spec =
@@ -56,6 +65,7 @@ priced-all-spec =
     loop-holds
     mul-price
     element-copy-out-price
+    add-budget
     mul-budget
     element-copy-out-budget
     add-i

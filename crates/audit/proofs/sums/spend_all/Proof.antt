@@ -1,27 +1,34 @@
+-- The loop keeps: the first i campaigns have each paid at most their budgets, and the three sums are theirs; each sum
+-- is at most i times the greatest term of the widths, so that none overflows.
 use Rattle.finite.proofs.Tests.{every-next, every-not, both-join}
 use Rattle.finite.proofs.Sums.{sum-next}
 use borrow.Author.Tests.{le-leb, lt-leb}
 use native.Mathlib.Nat.{mul-le-mul}
 use Rattle.audit.specs.Inner.{paid-columns, spent-of}
 use Rattle.finite.specs.Finite.{sum, every}
-use lib.ListN.{getD}
 use lib.Dec.{leb}
-use native.Mathlib.Omega.{arith}
-use Prim.Native.Nat.{ℕ, _-_, _*_, _≤_}
+use Prim.Native.Nat.{_*_}
 use mathlib.Core.Bool.{true}
 use mathlib.Core.Path.{_≡_, refl, ap₂, _∙_}
 use borrow.Author.Needs.{needs}
+use Rattle.campaigns.specs.declared.Campaign.{Campaign}
+use Rattle.campaigns.specs.Campaign.{campaign-at}
+use native.Mathlib.Omega.{arith}
+use Prim.Native.Nat.{ℕ, _-_, _≤_}
 use Rattle.audit.proofs.sums.spend_all.Statement.{statement}
 use Rattle.audit.proofs.sums.spend_all.Tie as tie
 
 abbrev Inv-loop : tie.InvT-loop
-Inv-loop n prices budgets plays turns all₀ takings₀ turned₀ i₀ all takings turned i = (i ≤ n) × (paid-columns i prices budgets plays ≡ true) × (all ≡ sum i (λ j. getD budgets j 0)) × (takings ≡ sum i (λ j. getD prices j 0 * getD plays j 0)) × (turned ≡ sum i (λ j. getD prices j 0 * getD turns j 0)) × (all ≤ i * 4_294_967_296) × (takings ≤ i * 281_474_976_710_656) × (turned ≤ i * 281_474_976_710_656)
+Inv-loop n terms counts all₀ takings₀ turned₀ i₀ all takings turned i = (i ≤ n) × (paid-columns i (campaign-at terms counts) ≡ true) × (all ≡ sum i (λ j. campaign-at terms counts j .budget)) × (takings ≡ sum i (λ j. campaign-at terms counts j .price * campaign-at terms counts j .plays)) × (turned ≡ sum i (λ j. campaign-at terms counts j .price * campaign-at terms counts j .turns)) × (all ≤ i * 4_294_967_296) × (takings ≤ i * 281_474_976_710_656) × (turned ≤ i * 281_474_976_710_656)
 
 abbrev μ-loop : tie.MeasureT-loop
-μ-loop n prices budgets plays turns all₀ takings₀ turned₀ i₀ all takings turned i = n - i
+μ-loop n terms counts all₀ takings₀ turned₀ i₀ all takings turned i = n - i
+
+abbrev came : tie.Start Inv-loop μ-loop → ℕ → Campaign
+came s = campaign-at (s .args .terms .now) (s .args .counts .now)
 
 abbrev paid : tie.Start Inv-loop μ-loop → ℕ → ℕ
-paid s i = getD (s .args .prices .now) i 0 * getD (s .args .plays .now) i 0
+paid s i = came s i .price * came s i .plays
 
 -- price × plays of the campaign at hand
 spent-is : (c : tie.After-wide16 Inv-loop μ-loop) → c .before .before .before .before .wide32 .result * c .wide16 .result ≡ paid (c .before .before .before .before .before .before .before .before) (c .before .before .before .before .before .before .before .loop .i)
@@ -33,7 +40,7 @@ spent-most c =
     let y : c .wide16 .result ≤ 65_536 = omega (arith, c .wide16 .ensures .1) in
     mul-le-mul x y
 
-turned-is : (c : tie.After-wide162 Inv-loop μ-loop) → c .before .before .before .before .before .before .before .wide32 .result * c .wide162 .result ≡ getD (c .before .before .before .before .before .before .before .before .before .before .before .args .prices .now) (c .before .before .before .before .before .before .before .before .before .before .loop .i) 0 * getD (c .before .before .before .before .before .before .before .before .before .before .before .args .turns .now) (c .before .before .before .before .before .before .before .before .before .before .loop .i) 0
+turned-is : (c : tie.After-wide162 Inv-loop μ-loop) → c .before .before .before .before .before .before .before .wide32 .result * c .wide162 .result ≡ came (c .before .before .before .before .before .before .before .before .before .before .before) (c .before .before .before .before .before .before .before .before .before .before .loop .i) .price * came (c .before .before .before .before .before .before .before .before .before .before .before) (c .before .before .before .before .before .before .before .before .before .before .loop .i) .turns
 turned-is c = ap₂ (λ (x y : ℕ). x * y) (c .before .before .before .before .before .before .before .wide32 .ensures .0) (c .wide162 .ensures .0)
 
 turned-most : (c : tie.After-wide162 Inv-loop μ-loop) → c .before .before .before .before .before .before .before .wide32 .result * c .wide162 .result ≤ 281_474_976_710_656
@@ -54,6 +61,9 @@ element-copy-out-wide32 c = omega arith
 
 wide32-requires : tie.Need-wide32-requires Inv-loop μ-loop
 wide32-requires c κs = search needs
+
+add-wide32 : tie.Need-add-wide32 Inv-loop μ-loop
+add-wide32 c = omega arith
 
 mul-wide32-2 : tie.Need-mul-wide32-2 Inv-loop μ-loop
 mul-wide32-2 c = omega arith
@@ -78,15 +88,19 @@ mul-spent c = record { fits = omega (arith, spent-most c) }
 
 returns : tie.Need-returns Inv-loop μ-loop
 unfolding spent-of
-returns c = let s = c .before .before .before .before .before .before .before .before .before in
+returns c =
+    let s = c .before .before .before .before .before .before .before .before .before in
     let i = c .before .before .before .before .before .before .before .before .loop .i in
-    rw (every-not (s .args .n) (λ j. leb (paid s j) (getD (s .args .budgets .now) j 0)) i (omega arith) (lt-leb (paid s i) (getD (s .args .budgets .now) i 0) (omega (arith, spent-is (c .before), c .before .before .before .wide322 .ensures .0))))
+    rw (every-not (s .args .n) (λ j. leb (paid s j) (came s j .budget)) i (omega arith) (lt-leb (paid s i) (came s i .budget) (omega (arith, spent-is (c .before), c .before .before .before .wide322 .ensures .0))))
 
 add-all : tie.Need-add-all Inv-loop μ-loop
 add-all c = omega (arith, c .before .before .before .wide322 .ensures .1)
 
 add-takings : tie.Need-add-takings Inv-loop μ-loop
 add-takings c = omega (arith, spent-most (c .before))
+
+add-wide16 : tie.Need-add-wide16 Inv-loop μ-loop
+add-wide16 c = omega arith
 
 mul-wide16-2 : tie.Need-mul-wide16-2 Inv-loop μ-loop
 mul-wide16-2 c = omega arith
@@ -116,11 +130,11 @@ loop-again c =
     let e = spent-is (c .before .before .before) in
     let b = c .before .before .before .before .before .wide322 .ensures .0 in (
       omega arith,
-      every-next (l .i) (λ j. leb (paid s j) (getD (s .args .budgets .now) j 0))
-          ∙ both-join (every (l .i) (λ j. leb (paid s j) (getD (s .args .budgets .now) j 0))) (leb (paid s (l .i)) (getD (s .args .budgets .now) (l .i) 0)) (l .inv .1) (le-leb (paid s (l .i)) (getD (s .args .budgets .now) (l .i) 0) (omega (arith, e, b, c .before .before .if1 .left))),
-      omega (arith, sum-next (l .i) (λ j. getD (s .args .budgets .now) j 0), l .inv .2, b),
+      every-next (l .i) (λ j. leb (paid s j) (came s j .budget))
+          ∙ both-join (every (l .i) (λ j. leb (paid s j) (came s j .budget))) (leb (paid s (l .i)) (came s (l .i) .budget)) (l .inv .1) (le-leb (paid s (l .i)) (came s (l .i) .budget) (omega (arith, e, b, c .before .before .if1 .left))),
+      omega (arith, sum-next (l .i) (λ j. came s j .budget), l .inv .2, b),
       omega (arith, sum-next (l .i) (paid s), l .inv .3, e),
-      omega (arith, sum-next (l .i) (λ j. getD (s .args .prices .now) j 0 * getD (s .args .turns .now) j 0), l .inv .4, turned-is c),
+      omega (arith, sum-next (l .i) (λ j. came s j .price * came s j .turns), l .inv .4, turned-is c),
       omega (arith, c .before .before .before .before .before .wide322 .ensures .1, l .inv .5),
       omega (arith, spent-most (c .before .before .before), l .inv .6),
       omega (arith, turned-most c, l .inv .7),
@@ -144,6 +158,7 @@ spend-all-spec =
     mul-wide32
     element-copy-out-wide32
     wide32-requires
+    add-wide32
     mul-wide32-2
     element-copy-out-wide32-2
     wide32-requires-2
@@ -154,6 +169,7 @@ spend-all-spec =
     returns
     add-all
     add-takings
+    add-wide16
     mul-wide16-2
     element-copy-out-wide16-2
     wide16-requires-2

@@ -1,31 +1,38 @@
+-- The loop keeps: the sum so far is that of the first i campaigns, at most i × 1,000,000 × 2^32. No difference is
+-- negative, since the weights rise with the age.
 use Rattle.finite.proofs.Sums.{sum-next}
 use Rattle.campaigns.proofs.Laws.{plan-sized}
 use Rattle.powers.proofs.Weight.{weight-mono}
 use native.Mathlib.Nat.{mul-le-mul}
-use Rattle.audit.specs.Inner.{waited-of}
+use Rattle.audit.specs.Inner.{waited-of, waiting}
 use Rattle.finite.specs.Finite.{sum}
-use lib.ListN.{getD}
-use native.Mathlib.Omega.{arith}
-use Prim.Native.Nat.{ℕ, _-_, _*_, _≤_}
+use Prim.Native.Nat.{_*_}
 use Rattle.powers.specs.Power.{weight}
 use mathlib.Core.Path.{_≡_, refl, ap, ap₂, _∙_}
 use borrow.Author.Needs.{needs}
+use Rattle.campaigns.specs.declared.Campaign.{Campaign}
+use Rattle.campaigns.specs.Campaign.{campaign-at}
+use native.Mathlib.Omega.{arith}
+use Prim.Native.Nat.{ℕ, _-_, _≤_}
 use Rattle.audit.proofs.sums.wait_all.Statement.{statement}
 use Rattle.audit.proofs.sums.wait_all.Tie as tie
 
 abbrev Inv-loop : tie.InvT-loop
-Inv-loop n plan weights prices ages low sum₀ i₀ sum i = (i ≤ n) × (sum ≡ waited-of plan i prices ages) × (sum ≤ i * 4_294_967_296_000_000)
+Inv-loop n plan weights terms counts low sum₀ i₀ sum i = (i ≤ n) × (sum ≡ waited-of plan i (campaign-at terms counts)) × (sum ≤ i * 4_294_967_296_000_000)
 
 abbrev μ-loop : tie.MeasureT-loop
-μ-loop n plan weights prices ages low sum₀ i₀ sum i = n - i
+μ-loop n plan weights terms counts low sum₀ i₀ sum i = n - i
+
+abbrev came : tie.Start Inv-loop μ-loop → ℕ → Campaign
+came s = campaign-at (s .args .terms .now) (s .args .counts .now)
 
 abbrev weighed : tie.Start Inv-loop μ-loop → ℕ → ℕ
 weighed s a = weight (s .args .plan .depth) (s .args .plan .width) a
 
 abbrev gain : tie.Start Inv-loop μ-loop → ℕ → ℕ
-gain s i = getD (s .args .prices .now) i 0 * (weighed s (getD (s .args .ages .now) i 0) - weighed s 0)
+gain s i = came s i .price * waiting (s .args .plan) (came s i)
 
-weight-is : (c : tie.After-wide32 Inv-loop μ-loop) → c .before .before .weigh2 .result ≡ weighed (c .before .before .before .before .before .before .before .before) (getD (c .before .before .before .before .before .before .before .before .args .ages .now) (c .before .before .before .before .before .before .loop .i) 0)
+weight-is : (c : tie.After-wide32 Inv-loop μ-loop) → c .before .before .weigh2 .result ≡ weighed (c .before .before .before .before .before .before .before .before) (came (c .before .before .before .before .before .before .before .before) (c .before .before .before .before .before .before .loop .i) .age)
 weight-is c = c .before .before .weigh2 .ensures .0 ∙ ap (weighed (c .before .before .before .before .before .before .before .before)) (c .before .before .before .wide16 .ensures .0)
 
 rising : (c : tie.After-wide32 Inv-loop μ-loop) → c .before .before .before .before .before .before .before .weigh .result ≤ c .before .before .weigh2 .result
@@ -33,7 +40,7 @@ rising c =
     let s = c .before .before .before .before .before .before .before .before in
     let i = c .before .before .before .before .before .before .loop .i in
     let z = plan-sized (s .args .plan) (s .pre .1 .0 .plan-sound) in
-    omega (arith, weight-is c, c .before .before .before .before .before .before .before .weigh .ensures .0, weight-mono (s .args .plan .depth) (s .args .plan .width) (z .wide) (getD (s .args .ages .now) i 0) (s .pre .1 .1 .age-most i (c .before .before .before .before .before .loop-test .taken)))
+    omega (arith, weight-is c, c .before .before .before .before .before .before .before .weigh .ensures .0, weight-mono (s .args .plan .depth) (s .args .plan .width) (z .wide) (came s i .age) (s .pre .1 .1 .age-most i (c .before .before .before .before .before .loop-test .taken)))
 
 gained-is : (c : tie.After-wide32 Inv-loop μ-loop) → c .wide32 .result * (c .before .before .weigh2 .result - c .before .before .before .before .before .before .before .weigh .result) ≡ gain (c .before .before .before .before .before .before .before .before) (c .before .before .before .before .before .before .loop .i)
 gained-is c = ap₂ (λ (x y : ℕ). x * y) (c .wide32 .ensures .0) (ap₂ (λ (x y : ℕ). x - y) (weight-is c) (c .before .before .before .before .before .before .before .weigh .ensures .0))
@@ -50,6 +57,9 @@ weigh-requires c κs = (c .pre .1 .0, omega arith)
 loop-holds : tie.Need-loop-holds Inv-loop μ-loop
 unfolding waited-of sum
 loop-holds c = (omega arith, refl, omega arith)
+
+add-wide16 : tie.Need-add-wide16 Inv-loop μ-loop
+add-wide16 c = omega arith
 
 mul-wide16 : tie.Need-mul-wide16 Inv-loop μ-loop
 mul-wide16 c = omega arith
@@ -98,7 +108,7 @@ loop-again c =
     )
 
 returns : tie.Need-returns Inv-loop μ-loop
-returns c = let e : c .before .loop .i ≡ c .before .before .before .args .n = omega arith in c .before .loop .inv .1 ∙ ap (λ (m : ℕ). waited-of (c .before .before .before .args .plan) m (c .before .before .before .args .prices .now) (c .before .before .before .args .ages .now)) e
+returns c = let s = c .before .before .before in let e : c .before .loop .i ≡ s .args .n = omega arith in c .before .loop .inv .1 ∙ ap (λ (m : ℕ). waited-of (s .args .plan) m (came s)) e
 
 pub wait-all-spec : {M : Type 1} → statement M
 wait-all-spec =
@@ -108,6 +118,7 @@ wait-all-spec =
     μ-loop
     weigh-requires
     loop-holds
+    add-wide16
     mul-wide16
     element-copy-out-wide16
     wide16-requires

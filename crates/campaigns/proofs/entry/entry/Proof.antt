@@ -1,3 +1,4 @@
+-- The six columns at i < 64 are in the arrays, and what is read is campaign i, no wider than the arrays' entries.
 use borrow.Author.Needs.{needs}
 use Rattle.campaigns.proofs.entry.entry.Statement.{statement}
 use Rattle.campaigns.proofs.entry.entry.Tie as tie
@@ -10,6 +11,9 @@ element-copy-out-wide32 c = search needs
 
 wide32-requires : tie.Need-wide32-requires
 wide32-requires c κs = search needs
+
+add-wide32 : tie.Need-add-wide32
+add-wide32 c = search needs
 
 mul-wide32-2 : tie.Need-mul-wide32-2
 mul-wide32-2 c = search needs
@@ -29,6 +33,9 @@ element-copy-out-wide16 c = search needs
 wide16-requires : tie.Need-wide16-requires
 wide16-requires c κs = search needs
 
+add-wide16 : tie.Need-add-wide16
+add-wide16 c = search needs
+
 mul-wide16-2 : tie.Need-mul-wide16-2
 mul-wide16-2 c = search needs
 
@@ -38,6 +45,9 @@ element-copy-out-wide16-2 c = search needs
 wide16-requires-2 : tie.Need-wide16-requires-2
 wide16-requires-2 c κs = search needs
 
+add-wide16-2 : tie.Need-add-wide16-2
+add-wide16-2 c = search needs
+
 mul-wide16-3 : tie.Need-mul-wide16-3
 mul-wide16-3 c = search needs
 
@@ -46,6 +56,9 @@ element-copy-out-wide16-3 c = search needs
 
 wide16-requires-3 : tie.Need-wide16-requires-3
 wide16-requires-3 c κs = search needs
+
+add-wide16-3 : tie.Need-add-wide16-3
+add-wide16-3 c = search needs
 
 mul-wide16-4 : tie.Need-mul-wide16-4
 mul-wide16-4 c = search needs
@@ -76,18 +89,22 @@ entry-spec =
     mul-wide32
     element-copy-out-wide32
     wide32-requires
+    add-wide32
     mul-wide32-2
     element-copy-out-wide32-2
     wide32-requires-2
     mul-wide16
     element-copy-out-wide16
     wide16-requires
+    add-wide16
     mul-wide16-2
     element-copy-out-wide16-2
     wide16-requires-2
+    add-wide16-2
     mul-wide16-3
     element-copy-out-wide16-3
     wide16-requires-3
+    add-wide16-3
     mul-wide16-4
     element-copy-out-wide16-4
     wide16-requires-4

@@ -1,45 +1,65 @@
-use Rattle.views.specs.Inner.{Ready}
-use Rattle.day.specs.Day.{campaign}
-use Rattle.day.proofs.Shown.{named-ready, accepted-shows, refused-shows}
-use Rattle.day.proofs.State.{sound-facts}
-use Rattle.day.proofs.Questions.{Yes, refused-is, asked-yes}
-use Rattle.day.specs.Calls.Call.{show-view}
-use Rattle.day.specs.Calls.{first-no, questions, width-holds}
-use Rattle.day.specs.Parts.{state-of}
+-- Questions 11 to 14; where all are answered yes, the named campaigns of the sound state are what `play` asks for, and
+-- its leader and counts are the outcome of the view.
+use borrow.Author.Tests.{not-true, not-false}
+use mathlib.Core.Bool.{true, false}
+use mathlib.Core.Path.{_≡_, refl, ap, sym, _∙_}
+use native.Mathlib.Omega.{arith}
 use Rattle.day.specs.declared.Day.{Day}
-use mathlib.Core.Path.{_≡_}
+use Rattle.day.specs.Day.{state-of}
+use borrow.Author.Tests.{ltb-true}
+use Rattle.choice.specs.Inner.{Ready}
+use Rattle.day.specs.Day.{campaign}
+use Rattle.day.specs.Calls.{first-no, questions}
+use Rattle.day.specs.Calls.Call.{show-view}
+use Rattle.day.proofs.State.{sound-facts}
+use Rattle.day.proofs.Questions.{Yes, asked-yes}
+use Rattle.day.proofs.Shown.{named-ready, accepted-shows}
+use Rattle.day.proofs.Steps.{steps-refused, view-asks}
 use borrow.Author.Needs.{needs}
 use Rattle.day.proofs.view.show_sound.Statement.{statement}
 use Rattle.day.proofs.view.show_sound.Tie as tie
 
 abbrev state : tie.Start → Day
-state s = state-of (s .args .phase) (s .args .plan) (s .args .count) (s .args .accepted) (s .args .prices .now) (s .args .budgets .now) (s .args .plays .now) (s .args .turns .now) (s .args .ages .now) (s .args .named .now)
+state s = state-of (s .args .head) (s .args .terms .now) (s .args .counts .now)
 
 asked : (c : tie.After-view-question) → c .view-question .result ≡ first-no (questions (state (c .before)) (show-view (c .before .args .view)))
-unfolding first-no width-holds
-asked c = rw (c .before .pre .1 .1) (c .view-question .ensures)
+asked c = let a = c .before .args in c .view-question .ensures ∙ view-asks (a .head) (a .terms .now) (a .counts .now) (a .view) (c .before .pre .1 .is-sound)
 
 yes : (c : tie.Else1) → Yes (questions (state (c .before .before)) (show-view (c .before .before .args .view)))
 yes c = asked-yes (state (c .before .before)) (show-view (c .before .before .args .view)) (c .before .view-question .result) (asked (c .before)) (c .if1 .left)
 
-ready : (c : tie.Else1) → Ready (c .before .before .args .plan) (c .before .before .args .view) (campaign (state (c .before .before)))
-ready c = let y = yes c in named-ready (state (c .before .before)) (c .before .before .args .view) (sound-facts (state (c .before .before)) (y .0)) (y .1 .1 .1 .0)
+ready : (c : tie.Else1) → Ready (c .before .before .args .head .plan) (c .before .before .args .view) (campaign (state (c .before .before)))
+ready c = let s = state (c .before .before) in let y = yes c in named-ready s (c .before .before .args .view) (sound-facts s (y .0)) (y .1 .1 .1 .0)
 
 view-question-requires : tie.Need-view-question-requires
 view-question-requires c κs = search needs
 
+refused-requires : tie.Need-refused-requires
+refused-requires c κs = search needs
+
 returns : tie.Need-returns
-returns c = refused-shows (state (c .before .before)) (c .before .before .args .view) (c .before .view-question .result) (refused-is (state (c .before .before)) (show-view (c .before .before .args .view)) (c .before .view-question .result) (asked (c .before)) (c .if1 .taken))
+returns c = let s = c .before .before .before in steps-refused (s .args .head) (s .args .terms .now) (s .args .counts .now) (show-view (s .args .view)) (c .refused .result) (c .before .before .view-question .result) (c .refused .ensures) (asked (c .before .before)) (c .before .if1 .taken)
 
 play-requires : tie.Need-play-requires
-play-requires c κs = (c .before .before .before .before .before .before .pre .0, (c .before .before .before .before .before .before .pre .1 .0, ready (c .before .before .before .before)))
+play-requires c κs = let s = c .before .before .before .before in (s .pre .0, (s .pre .1 .room, ready (c .before .before)))
 
 told-requires : tie.Need-told-requires
 told-requires c κs = search needs
 
+add-t13 : tie.Need-add-t13
+add-t13 c = omega (arith, ltb-true (c .before .before .before .before .before .before .before .args .head .accepted) 4_096 (yes (c .before .before .before .before .before) .1 .1 .0))
+
 returns-2 : tie.Need-returns-2
-returns-2 c = let s = c .before .before .before .before .before .before .before .before in accepted-shows (state s) (s .args .view) (c .before .play .result) (yes (c .before .before .before .before .before .before)) (c .before .play .ensures .0) _ _ _ _ (c .told .result) (c .before .play .ensures .1) (c .told .ensures)
+returns-2 c = let s = c .before .before .before .before .before .before .before in accepted-shows (s .args .head) (s .args .terms .now) (s .args .counts .now) (s .args .view) (c .before .before .play .result) (yes (c .before .before .before .before .before)) (c .before .before .play .ensures .0) _ (c .before .told .result) (c .before .before .play .ensures .1) (c .before .told .ensures)
 
 pub show-sound-spec : {M : Type 1} → statement M
 show-sound-spec =
-    tie.close (tie.spec view-question-requires returns play-requires told-requires returns-2)
+    tie.close
+    (tie.spec
+    view-question-requires
+    refused-requires
+    returns
+    play-requires
+    told-requires
+    add-t13
+    returns-2)

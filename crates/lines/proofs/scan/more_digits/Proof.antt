@@ -1,6 +1,5 @@
--- The digits behind those of the value `first`. The loop's invariant: reading on from here with the number so far gives
--- what reading on from the first digits gives, and the number is within the slot's range. A digit that leaves the range
--- ends it, since more digits make no smaller number.
+-- The loop keeps: reading on from here with the number so far gives what reading on from the first digits gives, and
+-- the number is within the slot's range. A digit that leaves the range ends it: more digits make no smaller number.
 use mathlib.Core.Path.{_≡_, refl, ap, sym, _∙_}
 use mathlib.Core.Bool.{true, false}
 use Prim.Native.Nat.{ℕ, _+_, _*_, _-_, _≤_}

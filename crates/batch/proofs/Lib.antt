@@ -1,0 +1,4 @@
+pub mod Turns
+pub mod Ends
+pub mod Rests
+pub mod Batches

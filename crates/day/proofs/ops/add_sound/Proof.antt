@@ -1,0 +1,104 @@
+-- An accepted adding: question 7 leaves room for the entry, 8 and 9 make its terms fit 32 bits, and the two writes are
+-- the campaigns with one more.
+use borrow.Author.Tests.{not-true, not-false}
+use mathlib.Core.Bool.{true, false}
+use mathlib.Core.Path.{_≡_, refl, ap, sym, _∙_}
+use native.Mathlib.Omega.{arith}
+use Rattle.day.specs.declared.Day.{Day}
+use Rattle.day.specs.Day.{state-of}
+use Prim.Native.Nat.{ℕ, _<_, _≤_}
+use lib.Dec.{leb}
+use borrow.Author.Tests.{leb-true, ltb-true}
+use Rattle.finite.proofs.Tests.{both-right}
+use Rattle.day.specs.declared.Answer.the-variants.{Done}
+use Rattle.day.specs.declared.Outcome.{Outcome}
+use Rattle.day.specs.Calls.{first-no, questions}
+use Rattle.day.specs.Calls.Call.{add-campaign}
+use Rattle.day.specs.Inner.{add-questions}
+use Rattle.day.proofs.State.{sound-facts, joined-is}
+use Rattle.day.proofs.Questions.{Yes, asked-yes, call-yes}
+use Rattle.day.proofs.Steps.{steps-refused, add-asks}
+use borrow.Author.Needs.{needs}
+use Rattle.day.proofs.ops.add_sound.Statement.{statement}
+use Rattle.day.proofs.ops.add_sound.Tie as tie
+
+abbrev state : tie.Start → Day
+state s = state-of (s .args .head) (s .args .terms .now) (s .args .counts .now)
+
+asked : (c : tie.After-add-question) → c .add-question .result ≡ first-no (questions (state (c .before .before .before)) (add-campaign (c .before .before .before .args .t)))
+asked c =
+    let a = c .before .before .before .args in
+    c .add-question .ensures ∙ ap (λ (b : ℕ). first-no (add-questions (a .head) (a .t) b)) (c .before .budgeted .ensures .0) ∙ add-asks (a .head) (a .terms .now) (a .counts .now) (a .t) (c .before .before .before .pre .is-sound)
+
+yes : (c : tie.Else1) → Yes (questions (state (c .before .before .before .before)) (add-campaign (c .before .before .before .before .args .t)))
+yes c = asked-yes (state (c .before .before .before .before)) (add-campaign (c .before .before .before .before .args .t)) (c .before .add-question .result) (asked (c .before)) (c .if1 .left)
+
+room : (c : tie.Else1) → c .before .before .before .before .args .head .count < 64
+room c = ltb-true (c .before .before .before .before .args .head .count) 64 (yes c .1 .1 .0)
+
+price-narrow : (c : tie.Else1) → c .before .before .before .before .args .t .price ≤ 1_000_000
+price-narrow c = let t = c .before .before .before .before .args .t in leb-true (t .price) 1_000_000 (both-right (leb 1 (t .price)) (leb (t .price) 1_000_000) (yes c .1 .1 .1 .0))
+
+budget-narrow : (c : tie.Else1) → c .before .before .before .before .args .t .budget ≤ 2_000_000_000
+budget-narrow c = let t = c .before .before .before .before .args .t in leb-true (t .budget) 2_000_000_000 (both-right (leb (t .price) (t .budget)) (leb (t .budget) 2_000_000_000) (yes c .1 .1 .1 .1 .0))
+
+budgeted-requires : tie.Need-budgeted-requires
+budgeted-requires c κs = sound-facts (state (c .before)) (c .before .pre .is-sound) .few
+
+add-question-requires : tie.Need-add-question-requires
+add-question-requires c κs = c .budgeted .ensures .1
+
+refused-requires : tie.Need-refused-requires
+refused-requires c κs = search needs
+
+returns : tie.Need-returns
+returns c = let s = c .before .before .before .before .before in steps-refused (s .args .head) (s .args .terms .now) (s .args .counts .now) (add-campaign (s .args .t)) (c .refused .result) (c .before .before .add-question .result) (c .refused .ensures) (asked (c .before .before)) (c .before .if1 .taken)
+
+cast-terms : tie.Need-cast-terms
+cast-terms c = omega (arith, price-narrow (c .before))
+
+mul-terms : tie.Need-mul-terms
+mul-terms c = omega (arith, room (c .before))
+
+element-write-terms : tie.Need-element-write-terms
+element-write-terms c = omega (arith, room (c .before))
+
+cast-terms-2 : tie.Need-cast-terms-2
+cast-terms-2 c = omega (arith, budget-narrow (c .before .before))
+
+add-terms : tie.Need-add-terms
+add-terms c = omega (arith, room (c .before .before))
+
+mul-terms-2 : tie.Need-mul-terms-2
+mul-terms-2 c = omega (arith, room (c .before .before))
+
+element-write-terms-2 : tie.Need-element-write-terms-2
+element-write-terms-2 c = omega (arith, room (c .before .before))
+
+add-t19 : tie.Need-add-t19
+add-t19 c = omega (arith, room (c .before .before .before .before))
+
+returns-2 : tie.Need-returns-2
+returns-2 c =
+    let s = c .before .before .before .before .before .before .before .before in
+    let y = yes (c .before .before .before .before) in
+    ap (λ (d : Day). record { day = d; answer = Done }) (joined-is (state s) (s .args .t) (s .pre .room) (sound-facts (state s) (s .pre .is-sound)) (room (c .before .before .before .before)) (y .1 .0))
+    ∙ sym (call-yes (state s) (add-campaign (s .args .t)) y)
+
+pub add-sound-spec : {M : Type 1} → statement M
+add-sound-spec =
+    tie.close
+    (tie.spec
+    budgeted-requires
+    add-question-requires
+    refused-requires
+    returns
+    cast-terms
+    mul-terms
+    element-write-terms
+    cast-terms-2
+    add-terms
+    mul-terms-2
+    element-write-terms-2
+    add-t19
+    returns-2)

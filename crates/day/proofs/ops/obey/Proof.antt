@@ -1,0 +1,47 @@
+-- A call of a state that is not sound gets 1; any other goes to the operations of a sound state.
+use mathlib.Core.Path.{_≡_, ap, _∙_}
+use borrow.Author.Needs.{needs}
+use borrow.Author.Tests.{not-true, not-false}
+use Rattle.day.specs.declared.Step.{Step}
+use Rattle.day.specs.Day.{state-of}
+use Rattle.day.specs.Parts.{asked, outcome-of}
+use Rattle.day.proofs.Questions.{unsound-refused}
+use Rattle.day.proofs.ops.obey.Statement.{statement}
+use Rattle.day.proofs.ops.obey.Tie as tie
+
+sized-requires : tie.Need-sized-requires
+sized-requires c κs = search needs
+
+prepare-requires : tie.Need-prepare-requires
+prepare-requires c κs = c .before .before .before .sized .ensures
+
+refused-requires : tie.Need-refused-requires
+refused-requires c κs = search needs
+
+returns : tie.Need-returns
+returns c =
+    let known = c .before .before in
+    let a = known .before .before .before .before .before .before .before .args in
+    let p = known .prepare in
+    ap (λ (x : Step). outcome-of x (a .terms .now) (a .counts .now)) (c .refused .ensures)
+    ∙ unsound-refused (state-of (a .head) (a .terms .now) (a .counts .now)) (asked (a .ask)) (p .ensures .sound-is ∙ not-true (p .result) (c .before .if1 .taken))
+
+obey-sound-requires : tie.Need-obey-sound-requires
+obey-sound-requires c κs =
+    let p = c .before .before .before .before .prepare in
+    let e = not-false (p .result) (c .before .before .before .if1 .left) in
+    (p .ensures .weights-are e, record { room = p .ensures .room; is-sound = p .ensures .sound-is ∙ e })
+
+returns-2 : tie.Need-returns-2
+returns-2 c = c .obey-sound .ensures
+
+pub obey-spec : {M : Type 1} → statement M
+obey-spec =
+    tie.close
+    (tie.spec
+    sized-requires
+    prepare-requires
+    refused-requires
+    returns
+    obey-sound-requires
+    returns-2)

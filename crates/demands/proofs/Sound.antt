@@ -1,0 +1,189 @@
+-- Every call keeps a sound state sound.
+use mathlib.Core.Path.{_≡_, refl, ap, subst}
+use mathlib.Core.Bool.{Bool, true, false}
+use mathlib.Core.List.{[], _∷_}
+use Prim.Native.Nat.{ℕ, suc, _+_, _≤_, _<_}
+use native.Mathlib.Nat.{le-trans, lt-of-lt-of-le, not-suc-le-zero}
+use native.Mathlib.Omega.{arith}
+use lib.Dec.{leb, ltb, eqb}
+use borrow.Author.Tests.{eq-eqb, ltb-true, ltb-false, leb-true, le-leb}
+use Rattle.finite.specs.Finite.{sum, count}
+use Rattle.finite.proofs.Tests.{both-right, all-of, every-of, joint-of, one-more}
+use Rattle.finite.proofs.Sums.{sum-eq, sum-zero, count-below}
+use Rattle.sets.specs.Set.{size}
+use Rattle.sets.proofs.Walk.{within-not-member}
+use Rattle.campaigns.specs.declared.Campaign.{Campaign}
+use Rattle.campaigns.specs.declared.Phase.{Phase}
+use Rattle.campaigns.specs.declared.Phase.the-variants.{Filling, Running, Closed}
+use Rattle.campaigns.specs.declared.Plan.{Plan}
+use Rattle.campaigns.specs.declared.Terms.{Terms}
+use Rattle.campaigns.specs.declared.View.{View}
+use Rattle.campaigns.specs.Choice.{is, role-of}
+use Rattle.campaigns.specs.Campaign.{spending, aged, after, fresh, depth-fits, width-fits, power-fits, sound-plan, uncounted, empty, untouched, sound-campaign}
+use Rattle.campaigns.specs.View.{names, pays, becomes, able, takings, claims, full}
+use Rattle.campaigns.proofs.Laws.{Sized, plan-sized}
+use Rattle.day.specs.declared.Day.{Day}
+use Rattle.day.specs.declared.Outcome.{Outcome}
+use Rattle.day.specs.Day.{campaign, holding, in-phase, no-terms, planned, blank-plan, blank, taken, claimed, budgeted}
+use Rattle.day.specs.Sound.{sound-entry, sound-tests, sound}
+use Rattle.campaigns.specs.Phase.{phase-holds}
+use Rattle.day.specs.Calls.{number, Call, width-holds, questions, result, joined, player, shown, call}
+use Rattle.day.specs.Calls.Call.{open-plan, add-campaign, start-day, show-view, ask-tally, close-day}
+use Rattle.day.proofs.Questions.{Yes, call-elim}
+use Rattle.day.proofs.State.{filling-is, Sound, sound-facts, sound-at, held-at, empty-at, campaign-holding}
+use Rattle.demands.proofs.Laws.{claim-of, claim-fresh}
+use Rattle.demands.proofs.Step.{able-few, takings-step, claims-step}
+use Rattle.demands.proofs.Holding.{sum-holding, joined-old, joined-new, sum-joined, takings-joined}
+use Rattle.demands.proofs.SoundCampaign.{campaign-sound, becomes-sound, fresh-sound}
+
+-- all that makes the state that holds n campaigns, f i at entry i, a sound one
+pub record Whole (p : Phase) (pl : Plan) (n a : ℕ) (f : ℕ → Campaign) : Type 0 where
+  pub plan-sound : sound-plan pl ≡ true
+  pub few : n ≤ 64
+  pub views : a ≤ 4_096
+  pub entry : (i : ℕ) → i < n → sound-campaign p pl a (f i) ≡ true
+  pub past : (i : ℕ) → n ≤ i → i < 64 → empty (f i) ≡ true
+  pub budgets : sum n (λ i. f i .budget) ≤ 2_000_000_000
+  pub phased : phase-holds p a (takings pl n f) ≡ true
+  pub covered : claims pl n f ≤ full pl (takings pl n f)
+
+whole-sound : (s : Day) → Whole (s .phase) (s .plan) (s .count) (s .accepted) (campaign s) → sound s ≡ true
+unfolding sound taken claimed budgeted
+whole-sound s h = all-of (sound-tests s) (h .plan-sound, (le-leb _ _ (h .few), (le-leb _ _ (h .views), (every-of 64 (sound-entry s) (λ i l. go i l (ltb i (s .count)) refl), (le-leb _ _ (h .budgets), (h .phased, (le-leb _ _ (h .covered), tt)))))))
+  where
+    go : (i : ℕ) → i < 64 → (b : Bool) → ltb i (s .count) ≡ b → sound-entry s i ≡ true
+    go i l true e = rw e (h .entry i (ltb-true i (s .count) e))
+    go i l false e = rw e (h .past i (ltb-false i (s .count) e) l)
+
+sound-holding : (p : Phase) (pl : Plan) (n a : ℕ) (f : ℕ → Campaign) → Whole p pl n a f → sound (holding p pl n a f) ≡ true
+sound-holding p pl n a f h =
+    let ta : takings pl n (campaign (holding p pl n a f)) ≡ takings pl n f = sum-holding p pl n a f spending (h .few) in
+    let cl : claims pl n (campaign (holding p pl n a f)) ≡ claims pl n f = sum-holding p pl n a f (claim-of pl) (h .few) in
+    whole-sound (holding p pl n a f) (record {
+      plan-sound = h .plan-sound;
+      few = h .few;
+      views = h .views;
+      entry = λ i l. rw (campaign-holding p pl n a f i (lt-of-lt-of-le l (h .few))) (h .entry i l);
+      past = λ i l m. rw (campaign-holding p pl n a f i m) (h .past i l m);
+      budgets = rw (sum-holding p pl n a f (λ c. c .budget) (h .few)) (h .budgets);
+      phased = rw ta (h .phased);
+      covered = rw (ta, cl) (h .covered);
+    })
+
+-- a plan with no campaigns
+sound-planned : (p : Phase) (pl : Plan) → sound-plan pl ≡ true → phase-holds p 0 0 ≡ true → sound (planned p pl) ≡ true
+unfolding empty uncounted
+sound-planned p pl e h = sound-holding p pl 0 0 (λ i. fresh no-terms) (record {
+  plan-sound = e;
+  few = omega arith;
+  views = omega arith;
+  entry = λ i l. absurd (not-suc-le-zero l);
+  past = λ i l m. refl;
+  budgets = omega (arith, sum-zero (λ i. 0));
+  phased = rw (sum-zero (λ i. 0)) h;
+  covered = omega (arith, sum-zero (λ i. claim-of pl (fresh no-terms)));
+})
+
+pub blank-sound : sound blank ≡ true
+unfolding blank sound-plan
+blank-sound = sound-planned (Closed 0) blank-plan refl refl
+
+budget-aged : (b : Bool) (c : Campaign) → aged b c .budget ≡ c .budget
+budget-aged true c = refl
+budget-aged false c = refl
+
+budget-after : (k : ℕ) (m p q : Bool) (c : Campaign) → after k (role-of m p q) c .budget ≡ c .budget
+budget-after k false p q c = refl
+budget-after k true false q c = refl
+budget-after k true true true c = refl
+budget-after k true true false c = budget-aged (eqb (c .age + 1) k) c
+
+absent-becomes : (pl : Plan) (w : View) (i : ℕ) (m p q : Bool) (c : Campaign) → m ≡ false → becomes pl w i (role-of m p q) c ≡ c
+absent-becomes pl w i m p q c e = rw e
+
+module _ (s : Day) (h : Sound s) where
+  sized : Sized (s .plan)
+  sized = plan-sized (s .plan) (h .plan-sound)
+
+  covered-claims : claims (s .plan) (s .count) (campaign s) ≤ full (s .plan) (takings (s .plan) (s .count) (campaign s))
+  unfolding taken claimed
+  covered-claims = h .covered
+
+  -- another phase than Filling
+  sound-phase : (p : Phase) → ((c : Campaign) → untouched p c ≡ true) → phase-holds p (s .accepted) (taken s) ≡ true → sound (in-phase s p) ≡ true
+  unfolding taken budgeted
+  sound-phase p u e = whole-sound (in-phase s p) (record {
+    plan-sound = h .plan-sound;
+    few = h .few;
+    views = h .views;
+    entry = λ i l. let o = held-at s h i l in campaign-sound p (s .plan) (s .accepted) (campaign s i) (o .is-priced) (o .young) (o .within-whole) (o .plays-turns) (o .turns-named) (o .named-accepted) (u (campaign s i));
+    past = empty-at s h;
+    budgets = h .budgets;
+    phased = e;
+    covered = covered-claims;
+  })
+
+  module _ (t : Terms) where
+    sound-joined : Yes (questions s (add-campaign t)) → sound (holding Filling (s .plan) (s .count + 1) (s .accepted) (joined s t)) ≡ true
+    unfolding budgeted taken
+    sound-joined (e1, (e6, (e7, (e8, (e9, (e10, _)))))) =
+        let f : s .phase ≡ Filling = filling-is (s .phase) e6 in
+        let room : s .count < 64 = ltb-true (s .count) 64 e7 in
+        let next : s .count + 1 ≡ suc (s .count) = omega arith in
+        sound-holding Filling (s .plan) (s .count + 1) (s .accepted) (joined s t) (record {
+          plan-sound = h .plan-sound;
+          few = omega arith;
+          views = h .views;
+          entry = λ i l. one-more (λ j. sound-campaign Filling (s .plan) (s .accepted) (joined s t j) ≡ true) (s .count)
+              (λ j m. rw (joined-old s t j (λ e. omega arith), ← f) (sound-at s h j m))
+              (rw (joined-new s t) (fresh-sound Filling (s .plan) (s .accepted) t (sized .deep) e8 e9))
+              i (omega arith);
+          past = λ i l m. rw (joined-old s t i (λ e. omega arith)) (empty-at s h i (omega arith) m);
+          budgets = omega (arith, sum-joined s t (λ c. c .budget), leb-true (sum (s .count) (λ i. campaign s i .budget) + t .budget) 2_000_000_000 e10);
+          phased = subst (λ (p : Phase). phase-holds p (s .accepted) (takings (s .plan) (s .count) (campaign s)) ≡ true) f (h .phased);
+          covered = omega (arith, covered-claims, sum-joined s t (claim-of (s .plan)), claim-fresh (s .plan) sized t, ap (full (s .plan)) (takings-joined s t));
+        })
+
+  module _ (w : View) where
+    few-able : width-holds s w ≡ true → count (s .count) (able (s .plan) w (campaign s)) ≤ s .plan .width
+    unfolding width-holds size
+    few-able e =
+        le-trans (able-few (s .count) (s .plan) w (campaign s))
+        (le-trans (count-below (s .count) 64 (names w) (h .few)) (leb-true (size (w .set)) (s .plan .width) (both-right (leb 1 (size (w .set))) (leb (size (w .set)) (s .plan .width)) e)))
+
+    sound-shown : Yes (questions s (show-view w)) → sound (holding Running (s .plan) (s .count) (s .accepted + 1) (shown s w)) ≡ true
+    unfolding budgeted
+    sound-shown (e1, (e11, (e12, (e13, (e14, _))))) = sound-holding Running (s .plan) (s .count) (s .accepted + 1) (shown s w) (record {
+      plan-sound = h .plan-sound;
+      few = h .few;
+      views = omega (arith, ltb-true (s .accepted) 4_096 e12);
+      entry = λ i l. becomes-sound (s .plan) (s .accepted) (campaign s i) (held-at s h i l) w i (is (player s w) i);
+      past = λ i l m. rw (absent-becomes (s .plan) w i (names w i) (pays (s .plan) w i (campaign s i)) (is (player s w) i) (campaign s i) (within-not-member (s .count) (w .set) i e13 l m)) (empty-at s h i l m);
+      budgets = rw (sum-eq (s .count) (λ i. shown s w i .budget) (λ i. campaign s i .budget) (λ i l. budget-after (s .plan .depth) (names w i) (pays (s .plan) w i (campaign s i)) (is (player s w) i) (campaign s i))) (h .budgets);
+      phased = refl;
+      covered = omega (arith, covered-claims, claims-step (s .count) (s .plan) w (campaign s) sized (λ i l. held-at s h i l .young) (few-able e14), ap (full (s .plan)) (takings-step (s .count) (s .plan) w (campaign s)));
+    })
+
+-- an opening that is accepted gives a sound state
+opened-sound : (s : Day) (pl : Plan) → Yes (questions s (open-plan pl)) → sound (planned Filling pl) ≡ true
+unfolding sound-plan
+opened-sound s pl (e1, (e2, (e3, (e4, (e5, _))))) = sound-planned Filling pl (joint-of (depth-fits pl) (width-fits pl ∷ power-fits pl ∷ []) (e3, (e4, (e5, tt)))) refl
+
+-- every call keeps a sound state sound
+pub sound-kept : (s : Day) (c : Call) → sound s ≡ true → sound (call s c .day) ≡ true
+sound-kept s c e = call-elim (λ (o : Outcome). sound (o .day) ≡ true) s c (λ q. e) (go c)
+  where
+    h : Sound s
+    h = sound-facts s e
+
+    go : (c : Call) → Yes (questions s c) → sound (result s c .day) ≡ true
+    go (open-plan pl) y = opened-sound s pl y
+    go (add-campaign t) y = sound-joined s h t y
+    go start-day y = sound-phase s h Running (λ x. refl) refl
+    go (show-view w) y = sound-shown s h w y
+    go (ask-tally i) y = e
+    go close-day y = sound-phase s h (Closed (taken s)) (λ x. refl) (eq-eqb (taken s) (taken s) refl)
+
+-- an accepted opening gives a sound state whatever it was given
+pub opening-sound : (s : Day) (pl : Plan) → number (call s (open-plan pl) .answer) ≡ 0 → sound (call s (open-plan pl) .day) ≡ true
+opening-sound s pl = call-elim (λ (o : Outcome). number (o .answer) ≡ 0 → sound (o .day) ≡ true) s (open-plan pl) (λ q e. absurd (omega arith)) (λ y e. opened-sound s pl y)

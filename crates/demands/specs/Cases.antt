@@ -1,0 +1,125 @@
+-- Document 01's listing, its cases by the limits and further ones, as one table.
+use mathlib.Core.Path.{_≡_}
+use mathlib.Core.Bool.{cond}
+use mathlib.Core.List.{List, [], _∷_, map}
+use Prim.Native.Nat.{ℕ}
+use lib.Dec.{ltb}
+use Rattle.finite.specs.Finite.{table}
+use Rattle.campaigns.specs.declared.Phase.{Phase}
+use Rattle.campaigns.specs.declared.Phase.the-variants.{Filling, Running}
+use Rattle.campaigns.specs.Campaign.{score, fresh}
+use Rattle.day.specs.declared.Answer.{Answer}
+use Rattle.day.specs.declared.Answer.the-variants.{Refused, Done, Played, Nobody, Tallied, Closing}
+use Rattle.day.specs.declared.Day.{Day}
+use Rattle.day.specs.Day.{campaign, holding, no-terms, blank}
+use Rattle.day.specs.Calls.{Call}
+use Rattle.day.specs.Calls.Call.{open-plan, add-campaign, start-day, show-view, ask-tally, close-day}
+use Rattle.demands.specs.Transcript.{Exchange, transcript, final}
+
+infix 70 _gives_
+-- a call and its answer
+abbrev pub _gives_ : Call → Answer → Exchange
+c gives a = record { made = c; answer = a }
+
+abbrev pub plan : (depth width : ℕ) → Call
+plan k d = open-plan (record { depth = k; width = d })
+
+abbrev pub campaign-of : (price budget : ℕ) → Call
+campaign-of p b = add-campaign (record { price = p; budget = b })
+
+abbrev pub view : (set : ℕ) → Call
+view v = show-view (record { set = v })
+
+pub data Case : Type 0 where
+  -- calls with the answers that they get from the blank state, and from a state
+  answered : List Exchange → Case
+  resumed : Day → List Exchange → Case
+  -- calls from the blank state, and the scores of the campaigns after them
+  scored : List Call → List ℕ → Case
+
+abbrev pub scores : Day → List ℕ
+scores s = table (s .count) (λ i. score (s .plan .depth) (s .plan .width) (campaign s i))
+
+-- a state of depth 1 and width 1 with n campaigns of price 1 and one play, which nothing named
+abbrev pub state : Phase → (count accepted : ℕ) → Day
+state p n a = holding p (record { depth = 1; width = 1 }) n a
+    (λ i. fresh (cond (ltb i n) (record { price = 1; budget = 1 }) no-terms))
+
+abbrev pub Holds : Case → Type 0
+Holds (answered xs) = transcript blank (map (λ x. x .made) xs) ≡ xs
+Holds (resumed s xs) = transcript s (map (λ x. x .made) xs) ≡ xs
+Holds (scored cs ns) = scores (final blank cs) ≡ ns
+
+abbrev pub All-hold : List Case → Type 0
+All-hold [] = Unit {0}
+All-hold (c ∷ cs) = Holds c × All-hold cs
+
+abbrev pub cases : List Case
+cases =
+    -- ★ depth 32 width 2 opens
+    answered (plan 32 2 gives Done ∷ []) ∷
+    -- ★ depth 20 width 3 opens, ★ 21 gives 5
+    answered (plan 21 3 gives Refused 5 ∷ plan 20 3 gives Done ∷ []) ∷
+    -- ★ depth 8 width 16 opens, depth 9 gives 5
+    answered (plan 9 16 gives Refused 5 ∷ plan 8 16 gives Done ∷ []) ∷
+    -- ★ depth 33 width 1 gives 3; ★ depth 0 width 0 gives 3
+    answered (plan 33 1 gives Refused 3 ∷ plan 0 0 gives Refused 3 ∷ []) ∷
+    -- ★ price 5 budget 4 gives 9; budget 5 is taken; ★ price 0 budget 0 gives 8
+    answered (plan 2 2 gives Done ∷ campaign-of 5 4 gives Refused 9 ∷ campaign-of 5 5 gives Done ∷
+    campaign-of 0 0 gives Refused 8 ∷ []) ∷
+    -- two budgets of 1,000,000,000 are taken; a third of 1 gives 10
+    answered (plan 2 2 gives Done ∷ campaign-of 1 1_000_000_000 gives Done ∷ campaign-of 1 1_000_000_000 gives Done ∷
+    campaign-of 1 1 gives Refused 10 ∷ []) ∷
+    -- ★ the second view of the listing: scores 5 and 6, campaign 1 plays
+    scored (plan 2 2 ∷ campaign-of 5 10 ∷ campaign-of 3 6 ∷ start-day ∷ view 3 ∷ []) (5 ∷ 6 ∷ []) ∷
+    -- the listing, whose fourth view ★ plays nobody; closing gives the tally of each campaign too
+    answered (
+    plan 2 2 gives Done ∷ campaign-of 5 10 gives Done ∷ campaign-of 3 6 gives Done ∷ start-day gives Done ∷
+    view 3 gives Played 0 5 ∷ view 3 gives Played 1 3 ∷ view 3 gives Played 0 5 ∷ view 1 gives Nobody ∷
+    view 2 gives Played 1 3 ∷ view 4 gives Refused 13 ∷
+    close-day gives Closing 16 48 64 ∷ ask-tally 0 gives Tallied 2 2 0 4 ∷ ask-tally 1 gives Tallied 2 2 0 4 ∷ []) ∷
+    -- ★ two fresh campaigns at price 4 with equal budgets: campaign 0 plays
+    answered (plan 2 2 gives Done ∷ campaign-of 4 8 gives Done ∷ campaign-of 4 8 gives Done ∷ start-day gives Done ∷
+    view 3 gives Played 0 4 ∷ []) ∷
+    -- ★ depth 1, width 2, prices 2 and 1: campaign 0 plays; campaign 1 gains a turn at age 0
+    answered (
+    plan 1 2 gives Done ∷ campaign-of 2 2 gives Done ∷ campaign-of 1 1 gives Done ∷ start-day gives Done ∷
+    view 3 gives Played 0 2 ∷ ask-tally 1 gives Tallied 0 1 0 1 ∷ []) ∷
+    -- Further limits and orders of questions, which the cases above do not reach.
+    -- the blank state: Closed, without campaigns
+    answered (
+    campaign-of 1 1 gives Refused 6 ∷ start-day gives Refused 6 ∷ view 0 gives Refused 11 ∷
+    close-day gives Refused 11 ∷ ask-tally 0 gives Refused 15 ∷
+    plan 1 0 gives Refused 4 ∷ plan 1 17 gives Refused 4 ∷ plan 32 16 gives Refused 5 ∷ plan 33 17 gives Refused 3 ∷
+    plan 32 1 gives Done ∷ plan 0 0 gives Refused 2 ∷ []) ∷
+    -- a price of 1,000,000 is taken and one more gives 8; a budget of 2,000,000,000 is taken and one more gives 9
+    answered (
+    plan 1 16 gives Done ∷ campaign-of 1_000_001 1_000_001 gives Refused 8 ∷
+    campaign-of 1 2_000_000_001 gives Refused 9 ∷ campaign-of 1_000_000 2_000_000_000 gives Done ∷
+    campaign-of 2 1 gives Refused 9 ∷ campaign-of 1 1 gives Refused 10 ∷ view 1 gives Refused 11 ∷
+    start-day gives Done ∷ start-day gives Refused 6 ∷ []) ∷
+    -- cents left over stay unspent; spent, the campaign is named on and ages no more
+    answered (
+    plan 2 2 gives Done ∷ campaign-of 5 9 gives Done ∷ start-day gives Done ∷ view 1 gives Played 0 5 ∷
+    view 1 gives Nobody ∷ ask-tally 0 gives Tallied 1 1 0 2 ∷
+    close-day gives Closing 5 15 20 ∷ close-day gives Refused 11 ∷ []) ∷
+    -- a view of none gives 14, of three where the width is 2 gives 14, and 13 is asked before; at its end a turn counts
+    -- in that same view
+    answered (
+    plan 2 2 gives Done ∷ campaign-of 3 9 gives Done ∷ campaign-of 2 2 gives Done ∷ campaign-of 1 1 gives Done ∷
+    start-day gives Done ∷
+    view 0 gives Refused 14 ∷ view 7 gives Refused 14 ∷ view 15 gives Refused 13 ∷ ask-tally 3 gives Refused 15 ∷
+    view 5 gives Played 0 3 ∷ ask-tally 2 gives Tallied 0 0 1 1 ∷ view 5 gives Played 0 3 ∷
+    ask-tally 2 gives Tallied 0 1 0 2 ∷ []) ∷
+    -- a day may start with no campaigns
+    answered (plan 2 2 gives Done ∷ start-day gives Done ∷ view 0 gives Refused 14 ∷ view 1 gives Refused 13 ∷
+    close-day gives Closing 0 0 0 ∷ []) ∷
+    -- a campaign is the 64th, and another gives 7
+    resumed (state Filling 63 0) (campaign-of 1 1 gives Done ∷ campaign-of 1 1 gives Refused 7 ∷ []) ∷
+    -- a view is the 4,096th, and another gives 12; it is asked before 13
+    resumed (state Running 1 4_095) (view 2 gives Refused 13 ∷ view 1 gives Played 0 1 ∷ view 2 gives Refused 12 ∷
+    view 1 gives Refused 12 ∷ []) ∷
+    -- no call of a state with more: 1
+    resumed (state Running 1 4_097) (view 1 gives Refused 1 ∷ close-day gives Refused 1 ∷ ask-tally 0 gives Refused 1 ∷
+    []) ∷
+    []

@@ -1,0 +1,45 @@
+-- Demands 1 and 2 of one call on a state, whoever made the state: what a refusal is, what an accepted call answers, and
+-- that a view is rule 1's choice. That no call stops or reads and writes elsewhere is what the prover says of every
+-- function.
+use mathlib.Core.Path.{_≡_}
+use mathlib.Core.Bool.{true}
+use mathlib.Core.List.{List, [], _∷_}
+use Prim.Native.Nat.{ℕ}
+use Rattle.campaigns.specs.declared.View.{View}
+use Rattle.campaigns.specs.Choice.{Choice}
+use Rattle.campaigns.specs.Choice.Choice.{nobody, plays}
+use Rattle.campaigns.specs.View.{able, figure, full}
+use Rattle.day.specs.declared.Day.{Day}
+use Rattle.day.specs.Day.{campaign, taken, claimed}
+use Rattle.day.specs.Sound.{sound}
+use Rattle.day.specs.Calls.{number, values, first-no, Call, questions, player, offers, call}
+use Rattle.day.specs.Calls.Call.{open-plan, add-campaign, start-day, show-view, ask-tally, close-day}
+use Rattle.demands.specs.Choice.{Right}
+
+-- the values of the answer to an accepted call: the player and the price of this one play; the four counts; takings,
+-- claim and full
+abbrev pub shown-values : (ℕ → ℕ) → Choice → List ℕ
+shown-values x nobody = []
+shown-values x (plays m) = m ∷ x m ∷ []
+
+abbrev pub given : Day → Call → List ℕ
+given s (open-plan pl) = []
+given s (add-campaign t) = []
+given s start-day = []
+given s (show-view w) = shown-values (offers s w) (player s w)
+given s (ask-tally i) = campaign s i .plays ∷ campaign s i .turns ∷ campaign s i .age ∷ campaign s i .named ∷ []
+given s close-day = taken s ∷ claimed s ∷ full (s .plan) (taken s) ∷ []
+
+pub record Answers (s : Day) (c : Call) : Type 0 where
+  -- the number of the first question that fails, or 0
+  pub number-is : number (call s c .answer) ≡ first-no (questions s c)
+  -- a refusal answers its number alone and leaves the state
+  pub refusal : (number (call s c .answer) ≡ 0 → ⊥) → (call s c .day ≡ s)
+      × (values (call s c .answer) ≡ first-no (questions s c) ∷ [])
+  pub values-are : number (call s c .answer) ≡ 0 → values (call s c .answer) ≡ given s c
+  pub keeps-sound : sound s ≡ true → sound (call s c .day) ≡ true
+
+-- the player of a view is rule 1's, among the named campaigns that can pay
+abbrev pub Plays-right : Day → View → Type 0
+Plays-right s w = Right (s .count) (able (s .plan) w (campaign s)) (λ i. figure (s .plan) w i (campaign s i))
+    (player s w)

@@ -1,4 +1,0 @@
-pub mod Rests
-pub mod Turns
-pub mod Desks
-pub mod Pieces

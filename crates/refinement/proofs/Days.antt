@@ -1,0 +1,265 @@
+-- Every list of calls keeps its day beside Algorithm 4.
+use mathlib.Core.Path.{_≡_, refl, ap, ap₂, sym, subst, _∙_}
+use mathlib.Core.Bool.{Bool, true, false}
+use mathlib.Core.List.{List, [], _∷_, _++_, map, map-append}
+use Prim.Native.Nat.{ℕ, suc, _+_, _≤_, _<_}
+use native.Mathlib.Nat.{not-suc-le-zero}
+use native.Mathlib.Numerals.{add-one}
+use native.Mathlib.Omega.{arith}
+use lib.ListN.{getD, length, length-append, length-map, List·getD-append}
+use lib.Seq.{getD-append-seam}
+use borrow.Author.Tests.{eqb-true, eq-eqb, ne-eqb, ltb-true, leb-true}
+use Rattle.finite.proofs.Tests.{never, both-left, one-more, all-parts}
+use Rattle.day.specs.declared.Answer.{Answer}
+use Rattle.day.specs.declared.Day.{Day}
+use Rattle.campaigns.specs.declared.Phase.{Phase}
+use Rattle.campaigns.specs.declared.Phase.the-variants.{Filling, Running, Closed}
+use Rattle.campaigns.specs.declared.Plan.{Plan}
+use Rattle.campaigns.specs.declared.Terms.{Terms}
+use Rattle.campaigns.specs.declared.View.{View}
+use Rattle.campaigns.specs.Choice.{Choice}
+use Rattle.campaigns.specs.Choice.Choice.{nobody, plays}
+use Rattle.campaigns.specs.Campaign.{fresh}
+use Rattle.campaigns.specs.View.{names, chosen-of}
+use Rattle.day.specs.Day.{campaign, in-phase, planned, no-terms, blank-plan, blank, taken}
+use Rattle.campaigns.specs.Phase.{is-filling}
+use Rattle.day.specs.Sound.{sound-tests, sound}
+use Rattle.day.specs.Calls.{number, Call, questions, joined, player, offers, shown, told, result, call}
+use Rattle.day.specs.Calls.Call.{open-plan, add-campaign, start-day, show-view, ask-tally, close-day}
+use Rattle.day.proofs.Questions.{Yes, call-elim}
+use Rattle.day.proofs.State.{campaign-holding}
+use Rattle.demands.specs.Transcript.{transcript, final}
+use Rattle.demands.proofs.Holding.{joined-old, joined-new}
+use Rattle.demands.proofs.Refusals.{result-number}
+use Rattle.floor.specs.History.{accepted, Starts, History, opening, with-call, entered, continued, history}
+use Rattle.floor.specs.History.Starts.{from-blank, from-opening}
+use Rattle.refinement.specs.Algorithm4.{Instance, Neighbors, Variables, feasible-neighbor, line-1, line-2, line-4, lines-3-to-11, matches-from, algorithm-4, matches}
+use Rattle.refinement.specs.Standing.{Buys-alike, slots, Posed}
+use Rattle.refinement.specs.Days.{replied, replies-from, replies, with-answer, terms-of, instance-of, Day-alike, Days-as-Algorithm-4}
+use Rattle.campaigns.proofs.Choices.{Fits, best-fits}
+use Rattle.refinement.proofs.Slots.{Follows}
+use Rattle.refinement.proofs.Simulation.{Proper, proper, follows-fresh, follows-stands, same-choice, same-step}
+
+-- one slot more
+line-2-snoc : (I : Instance) (Ns : List Neighbors) (N : Neighbors) (j : ℕ) (v : Variables) → line-2 I j (Ns ++ (N ∷ [])) v ≡ lines-3-to-11 I (length Ns + j) N (line-2 I j Ns v)
+unfolding line-2
+line-2-snoc I [] N j v = ap (λ m. lines-3-to-11 I m N v) (omega arith)
+line-2-snoc I (M ∷ Ns) N j v =
+    line-2-snoc I Ns N (suc j) (lines-3-to-11 I j M v) ∙ ap (λ m. lines-3-to-11 I m N (line-2 I (suc j) Ns (lines-3-to-11 I j M v))) (omega arith)
+
+matches-snoc : (I : Instance) (Ns : List Neighbors) (N : Neighbors) (j : ℕ) (v : Variables)
+    → matches-from I j (Ns ++ (N ∷ [])) v ≡ matches-from I j Ns v ++ (line-4 I (length Ns + j) N (line-2 I j Ns v) ∷ [])
+unfolding line-2 matches-from
+matches-snoc I [] N j v = ap (λ m. line-4 I m N v ∷ []) (omega arith)
+matches-snoc I (M ∷ Ns) N j v =
+    ap (λ ms. line-4 I j M v ∷ ms)
+    (matches-snoc I Ns N (suc j) (lines-3-to-11 I j M v) ∙ ap (λ m. matches-from I (suc j) Ns (lines-3-to-11 I j M v) ++ (line-4 I m N (line-2 I (suc j) Ns (lines-3-to-11 I j M v)) ∷ [])) (omega arith))
+
+-- the answer to a match, with the prices that the matched one's candidates have on both sides
+told-eq : (n : ℕ) (able : ℕ → Bool) (x y : ℕ → ℕ) → ((i : ℕ) → i < n → x i ≡ y i) → (m : Choice) → Fits n able m → told x m ≡ told y m
+told-eq n able x y e nobody f = refl
+told-eq n able x y e (plays m) f = rw (e m (f .0))
+
+-- what holds of the terms of a list and of one more
+snoc-all : (P : ℕ → Terms → Type 0) (ts : List Terms) (t : Terms) → ((i : ℕ) → i < length ts → P i (getD ts i no-terms)) → P (length ts) t
+    → (i : ℕ) → i < length (ts ++ (t ∷ [])) → P i (getD (ts ++ (t ∷ [])) i no-terms)
+snoc-all P ts t old new i l =
+    one-more (λ j. P j (getD (ts ++ (t ∷ [])) j no-terms)) (length ts) (λ j m. subst (P j) (sym (List·getD-append ts (t ∷ []) no-terms j m)) (old j m))
+    (subst (P (length ts)) (sym (getD-append-seam ts t [] no-terms)) new) i (omega (arith, length-append ts (t ∷ [])))
+
+few-campaigns : (s : Day) → sound s ≡ true → s .count ≤ 64
+unfolding sound
+few-campaigns s e = leb-true (s .count) 64 (all-parts (sound-tests s) e .1 .0)
+
+module _ (B : Terms → ℕ) (buys : Buys-alike B) where
+  abbrev pub Beside : History → Day → Type 0
+  Beside h s = (i : ℕ) → i < length (h .terms) → Follows (instance-of B h) (length (h .views)) (algorithm-4 (instance-of B h) (slots (h .views))) i (campaign s i)
+
+  abbrev pub Answered : History → List Answer → Type 0
+  Answered h rs = rs ≡ map (told (λ i. terms-of h i .price)) (matches (instance-of B h) (slots (h .views)))
+
+  -- the state s holds the day h, whose views were answered rs
+  pub record Kept (s : Day) (h : History) (rs : List Answer) : Type 0 where
+    pub plan-is : s .plan ≡ h .plan
+    pub many : length (h .terms) ≡ s .count
+    pub deep : 1 ≤ h .plan .depth
+    pub priced : (i : ℕ) → i < length (h .terms) → 1 ≤ terms-of h i .price
+    pub funded : (i : ℕ) → i < length (h .terms) → terms-of h i .price ≤ terms-of h i .budget
+    pub unviewed : is-filling (s .phase) ≡ true → h .views ≡ []
+    pub unplayed : is-filling (s .phase) ≡ true → (i : ℕ) → i < length (h .terms) → campaign s i ≡ fresh (terms-of h i)
+    pub beside : 1 < h .plan .width → Beside h s
+    pub answered : 1 < h .plan .width → Answered h rs
+
+  kept-opening : (p : Phase) (pl : Plan) → 1 ≤ pl .depth → Kept (planned p pl) (opening pl) []
+  unfolding matches-from
+  kept-opening p pl deep = record {
+    plan-is = refl;
+    many = refl;
+    deep = deep;
+    priced = λ i l. absurd (not-suc-le-zero l);
+    funded = λ i l. absurd (not-suc-le-zero l);
+    unviewed = λ _. refl;
+    unplayed = λ _ i l. absurd (not-suc-le-zero l);
+    beside = λ _ i l. absurd (not-suc-le-zero l);
+    answered = λ _. refl;
+  }
+
+  posed-of : (s : Day) (h : History) (rs : List Answer) → Kept s h rs → 1 < h .plan .width → Posed (h .plan) (length (h .terms)) (terms-of h)
+  posed-of s h rs k wide = record { deep = k .deep; wide = wide; priced = k .priced; funded = k .funded }
+
+  -- before the first view
+  beside-fresh : (s : Day) (h : History) → Posed (h .plan) (length (h .terms)) (terms-of h) → h .views ≡ [] → ((i : ℕ) → i < length (h .terms) → campaign s i ≡ fresh (terms-of h i)) → Beside h s
+  unfolding line-2
+  beside-fresh s h posed none same i l = rw (none, same i l) (follows-fresh B buys (h .plan) (length (h .terms)) (terms-of h) posed i l)
+
+  module _ (s : Day) (h : History) (rs : List Answer) (k : Kept s h rs) where
+    module _ (t : Terms) (y : Yes (questions s (add-campaign t))) where
+      more : History
+      more = with-call h (add-campaign t) (result s (add-campaign t) .answer)
+
+      more-priced : (i : ℕ) → i < length (more .terms) → 1 ≤ terms-of more i .price
+      unfolding more
+      more-priced = snoc-all (λ i u. 1 ≤ u .price) (h .terms) t (k .priced) (leb-true 1 (t .price) (both-left _ _ (y .1 .1 .1 .0)))
+
+      more-funded : (i : ℕ) → i < length (more .terms) → terms-of more i .price ≤ terms-of more i .budget
+      unfolding more
+      more-funded = snoc-all (λ i u. u .price ≤ u .budget) (h .terms) t (k .funded) (leb-true (t .price) (t .budget) (both-left _ _ (y .1 .1 .1 .1 .0)))
+
+      more-fresh : (i : ℕ) → i < length (more .terms) → campaign (result s (add-campaign t) .day) i ≡ fresh (terms-of more i)
+      unfolding more
+      more-fresh =
+          let room : s .count < 64 = ltb-true (s .count) 64 (y .1 .1 .0) in
+          snoc-all (λ i u. campaign (result s (add-campaign t) .day) i ≡ fresh u) (h .terms) t
+          (λ i l. campaign-holding Filling (s .plan) (s .count + 1) (s .accepted) (joined s t) i (omega (arith, k .many)) ∙ joined-old s t i (λ e. omega (arith, k .many)) ∙ k .unplayed (y .1 .0) i l)
+          (campaign-holding Filling (s .plan) (s .count + 1) (s .accepted) (joined s t) (length (h .terms)) (omega (arith, k .many)) ∙ ap (joined s t) (k .many) ∙ joined-new s t)
+
+      kept-add : Kept (result s (add-campaign t) .day) more rs
+      unfolding more matches-from
+      kept-add = record {
+        plan-is = k .plan-is;
+        many = length-append (h .terms) (t ∷ []) ∙ ap (λ n. n + 1) (k .many);
+        deep = k .deep;
+        priced = more-priced;
+        funded = more-funded;
+        unviewed = λ _. k .unviewed (y .1 .0);
+        unplayed = λ _. more-fresh;
+        beside = λ wide. beside-fresh (result s (add-campaign t) .day) more (record { deep = k .deep; wide = wide; priced = more-priced; funded = more-funded }) (k .unviewed (y .1 .0)) more-fresh;
+        answered = λ wide. rw (k .unviewed (y .1 .0)) (rw (k .unviewed (y .1 .0)) at (k .answered wide));
+      }
+
+    module _ (w : View) (y : Yes (questions s (show-view w))) where
+      I : Instance
+      I = instance-of B h
+
+      so-far : Variables
+      so-far = algorithm-4 I (slots (h .views))
+
+      slots-snoc : slots (h .views ++ (w ∷ [])) ≡ slots (h .views) ++ (names w ∷ [])
+      slots-snoc = map-append names (h .views) (w ∷ [])
+
+      slots-many : length (slots (h .views)) + 0 ≡ length (h .views)
+      slots-many = omega (arith, length-map (h .views) names)
+
+      module _ (wide : 1 < h .plan .width) where
+        ok : Proper I
+        unfolding I
+        ok = proper B buys (h .plan) (length (h .terms)) (terms-of h) (posed-of s h rs k wide)
+
+        played : line-4 I (length (h .views)) (names w) so-far ≡ player s w
+        unfolding I so-far ok
+        played = same-choice I ok (length (h .views)) w so-far (campaign s) (k .beside wide) ∙ ap₂ (λ n pl. chosen-of n pl w (campaign s)) (k .many) (sym (k .plan-is))
+
+        view-follows : (i : ℕ) → i < length (h .terms) → Follows I (suc (length (h .views))) (lines-3-to-11 I (length (h .views)) (names w) so-far) i (shown s w i)
+        unfolding I so-far ok
+        view-follows i l = rw (k .plan-is, ← k .many) (same-step I ok (length (h .views)) w so-far (campaign s) (k .beside wide) i l)
+
+        view-told : told (offers s w) (player s w) ≡ told (λ i. terms-of h i .price) (line-4 I (length (h .views)) (names w) so-far)
+        unfolding I so-far line-4
+        view-told =
+            ap (told (offers s w)) (sym played)
+            ∙ told-eq (length (h .terms)) (feasible-neighbor I so-far (length (h .views)) (names w)) (offers s w) (λ i. terms-of h i .price) (λ i l. k .beside wide i l .accounts .bid) (line-4 I (length (h .views)) (names w) so-far) (best-fits _ _ _)
+
+      kept-view : Kept (result s (show-view w) .day) (with-call h (show-view w) (result s (show-view w) .answer)) (with-answer rs (show-view w) (result s (show-view w) .answer))
+      unfolding I so-far
+      kept-view = record {
+        plan-is = k .plan-is;
+        many = k .many;
+        deep = k .deep;
+        priced = k .priced;
+        funded = k .funded;
+        unviewed = λ e. absurd (never false refl e);
+        unplayed = λ e. absurd (never false refl e);
+        beside = λ wide i l.
+            rw (
+              length-append (h .views) (w ∷ []),
+              add-one,
+              slots-snoc,
+              line-2-snoc I (slots (h .views)) (names w) 0 line-1,
+              slots-many,
+              campaign-holding Running (s .plan) (s .count) (s .accepted + 1) (shown s w) i (omega (arith, few-campaigns s (y .0), k .many)),
+            )
+            (view-follows wide i l);
+        answered = λ wide.
+            rw (slots-snoc, matches-snoc I (slots (h .views)) (names w) 0 line-1, slots-many, map-append, k .answered wide, view-told wide);
+      }
+
+    -- a phase that is not Filling
+    kept-phase : (p : Phase) → is-filling p ≡ false → Kept (in-phase s p) h rs
+    kept-phase p e = record {
+      plan-is = k .plan-is;
+      many = k .many;
+      deep = k .deep;
+      priced = k .priced;
+      funded = k .funded;
+      unviewed = λ f. absurd (never (is-filling p) e f);
+      unplayed = λ f. absurd (never (is-filling p) e f);
+      beside = k .beside;
+      answered = k .answered;
+    }
+
+    kept-result : (c : Call) → Yes (questions s c) → Kept (result s c .day) (with-call h c (result s c .answer)) (with-answer rs c (result s c .answer))
+    unfolding more
+    kept-result (open-plan pl) y = kept-opening Filling pl (leb-true 1 (pl .depth) (both-left _ _ (y .1 .1 .0)))
+    kept-result (add-campaign t) y = kept-add t y
+    kept-result start-day y = kept-phase Running refl
+    kept-result (show-view w) y = kept-view w y
+    kept-result (ask-tally i) y = k
+    kept-result close-day y = kept-phase (Closed (taken s)) refl
+
+    kept-call : (c : Call) → Kept (call s c .day) (entered h (record { made = c; answer = call s c .answer })) (replied rs (record { made = c; answer = call s c .answer }))
+    kept-call c =
+        call-elim (λ o. Kept (o .day) (entered h (record { made = c; answer = o .answer })) (replied rs (record { made = c; answer = o .answer }))) s c (λ q. rw (ne-eqb (suc q) 0 (λ z. omega arith)) k)
+        (λ y. rw (eq-eqb (number (result s c .answer)) 0 (result-number s c)) (kept-result c y))
+
+  kept-calls : (cs : List Call) (s : Day) (h : History) (rs : List Answer) → Kept s h rs → Kept (final s cs) (continued h (transcript s cs)) (replies-from rs (transcript s cs))
+  unfolding final transcript continued replies-from
+  kept-calls [] s h rs k = k
+  kept-calls (c ∷ cs) s h rs k =
+      kept-calls cs (call s c .day) (entered h (record { made = c; answer = call s c .answer })) (replied rs (record { made = c; answer = call s c .answer })) (kept-call s h rs k c)
+
+  kept-blank : Kept blank (opening blank-plan) []
+  unfolding blank
+  kept-blank = kept-opening (Closed 0) blank-plan (omega arith)
+
+  -- an accepted opening, from any state
+  kept-from : (s : Day) (pl : Plan) → accepted (call s (open-plan pl) .answer) ≡ true
+      → Kept (call s (open-plan pl) .day) (entered (opening blank-plan) (record { made = open-plan pl; answer = call s (open-plan pl) .answer })) (replied [] (record { made = open-plan pl; answer = call s (open-plan pl) .answer }))
+  kept-from s pl e =
+      call-elim (λ o. accepted (o .answer) ≡ true → Kept (o .day) (entered (opening blank-plan) (record { made = open-plan pl; answer = o .answer })) (replied [] (record { made = open-plan pl; answer = o .answer }))) s (open-plan pl)
+      (λ q z. absurd (omega (arith, eqb-true (suc q) 0 z))) (λ y z. kept-opening Filling pl (leb-true 1 (pl .depth) (both-left _ _ (y .1 .1 .0)))) e
+
+  kept : (s : Day) (cs : List Call) → Starts s cs → Kept (final s cs) (history (transcript s cs)) (replies (transcript s cs))
+  unfolding final transcript continued replies-from
+  kept _ _ (from-blank cs) = kept-calls cs blank (opening blank-plan) [] kept-blank
+  kept _ _ (from-opening s pl cs e) =
+      kept-calls cs (call s (open-plan pl) .day) (entered (opening blank-plan) (record { made = open-plan pl; answer = call s (open-plan pl) .answer })) (replied [] (record { made = open-plan pl; answer = call s (open-plan pl) .answer })) (kept-from s pl e)
+
+  alike-of : (s : Day) (h : History) (rs : List Answer) → Kept s h rs → 1 < h .plan .width → Day-alike B h rs s
+  alike-of s h rs k wide = record {
+    same-answers = k .answered wide;
+    same-tallies = λ i l.
+        follows-stands (instance-of B h) (proper B buys (h .plan) (length (h .terms)) (terms-of h) (posed-of s h rs k wide)) (length (h .views)) (algorithm-4 (instance-of B h) (slots (h .views))) i (campaign s i) l (k .beside wide i l);
+  }
+
+pub days-as-algorithm-4 : Days-as-Algorithm-4
+days-as-algorithm-4 B buys s cs st wide = alike-of B buys (final s cs) (history (transcript s cs)) (replies (transcript s cs)) (kept B buys s cs st) wide

@@ -1,0 +1,90 @@
+-- Document 01's listing, computed: by Algorithm 4 in fractions, and by the calls.
+use mathlib.Core.Path.{_≡_, refl}
+use mathlib.Core.Bool.{true}
+use mathlib.Core.List.{List, [], _∷_, _++_, map}
+use native.Mathlib.Omega.{arith}
+use lib.ListN.{getD}
+use Rattle.finite.specs.Finite.{sum, count, every, table}
+use Rattle.sets.specs.Set.{member, size, within}
+use Rattle.powers.specs.Power.{weight, share}
+use Rattle.day.specs.declared.Answer.the-variants.{Played, Nobody}
+use Rattle.campaigns.specs.declared.Plan.{Plan}
+use Rattle.campaigns.specs.declared.Terms.{Terms}
+use Rattle.campaigns.specs.declared.View.{View}
+use Rattle.campaigns.specs.Choice.{best, choice}
+use Rattle.campaigns.specs.Choice.Choice.{nobody, plays}
+use Rattle.campaigns.specs.Campaign.{whole, claim, sound-plan, sound-campaign, priced, counted, uncounted, empty}
+use Rattle.day.specs.Day.{no-terms, blank, taken, claimed, budgeted}
+use Rattle.day.specs.Sound.{sound}
+use Rattle.day.specs.Calls.{Call, first-no, width-holds, call}
+use Rattle.day.specs.Calls.Call.{open-plan, add-campaign, start-day, show-view, close-day}
+use Rattle.demands.specs.Transcript.{transcript, final}
+use Rattle.floor.specs.History.{continued, history}
+use Rattle.floor.specs.History.Starts.{from-blank}
+use Rattle.refinement.specs.Fraction.{integer, equal}
+use Rattle.refinement.specs.Algorithm4.{Instance, C, feasible, line-2, line-4, lines-3-to-11, algorithm-4, matches-from, matches}
+use Rattle.refinement.specs.Standing.{spendable, instance, slots}
+use Rattle.refinement.specs.Days.{replies-from, replies, Day-alike}
+use Rattle.refinement.proofs.Budgets.{budget-buys, spendable-buys}
+use Rattle.refinement.proofs.Days.{days-as-algorithm-4}
+
+abbrev plan : Plan
+plan = record { depth = 2; width = 2 }
+
+-- prices 5 and 3, budgets 10 and 6
+abbrev terms : List Terms
+terms = record { price = 5; budget = 10 } ∷ record { price = 3; budget = 6 } ∷ []
+
+-- 0 1, 0 1, 0 1, 0 and 1
+abbrev views : List View
+views = record { set = 3 } ∷ record { set = 3 } ∷ record { set = 3 } ∷ record { set = 1 } ∷ record { set = 2 } ∷ []
+
+abbrev listing : Instance
+listing = instance (λ t. t .budget) plan 2 (λ i. getD terms i no-terms)
+
+pub listing-matches : matches listing (slots views) ≡ plays 0 ∷ plays 1 ∷ plays 0 ∷ nobody ∷ plays 1 ∷ []
+unfolding matches-from lines-3-to-11 line-4 feasible C best member sum
+listing-matches = refl
+
+-- two finished copies of each make the whole of its budget
+pub listing-finished : map (λ i. equal (algorithm-4 listing (slots views) .z i) (integer 1)) (0 ∷ 1 ∷ []) ≡ true ∷ true ∷ []
+unfolding line-2 lines-3-to-11 line-4 feasible C best member sum
+listing-finished = refl
+
+-- the calls, with the view of campaign 2 that is refused
+abbrev calls : List Call
+calls = open-plan plan ∷ map add-campaign terms ++ start-day ∷ map show-view views ++ show-view (record { set = 4 }) ∷ close-day ∷ []
+
+pub listing-replies : replies (transcript blank calls) ≡ Played 0 5 ∷ Played 1 3 ∷ Played 0 5 ∷ Nobody ∷ Played 1 3 ∷ []
+unfolding replies-from transcript call first-no sound sound-plan sound-campaign priced counted uncounted empty taken claimed budgeted blank width-holds size within choice best whole claim weight share member sum count every table
+listing-replies = refl
+
+-- so the theorem speaks of this day
+pub listing-width : history (transcript blank calls) .plan ≡ plan
+unfolding continued transcript call first-no sound sound-plan sound-campaign priced counted uncounted empty taken claimed budgeted blank width-holds size within choice best whole claim weight share member sum count every table
+listing-width = refl
+
+pub listing-alike : Day-alike (λ t. t .budget) (history (transcript blank calls)) (replies (transcript blank calls)) (final blank calls)
+listing-alike = days-as-algorithm-4 (λ t. t .budget) budget-buys blank calls (from-blank calls) (rw listing-width (omega arith))
+
+-- The same with 3 and 2 cents left over, which no play can spend: budgets 13 and 8.
+abbrev cents : List Terms
+cents = record { price = 5; budget = 13 } ∷ record { price = 3; budget = 8 } ∷ []
+
+pub cents-matches : matches (instance spendable plan 2 (λ i. getD cents i no-terms)) (slots views) ≡ plays 0 ∷ plays 1 ∷ plays 0 ∷ nobody ∷ plays 1 ∷ []
+unfolding matches-from lines-3-to-11 line-4 feasible C best member sum
+cents-matches = refl
+
+abbrev cents-calls : List Call
+cents-calls = open-plan plan ∷ map add-campaign cents ++ start-day ∷ map show-view views ++ close-day ∷ []
+
+pub cents-replies : replies (transcript blank cents-calls) ≡ Played 0 5 ∷ Played 1 3 ∷ Played 0 5 ∷ Nobody ∷ Played 1 3 ∷ []
+unfolding replies-from transcript call first-no sound sound-plan sound-campaign priced counted uncounted empty taken claimed budgeted blank width-holds size within choice best whole claim weight share member sum count every table
+cents-replies = refl
+
+pub cents-width : history (transcript blank cents-calls) .plan ≡ plan
+unfolding continued transcript call first-no sound sound-plan sound-campaign priced counted uncounted empty taken claimed budgeted blank width-holds size within choice best whole claim weight share member sum count every table
+cents-width = refl
+
+pub cents-alike : Day-alike spendable (history (transcript blank cents-calls)) (replies (transcript blank cents-calls)) (final blank cents-calls)
+cents-alike = days-as-algorithm-4 spendable spendable-buys blank cents-calls (from-blank cents-calls) (rw cents-width (omega arith))

@@ -1,0 +1,71 @@
+-- The answer's first line and, on closing, the tallies behind it are the reply to the line (`Serving`); what `respond`
+-- left is ready.
+use mathlib.Core.Path.{_≡_, sym, _∙_}
+use native.Mathlib.Omega.{arith}
+use borrow.Author.Needs.{needs}
+use Rattle.day.specs.declared.Day.{Day}
+use Rattle.day.specs.Day.{state-of}
+use Rattle.reply.proofs.Serving.{answer-ranged, few-is, written-closing, written-other}
+use Rattle.reply.proofs.line.answer_at.Statement.{statement}
+use Rattle.reply.proofs.line.answer_at.Tie as tie
+
+abbrev at-start : tie.After-respond → tie.Start
+at-start c = c .before .before .before .before .before .before .before
+
+abbrev state : tie.After-respond → Day
+state c = let a = at-start c .args in state-of (a .turn .head) (a .terms .now) (a .counts .now)
+
+respond-requires : tie.Need-respond-requires
+respond-requires c κs = search needs
+
+write-answer-requires : tie.Need-write-answer-requires
+write-answer-requires c κs =
+    let done = c .before .before in
+    (answer-ranged (state done) (at-start done .args .line .now) _ (done .respond .ensures .0), omega arith)
+
+closes-requires : tie.Need-closes-requires
+closes-requires c κs = search needs
+
+write-tallies-requires : tie.Need-write-tallies-requires
+write-tallies-requires c κs =
+    let closing = c .before .before .before in
+    let said = closing .before .before .before .before in
+    let done = said .before .before .before in
+    let p = said .write-answer .ensures in
+    (few-is (state done) (at-start done .args .line .now) _ (done .respond .ensures .0) (sym (closing .before .closes .ensures) ∙ closing .if1 .taken), omega (arith, p .1, p .0 .same, at-start done .pre .0))
+
+same-length : tie.Need-same-length
+same-length c = search needs
+
+returns : tie.Need-returns
+returns c =
+    let closing = c .before .before .before .before .before .before in
+    let said = closing .before .before .before .before in
+    let done = said .before .before .before in
+    let x = done .respond .ensures in (
+      written-closing (state done) (at-start done .args .line .now) _ (x .0) (sym (closing .before .closes .ensures) ∙ closing .if1 .taken) (said .write-answer .ensures) (c .before .before .write-tallies .ensures),
+      x .1,
+    )
+
+same-length-2 : tie.Need-same-length-2
+same-length-2 c = search needs
+
+returns-2 : tie.Need-returns-2
+returns-2 c =
+    let said = c .before .before .before .before in
+    let done = said .before .before .before in
+    let x = done .respond .ensures in
+    (written-other (state done) (at-start done .args .line .now) _ (x .0) (sym (c .before .closes .ensures) ∙ c .if1 .left) (said .write-answer .ensures), x .1)
+
+pub answer-at-spec : {M : Type 1} → statement M
+answer-at-spec =
+    tie.close
+    (tie.spec
+    respond-requires
+    write-answer-requires
+    closes-requires
+    write-tallies-requires
+    same-length
+    returns
+    same-length-2
+    returns-2)

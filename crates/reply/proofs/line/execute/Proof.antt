@@ -1,0 +1,181 @@
+-- An input record runs its operation and is what the record asks for; an output record is refused with 17. Only an
+-- opening changes the plan, so that otherwise the list keeps the weights of the plan.
+use mathlib.Core.Path.{_≡_, refl, ap, sym, subst, _∙_}
+use Prim.Native.Nat.{ℕ}
+use Rattle.day.specs.declared.Day.{Day}
+use Rattle.day.specs.declared.Step.{Step}
+use Rattle.day.specs.Day.{state-of}
+use Rattle.lines.specs.declared.Record.{Record}
+use Rattle.day.specs.declared.Outcome.{Outcome}
+use Rattle.day.specs.Calls.Call.{add-campaign, start-day, show-view, close-day}
+use Rattle.day.specs.Parts.{outcome-of, refusing}
+use Rattle.campaigns.specs.Inner.{Weights}
+use Rattle.reply.specs.Reply.{request, executed}
+use Rattle.reply.specs.Reply.Request.{fails}
+use Rattle.reply.proofs.Kept.{same-weights, refused-weights}
+use borrow.Author.Needs.{needs}
+use Rattle.reply.proofs.line.execute.Statement.{statement}
+use Rattle.reply.proofs.line.execute.Tie as tie
+
+abbrev state : tie.Start → Day
+state s = state-of (s .args .head) (s .args .terms .now) (s .args .counts .now)
+
+-- o is what the record r asks for, where r is t
+made : (s : Day) {r t : Record} {o : Outcome} → r ≡ t → o ≡ executed s (request t) → o ≡ executed s (request r)
+made s {r} {t} {o} e p = subst (λ (x : Record). o ≡ executed s (request x)) (sym e) p
+
+enum-known-input : tie.Need-enum-known-input
+enum-known-input c = search needs
+
+open-plan-requires : tie.Need-open-plan-requires
+open-plan-requires c κs = search needs
+
+enum-known-input-2 : tie.Need-enum-known-input-2
+enum-known-input-2 c = search needs
+
+add-sound-requires : tie.Need-add-sound-requires
+add-sound-requires c κs = search needs
+
+enum-told : tie.Need-enum-told
+enum-told c = search needs
+
+start-sound-requires : tie.Need-start-sound-requires
+start-sound-requires c κs = search needs
+
+enum-known-input-3 : tie.Need-enum-known-input-3
+enum-known-input-3 c = search needs
+
+show-sound-requires : tie.Need-show-sound-requires
+show-sound-requires c κs = search needs
+
+enum-told-2 : tie.Need-enum-told-2
+enum-told-2 c = search needs
+
+close-sound-requires : tie.Need-close-sound-requires
+close-sound-requires c κs = search needs
+
+enum-told-3 : tie.Need-enum-told-3
+enum-told-3 c = search needs
+
+refused-requires : tie.Need-refused-requires
+refused-requires c κs = search needs
+
+enum-told-4 : tie.Need-enum-told-4
+enum-told-4 c = search needs
+
+refused-requires-2 : tie.Need-refused-requires-2
+refused-requires-2 c κs = search needs
+
+enum-told-5 : tie.Need-enum-told-5
+enum-told-5 c = search needs
+
+refused-requires-3 : tie.Need-refused-requires-3
+refused-requires-3 c κs = search needs
+
+enum-told-6 : tie.Need-enum-told-6
+enum-told-6 c = search needs
+
+refused-requires-4 : tie.Need-refused-requires-4
+refused-requires-4 c κs = search needs
+
+enum-told-7 : tie.Need-enum-told-7
+enum-told-7 c = search needs
+
+refused-requires-5 : tie.Need-refused-requires-5
+refused-requires-5 c κs = search needs
+
+enum-told-8 : tie.Need-enum-told-8
+enum-told-8 c = search needs
+
+refused-requires-6 : tie.Need-refused-requires-6
+refused-requires-6 c κs = search needs
+
+-- a record that is no call is refused, and the weights stay
+no-call : (s : tie.Start) {t : Record} (q : ℕ) (r : Step) → s .args .input ≡ t → request t ≡ fails q → r ≡ refusing (s .args .head) q
+    → (outcome-of r (s .args .terms .now) (s .args .counts .now) ≡ executed (state s) (request (s .args .input))) × Weights (r .head .plan) (s .args .list .now)
+no-call s {t} q r e f p = (
+  made (state s) e (ap (λ (x : Step). outcome-of x (s .args .terms .now) (s .args .counts .now)) p ∙ ap (executed (state s)) (sym f)),
+  refused-weights (s .args .head) (s .args .list .now) r q p (s .pre .0),
+)
+
+returns : tie.Need-returns
+returns c =
+    let s = c .before .before .before .before .before .before .before in
+    (made (state s) (c .before .before .before .before .before .input .given .1) (c .open-plan .ensures .0), c .open-plan .ensures .1)
+
+returns-2 : tie.Need-returns-2
+returns-2 c =
+    let s = c .before .before .before .before .before .before in
+    let w = s .args .list .now in
+    (made (state s) (c .before .before .before .before .input2 .given .1) (c .add-sound .ensures), same-weights (state s) (add-campaign _) w tt (c .add-sound .ensures) (s .pre .0))
+
+returns-3 : tie.Need-returns-3
+returns-3 c =
+    let s = c .before .before .before .before .before in
+    (made (state s) (c .before .before .before .enum-told .given .1) (c .start-sound .ensures), same-weights (state s) start-day (s .args .list .now) tt (c .start-sound .ensures) (s .pre .0))
+
+returns-4 : tie.Need-returns-4
+returns-4 c =
+    let s = c .before .before .before .before .before .before .before in
+    (made (state s) (c .before .before .before .before .before .input3 .given .1) (c .show-sound .ensures), same-weights (state s) (show-view _) (s .args .list .now) tt (c .show-sound .ensures) (s .pre .0))
+
+returns-5 : tie.Need-returns-5
+returns-5 c =
+    let s = c .before .before .before .before .before .before in
+    (made (state s) (c .before .before .before .before .enum-told2 .given .1) (c .close-sound .ensures), same-weights (state s) close-day (s .args .list .now) tt (c .close-sound .ensures) (s .pre .0))
+
+returns-6 : tie.Need-returns-6
+returns-6 c = no-call (c .before .before .before) 17 (c .refused .result) (c .before .enum-told3 .given .1) refl (c .refused .ensures)
+
+returns-7 : tie.Need-returns-7
+returns-7 c = no-call (c .before .before .before) 17 (c .refused2 .result) (c .before .enum-told4 .given .1) refl (c .refused2 .ensures)
+
+returns-8 : tie.Need-returns-8
+returns-8 c = no-call (c .before .before .before) 17 (c .refused3 .result) (c .before .enum-told5 .given .1) refl (c .refused3 .ensures)
+
+returns-9 : tie.Need-returns-9
+returns-9 c = no-call (c .before .before .before) 17 (c .refused4 .result) (c .before .enum-told6 .given .1) refl (c .refused4 .ensures)
+
+returns-10 : tie.Need-returns-10
+returns-10 c = no-call (c .before .before .before) 17 (c .refused5 .result) (c .before .enum-told7 .given .1) refl (c .refused5 .ensures)
+
+returns-11 : tie.Need-returns-11
+returns-11 c = no-call (c .before .before .before) 17 (c .refused6 .result) (c .before .enum-told8 .given .1) refl (c .refused6 .ensures)
+
+pub execute-spec : {M : Type 1} → statement M
+execute-spec =
+    tie.close
+    (tie.spec
+    enum-known-input
+    open-plan-requires
+    enum-known-input-2
+    add-sound-requires
+    enum-told
+    start-sound-requires
+    enum-known-input-3
+    show-sound-requires
+    enum-told-2
+    close-sound-requires
+    enum-told-3
+    refused-requires
+    enum-told-4
+    refused-requires-2
+    enum-told-5
+    refused-requires-3
+    enum-told-6
+    refused-requires-4
+    enum-told-7
+    refused-requires-5
+    enum-told-8
+    refused-requires-6
+    returns
+    returns-2
+    returns-3
+    returns-4
+    returns-5
+    returns-6
+    returns-7
+    returns-8
+    returns-9
+    returns-10
+    returns-11)

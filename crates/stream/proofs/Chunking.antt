@@ -1,0 +1,148 @@
+-- A stream that is handed an input in any blocks writes the answers to its lines.
+use mathlib.Core.Path.{_≡_, refl, sym, ap, ap₂, _∙_, subst, subst⁻¹}
+use mathlib.Core.Bool.{Bool, true, false, cond}
+use mathlib.Core.List.{List, [], _∷_, _++_, append-assoc, append-nil}
+use Prim.Native.Nat.{ℕ, suc, _≤_}
+use native.Mathlib.Omega.{arith}
+use lib.Dec.{eqb}
+use lib.ListN.{length, take, drop, take-append-drop}
+use lib.Seq.{take-append-seam}
+use borrow.Author.Tests.{eqb-true, le-leb}
+use Rattle.day.specs.declared.Day.{Day}
+use Rattle.day.specs.Day.{blank}
+use Rattle.reply.specs.Reply.{reply, next}
+use Rattle.reply.specs.Session.{Session, longer, ended, after-byte, fed, upto}
+use Rattle.reply.proofs.Sessions.{cut-reply, cut-next, fed-append, byte-plain, byte-end}
+use Rattle.stream.specs.declared.feed.Stream.{Stream}
+use Rattle.stream.specs.declared.feed.Fed.{Fed}
+use Rattle.stream.specs.Stream.{finished, session, new-stream, session-of, Holds, Finishes}
+use Rattle.stream.specs.Chunking.{joined, Plain, All-plain, after-lines, replies, Split, Feeding, Takes, stream-after, written, last-reply, Any-chunking}
+use Rattle.batch.proofs.Rests.{rest-fed}
+
+-- x with its answers handed over
+abbrev silent : Session → Session
+silent x = record { day = x .day; pending = x .pending; output = [] }
+
+abbrev with-said : Session → List ℕ → Session
+with-said x w = record { day = x .day; pending = x .pending; output = w }
+
+-- what was said before stays in front
+pub fed-said : (x : Session) (l : List ℕ) → fed x l ≡ with-said (fed (silent x) l) (x .output ++ fed (silent x) l .output)
+unfolding fed
+fed-said x [] = ap (with-said x) (sym (append-nil (x .output)))
+fed-said x (b ∷ l) = go (eqb b 10) refl (fed-said (ended x) l) (fed-said (ended (silent x)) l) (fed-said (longer x (b ∷ [])) l)
+  where
+    go : (t : Bool) → eqb b 10 ≡ t
+        → fed (ended x) l ≡ with-said (fed (silent (ended x)) l) ((x .output ++ reply (x .day) (x .pending)) ++ fed (silent (ended x)) l .output)
+        → fed (ended (silent x)) l ≡ with-said (fed (silent (ended x)) l) (reply (x .day) (x .pending) ++ fed (silent (ended x)) l .output)
+        → fed (longer x (b ∷ [])) l ≡ with-said (fed (silent (longer x (b ∷ []))) l) (x .output ++ fed (silent (longer x (b ∷ []))) l .output)
+        → fed (after-byte x b) l ≡ with-said (fed (after-byte (silent x) b) l) (x .output ++ fed (after-byte (silent x) b) l .output)
+    go true e p q r =
+        let f : fed (after-byte (silent x) b) l ≡ with-said (fed (silent (ended x)) l) (reply (x .day) (x .pending) ++ fed (silent (ended x)) l .output) = ap (λ (y : Session). fed y l) (byte-end (silent x) b (eqb-true b 10 e)) ∙ q in
+        ap (λ (y : Session). fed y l) (byte-end x b (eqb-true b 10 e))
+        ∙ p
+        ∙ ap (with-said (fed (silent (ended x)) l)) (append-assoc (x .output) (reply (x .day) (x .pending)) (fed (silent (ended x)) l .output))
+        ∙ sym (ap (λ (y : Session). with-said y (x .output ++ y .output)) f)
+    go false e p q r =
+        ap (λ (y : Session). fed y l) (byte-plain x b e)
+        ∙ r
+        ∙ sym (ap (λ (y : Session). with-said (fed y l) (x .output ++ fed y l .output)) (byte-plain (silent x) b e))
+
+-- In blocks.
+
+-- what is put at the front is what was said
+front-said : {y : Session} {d e : List ℕ} {k : Stream} {n : ℕ} → Holds y d e k n → take n e ≡ y .output
+front-said {y} {d} {e} {k} {n} h = ap₂ (λ (i : ℕ) (l : List ℕ). take i l) (h .length-is) (h .front) ∙ take-append-seam (y .output) (drop (length (y .output)) d)
+
+-- the next block begins where the last one left off, its answers handed over
+session-next : {y : Session} {d e : List ℕ} {k : Stream} {n : ℕ} → Holds y d e k n → session-of k ≡ silent y
+session-next h = ap₂ (λ (s : Day) (l : List ℕ). record { day = s; pending = l; output = [] }) (h .day) (h .pending)
+
+-- all that is written, with the end of input, is what the whole input says
+module _ (d e : List ℕ) (r : Fed) (room : 16384 ≤ length d) where
+  all-written : (k : Stream) (l : List ℕ) (fs : List Feeding) → Takes k l fs → Finishes (stream-after k fs) d e r
+      → written fs ++ take (r .written) e ≡ fed (session-of k) l .output ++ finished (silent (fed (session-of k) l)) .output
+  unfolding fed
+  all-written k l [] t h =
+      front-said (subst (λ (b : Bool). Holds (cond b (finished (session-of k)) (session-of k)) d e (r .stream) (r .written)) (le-leb 16384 (length d) room) (h .holds))
+      ∙ ap (λ (m : List ℕ). fed (session-of k) m .output ++ finished (silent (fed (session-of k) m)) .output) (sym t)
+  all-written k l (f ∷ fs) t h =
+      let x = session-of k in
+      let n = f .back .consumed in
+      let y = fed x (take n (f .block)) in
+      let m = drop n (f .block) ++ f .later in
+      let o : Holds y (f .before) (f .after) (f .back .stream) (f .back .written) = subst⁻¹ (λ (i : ℕ). Holds (fed x (take i (f .block))) (f .before) (f .after) (f .back .stream) (f .back .written)) (t .1 .consumed) (t .1 .holds) in
+      let z : fed x l ≡ with-said (fed (silent y) m) (y .output ++ fed (silent y) m .output) =
+      ap (fed x) (t .0 ∙ ap (λ (w : List ℕ). w ++ f .later) (sym (take-append-drop n (f .block))) ∙ append-assoc (take n (f .block)) (drop n (f .block)) (f .later))
+      ∙ fed-append x (take n (f .block)) m
+      ∙ fed-said y m in
+      append-assoc (take (f .back .written) (f .after)) (written fs) (take (r .written) e)
+      ∙ ap₂ _++_ (front-said o) (all-written (f .back .stream) m fs (t .2) h ∙ ap (λ (s : Session). fed s m .output ++ finished (silent (fed s m)) .output) (session-next o))
+      ∙ sym (append-assoc (y .output) (fed (silent y) m .output) (finished (silent (fed (silent y) m)) .output))
+      ∙ sym (ap (λ (s : Session). s .output ++ finished (silent s) .output) z)
+
+-- As lines.
+
+-- a line and its byte 10
+line-said : (s : Day) (p l : List ℕ) → Plain l → fed (record { day = s; pending = []; output = p }) (l ++ (10 ∷ [])) ≡ record { day = next s l; pending = []; output = p ++ reply s l }
+unfolding fed
+line-said s p l e =
+    let x : Session = record { day = s; pending = []; output = p } in
+    fed-append x l (10 ∷ [])
+    ∙ ap (λ (y : Session). fed y (10 ∷ [])) (rest-fed x l (omega arith) e)
+    ∙ byte-end (longer x l) 10 refl
+    ∙ ap (λ (d : Day). record { day = d; pending = []; output = p ++ reply s (take 201 l) }) (cut-next s l)
+    ∙ ap (λ (w : List ℕ). record { day = next s l; pending = []; output = p ++ w }) (cut-reply s l)
+
+-- the whole input: each line is answered as the whole line is, and of the rest at most 201 bytes are held
+pub fed-lines : (s : Day) (p : List ℕ) (ls : List (List ℕ)) (rest : List ℕ) → All-plain ls → Plain rest
+    → fed (record { day = s; pending = []; output = p }) (joined ls rest) ≡ record { day = after-lines s ls; pending = take 201 rest; output = p ++ replies s ls }
+unfolding joined after-lines replies
+fed-lines s p [] rest a e = rest-fed (record { day = s; pending = []; output = p }) rest (omega arith) e ∙ ap (λ (w : List ℕ). record { day = s; pending = take 201 rest; output = w }) (sym (append-nil p))
+fed-lines s p (l ∷ ls) rest a e =
+    let x : Session = record { day = s; pending = []; output = p } in
+    ap (fed x) (sym (append-assoc l (10 ∷ []) (joined ls rest)))
+    ∙ fed-append x (l ++ (10 ∷ [])) (joined ls rest)
+    ∙ ap (λ (y : Session). fed y (joined ls rest)) (line-said s p l (a .0))
+    ∙ fed-lines (next s l) (p ++ reply s l) ls rest (a .1) e
+    ∙ ap (λ (w : List ℕ). record { day = after-lines (next s l) ls; pending = take 201 rest; output = w }) (append-assoc p (reply s l) (replies (next s l) ls))
+
+-- the end of input
+last-said : (s : Day) (rest : List ℕ) → finished (record { day = s; pending = take 201 rest; output = [] }) .output ≡ last-reply s rest
+unfolding finished
+last-said s [] = refl
+last-said s (b ∷ l) = cut-reply s (b ∷ l)
+
+pub any-chunking : Any-chunking
+any-chunking input fs t d e r room h ls rest a p w =
+    let f : fed (session blank [] 0) input ≡ record { day = after-lines blank ls; pending = take 201 rest; output = replies blank ls } = ap (fed (session blank [] 0)) (sym w) ∙ fed-lines blank [] ls rest a p in
+    all-written d e r room new-stream input fs t h
+    ∙ ap (λ (y : Session). y .output ++ finished (silent y) .output) f
+    ∙ ap (λ (m : List ℕ). replies blank ls ++ m) (last-said (after-lines blank ls) rest)
+
+-- and every input is lines and a rest
+plain-cons : (b : ℕ) (l : List ℕ) → eqb b 10 ≡ false → Plain l → Plain (b ∷ l)
+unfolding upto
+plain-cons b l e h = rw e (ap suc h)
+
+plain-nil : Plain []
+unfolding upto
+plain-nil = refl
+
+more-byte : (b : ℕ) (l : List ℕ) → eqb b 10 ≡ false → (ls : List (List ℕ)) (rest : List ℕ) → All-plain ls → Plain rest → joined ls rest ≡ l → Split (b ∷ l)
+unfolding joined
+more-byte b l e [] rest a h w = record { lines = []; rest = b ∷ rest; lines-plain = tt; rest-plain = plain-cons b rest e h; whole = ap (λ (m : List ℕ). b ∷ m) w }
+more-byte b l e (k ∷ ls) rest a h w = record { lines = (b ∷ k) ∷ ls; rest = rest; lines-plain = (plain-cons b k e (a .0), a .1); rest-plain = h; whole = ap (λ (m : List ℕ). b ∷ m) w }
+
+end-line : (b : ℕ) (l : List ℕ) → b ≡ 10 → Split l → Split (b ∷ l)
+unfolding joined
+end-line b l e s = record { lines = [] ∷ s .lines; rest = s .rest; lines-plain = (plain-nil, s .lines-plain); rest-plain = s .rest-plain; whole = ap (λ (m : List ℕ). 10 ∷ m) (s .whole) ∙ ap (λ (c : ℕ). c ∷ l) (sym e) }
+
+pub split : (l : List ℕ) → Split l
+unfolding joined
+split [] = record { lines = []; rest = []; lines-plain = tt; rest-plain = plain-nil; whole = refl }
+split (b ∷ l) = go (eqb b 10) refl (split l)
+  where
+    go : (t : Bool) → eqb b 10 ≡ t → Split l → Split (b ∷ l)
+    go true e s = end-line b l (eqb-true b 10 e) s
+    go false e s = more-byte b l e (s .lines) (s .rest) (s .lines-plain) (s .rest-plain) (s .whole)

@@ -1,0 +1,3 @@
+pub mod Runs
+pub mod Streams
+pub mod Chunking

@@ -1,0 +1,80 @@
+-- A whole input, as lines and a rest, and a stream that is handed it in blocks.
+use mathlib.Core.Path.{_≡_}
+use mathlib.Core.List.{List, [], _∷_, _++_}
+use Prim.Native.Nat.{ℕ, _≤_}
+use lib.ListN.{length, take, drop}
+use Rattle.day.specs.declared.Day.{Day}
+use Rattle.day.specs.Day.{blank}
+use Rattle.reply.specs.Reply.{reply, next}
+use Rattle.reply.specs.Session.{upto}
+use Rattle.stream.specs.declared.feed.Stream.{Stream}
+use Rattle.stream.specs.declared.feed.Fed.{Fed}
+use Rattle.stream.specs.Stream.{new-stream, Feeds, Finishes}
+
+-- the input that has these lines, each ended by byte 10, and a rest
+unfoldable pub joined : List (List ℕ) → List ℕ → List ℕ
+joined [] rest = rest
+joined (l ∷ ls) rest = l ++ (10 ∷ joined ls rest)
+
+-- without byte 10
+abbrev pub Plain : List ℕ → Type 0
+Plain l = upto l ≡ length l
+
+abbrev pub All-plain : List (List ℕ) → Type 0
+All-plain [] = Unit {0}
+All-plain (l ∷ ls) = Plain l × All-plain ls
+
+-- the lines answered one after the other: the state after them, and the answers
+unfoldable pub after-lines : Day → List (List ℕ) → Day
+after-lines s [] = s
+after-lines s (l ∷ ls) = after-lines (next s l) ls
+
+unfoldable pub replies : Day → List (List ℕ) → List ℕ
+replies s [] = []
+replies s (l ∷ ls) = reply s l ++ replies (next s l) ls
+
+-- an input as lines and a rest
+pub record Split (input : List ℕ) : Type 0 where
+  pub lines : List (List ℕ)
+  pub rest : List ℕ
+  pub lines-plain : All-plain lines
+  pub rest-plain : Plain rest
+  pub whole : joined lines rest ≡ input
+
+-- one call of `feed`: the bytes handed in, those of the input behind them, the buffer before and after, and what came
+-- back
+pub record Feeding : Type 0 where
+  pub block : List ℕ
+  pub later : List ℕ
+  pub before : List ℕ
+  pub after : List ℕ
+  pub back : Fed
+
+-- the stream k is handed the whole input l in these blocks, each beginning at the first byte that was not taken
+abbrev pub Takes : Stream → List ℕ → List Feeding → Type 0
+Takes k l [] = l ≡ []
+Takes k l (f ∷ fs) = (l ≡ f .block ++ f .later) × Feeds k (f .block) (f .before) (f .after) (f .back)
+    × Takes (f .back .stream) (drop (f .back .consumed) (f .block) ++ f .later) fs
+
+-- the stream after them, and what they wrote
+abbrev pub stream-after : Stream → List Feeding → Stream
+stream-after k [] = k
+stream-after k (f ∷ fs) = stream-after (f .back .stream) fs
+
+abbrev pub written : List Feeding → List ℕ
+written [] = []
+written (f ∷ fs) = take (f .back .written) (f .after) ++ written fs
+
+-- the answer to what is left at the end of input: a line without byte 10 counts if it has bytes
+abbrev pub last-reply : Day → List ℕ → List ℕ
+last-reply s [] = []
+last-reply s (b ∷ l) = reply s (b ∷ l)
+
+-- a new stream that is handed an input in any blocks, with any room, and then its end, writes the answers to the lines
+-- of the input and to its rest, from the blank state on, and nothing else
+abbrev pub Any-chunking : Type 0
+Any-chunking =
+    (input : List ℕ) (fs : List Feeding) → Takes new-stream input fs
+    → (d e : List ℕ) (r : Fed) → 16384 ≤ length d → Finishes (stream-after new-stream fs) d e r
+    → (lines : List (List ℕ)) (rest : List ℕ) → All-plain lines → Plain rest → joined lines rest ≡ input
+    → written fs ++ take (r .written) e ≡ replies blank lines ++ last-reply (after-lines blank lines) rest

@@ -1,0 +1,3 @@
+pub mod Stream
+pub mod Chunking
+pub mod Contracts

@@ -1,4 +1,0 @@
-pub mod Sessions
-pub mod Turns
-pub mod Ends
-pub mod Stretches

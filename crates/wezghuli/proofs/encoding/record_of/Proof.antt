@@ -1,0 +1,108 @@
+-- `record_of` meets its contract: each arm's number picks its form out of `forms`; the last arm's is 10, being none of
+-- those before.
+use lib.ListN.{getD}
+use native.Mathlib.Omega.{arith}
+use lib.Seq.{getD-drop}
+use Rattle.lines.specs.Reading.{forms, made}
+use Rattle.wezghuli.specs.Encoding.{record-of}
+use Rattle.wezghuli.proofs.Lines.{next, last}
+use borrow.Author.Needs.{needs}
+use Rattle.wezghuli.proofs.encoding.record_of.Statement.{statement}
+use Rattle.wezghuli.proofs.encoding.record_of.Tie as tie
+
+-- the start, seen from the last arm
+abbrev start : tie.After-t21 → tie.Start
+start c = c .before .before .before .before .before .before .before
+
+element-copy-out-form : tie.Need-element-copy-out-form
+element-copy-out-form c = search needs
+
+element-copy-out-a : tie.Need-element-copy-out-a
+element-copy-out-a c = search needs
+
+element-copy-out-b : tie.Need-element-copy-out-b
+element-copy-out-b c = search needs
+
+element-copy-out-c : tie.Need-element-copy-out-c
+element-copy-out-c c = search needs
+
+element-copy-out-t18 : tie.Need-element-copy-out-t18
+element-copy-out-t18 c = search needs
+
+element-copy-out-t21 : tie.Need-element-copy-out-t21
+element-copy-out-t21 c = search needs
+
+returns : tie.Need-returns
+unfolding record-of forms made
+returns c = simp (c .match .keys1, getD-drop)
+
+returns-2 : tie.Need-returns-2
+unfolding record-of forms made
+returns-2 c = simp (c .match .keys2, getD-drop)
+
+returns-3 : tie.Need-returns-3
+unfolding record-of forms made
+returns-3 c = simp (c .match .keys3)
+
+returns-4 : tie.Need-returns-4
+unfolding record-of forms made
+returns-4 c = simp (c .match .keys4, getD-drop)
+
+returns-5 : tie.Need-returns-5
+unfolding record-of forms made
+returns-5 c = simp (c .match .keys5)
+
+returns-6 : tie.Need-returns-6
+unfolding record-of forms made
+returns-6 c = simp (c .match .keys6)
+
+returns-7 : tie.Need-returns-7
+unfolding record-of forms made
+returns-7 c = simp (c .match .keys7, getD-drop)
+
+returns-8 : tie.Need-returns-8
+unfolding record-of forms made
+returns-8 c = simp (c .match .keys8)
+
+returns-9 : tie.Need-returns-9
+unfolding record-of forms made
+returns-9 c = simp (c .match .keys9, getD-drop)
+
+returns-10 : tie.Need-returns-10
+unfolding record-of forms made
+returns-10 c = simp (c .match .keys10, getD-drop)
+
+returns-11 : tie.Need-returns-11
+unfolding record-of forms made
+returns-11 c =
+    let s = start c in
+    let f = getD (s .args .words .now) 0 0 in
+    let r = c .before .before .match .rest in
+    let one = next f 0 (omega arith) (r .0 .0 .0 .0 .0 .0 .0 .0 .0 .1) in
+    let three = next f 2 (next f 1 one (r .0 .0 .0 .0 .0 .0 .0 .0 .1)) (r .0 .0 .0 .0 .0 .0 .0 .1) in
+    let five = next f 4 (next f 3 three (r .0 .0 .0 .0 .0 .0 .1)) (r .0 .0 .0 .0 .0 .1) in
+    let seven = next f 6 (next f 5 five (r .0 .0 .0 .0 .1)) (r .0 .0 .0 .1) in
+    let ten = next f 9 (next f 8 (next f 7 seven (r .0 .0 .1)) (r .0 .1)) (r .1) in
+    simp (last f (s .pre) ten, getD-drop)
+
+pub record-of-spec : {M : Type 1} → statement M
+record-of-spec =
+    tie.close
+    (tie.spec
+    element-copy-out-form
+    element-copy-out-a
+    element-copy-out-b
+    element-copy-out-c
+    element-copy-out-t18
+    element-copy-out-t21
+    returns
+    returns-2
+    returns-3
+    returns-4
+    returns-5
+    returns-6
+    returns-7
+    returns-8
+    returns-9
+    returns-10
+    returns-11)

@@ -1,0 +1,186 @@
+// The blank state and the six operations, on a state in lent memory.
+use crate::STATUS_NO_HEAD;
+use crate::encoding::answer_words;
+use crate::encoding::head_of;
+use crate::encoding::head_words;
+use crate::encoding::is_head;
+use crate::encoding::number_of;
+use campaigns::Plan;
+use campaigns::Terms;
+use campaigns::View;
+use day::Step;
+ghost use mathlib.Core.Path.{_≡_};
+ghost use Rattle.day.specs.Day.{blank};
+ghost use Rattle.day.specs.Calls.{number};
+ghost use Rattle.day.specs.Calls.Call.{start-day, ask-tally, close-day};
+ghost use Rattle.day.specs.Parts.{head-of};
+ghost use Rattle.wezghuli.specs.Encoding.{head-words, answer-words};
+ghost use Rattle.wezghuli.specs.Library.{opening, adding, showing, memory, after, status};
+
+// The blank state: Closed, depth 1, width 1, no campaigns.
+#[no_mangle]
+pub extern "C" fn wezghuli_blank<'a>(
+    head: &'a mut [u64; 6],
+    terms: &'a mut [u32; 128],
+    counts: &'a mut [u16; 256],
+)
+    ensures { λ _. ⌜ (now (head .exit) ≡ head-words (head-of blank))
+        × (now (terms .exit) ≡ blank .terms) × (now (counts .exit) ≡ blank .counts) ⌝ }
+{
+    let first = day::blank();
+    *head = head_words(first);
+    *terms = [0; 128];
+    *counts = [0; 256];
+}
+
+// The head and the answer of a step, written; its status.
+fn store<'a>(step: Step, head: &'a mut [u64; 6], answer: &'a mut [u64; 5]) -> u64
+    ensures { λ r. ⌜ (r ≡ number (step .answer))
+        × (now (head .exit) ≡ head-words (step .head)) × (now (answer .exit) ≡ answer-words (step .answer)) ⌝ }
+{
+    let next = step.head;
+    let told = step.answer;
+    *head = head_words(next);
+    *answer = answer_words(told);
+    number_of(told)
+}
+
+// Opens a plan, with no campaigns, in Filling.
+#[no_mangle]
+pub extern "C" fn wezghuli_open<'a>(
+    head: &'a mut [u64; 6],
+    terms: &'a mut [u32; 128],
+    counts: &'a mut [u16; 256],
+    depth: u64,
+    width: u64,
+    answer: &'a mut [u64; 5],
+) -> u64
+    ensures { λ r. ⌜ r ≡ status (opening depth width)
+        (memory (now (head .entry)) (now (terms .entry)) (now (counts .entry)) (now (answer .entry))) ⌝ }
+    ensures { λ _. ⌜ memory (now (head .exit)) (now (terms .exit)) (now (counts .exit)) (now (answer .exit))
+        ≡ after (opening depth width)
+        (memory (now (head .entry)) (now (terms .entry)) (now (counts .entry)) (now (answer .entry))) ⌝ }
+{
+    if !is_head(head) {
+        return STATUS_NO_HEAD;
+    }
+    let plan = Plan {
+        depth: depth,
+        width: width,
+    };
+    let step = day::six::open(head_of(head), plan, terms, counts);
+    store(step, head, answer)
+}
+
+// Adds a campaign, with zero counts.
+#[no_mangle]
+pub extern "C" fn wezghuli_add<'a>(
+    head: &'a mut [u64; 6],
+    terms: &'a mut [u32; 128],
+    counts: &'a mut [u16; 256],
+    price: u64,
+    budget: u64,
+    answer: &'a mut [u64; 5],
+) -> u64
+    ensures { λ r. ⌜ r ≡ status (adding price budget)
+        (memory (now (head .entry)) (now (terms .entry)) (now (counts .entry)) (now (answer .entry))) ⌝ }
+    ensures { λ _. ⌜ memory (now (head .exit)) (now (terms .exit)) (now (counts .exit)) (now (answer .exit))
+        ≡ after (adding price budget)
+        (memory (now (head .entry)) (now (terms .entry)) (now (counts .entry)) (now (answer .entry))) ⌝ }
+{
+    if !is_head(head) {
+        return STATUS_NO_HEAD;
+    }
+    let added = Terms {
+        price: price,
+        budget: budget,
+    };
+    let step = day::six::add(head_of(head), added, terms, counts);
+    store(step, head, answer)
+}
+
+// Starts the day: no campaign is added from now on.
+#[no_mangle]
+pub extern "C" fn wezghuli_start<'a>(
+    head: &'a mut [u64; 6],
+    terms: &'a mut [u32; 128],
+    counts: &'a mut [u16; 256],
+    answer: &'a mut [u64; 5],
+) -> u64
+    ensures { λ r. ⌜ r ≡ status start-day
+        (memory (now (head .entry)) (now (terms .entry)) (now (counts .entry)) (now (answer .entry))) ⌝ }
+    ensures { λ _. ⌜ memory (now (head .exit)) (now (terms .exit)) (now (counts .exit)) (now (answer .exit))
+        ≡ after start-day
+        (memory (now (head .entry)) (now (terms .entry)) (now (counts .entry)) (now (answer .entry))) ⌝ }
+{
+    if !is_head(head) {
+        return STATUS_NO_HEAD;
+    }
+    let step = day::six::start(head_of(head), terms, counts);
+    store(step, head, answer)
+}
+
+// Shows a view, bit i of the set naming campaign i: who plays, and what is paid.
+#[no_mangle]
+pub extern "C" fn wezghuli_view<'a>(
+    head: &'a mut [u64; 6],
+    terms: &'a mut [u32; 128],
+    counts: &'a mut [u16; 256],
+    set: u64,
+    answer: &'a mut [u64; 5],
+) -> u64
+    ensures { λ r. ⌜ r ≡ status (showing set)
+        (memory (now (head .entry)) (now (terms .entry)) (now (counts .entry)) (now (answer .entry))) ⌝ }
+    ensures { λ _. ⌜ memory (now (head .exit)) (now (terms .exit)) (now (counts .exit)) (now (answer .exit))
+        ≡ after (showing set)
+        (memory (now (head .entry)) (now (terms .entry)) (now (counts .entry)) (now (answer .entry))) ⌝ }
+{
+    if !is_head(head) {
+        return STATUS_NO_HEAD;
+    }
+    let step = day::six::view(head_of(head), View { set: set }, terms, counts);
+    store(step, head, answer)
+}
+
+// The four counts of a campaign; the state stays.
+#[no_mangle]
+pub extern "C" fn wezghuli_tally<'a>(
+    head: &'a mut [u64; 6],
+    terms: &'a mut [u32; 128],
+    counts: &'a mut [u16; 256],
+    campaign: u64,
+    answer: &'a mut [u64; 5],
+) -> u64
+    ensures { λ r. ⌜ r ≡ status (ask-tally campaign)
+        (memory (now (head .entry)) (now (terms .entry)) (now (counts .entry)) (now (answer .entry))) ⌝ }
+    ensures { λ _. ⌜ memory (now (head .exit)) (now (terms .exit)) (now (counts .exit)) (now (answer .exit))
+        ≡ after (ask-tally campaign)
+        (memory (now (head .entry)) (now (terms .entry)) (now (counts .entry)) (now (answer .entry))) ⌝ }
+{
+    if !is_head(head) {
+        return STATUS_NO_HEAD;
+    }
+    let step = day::six::tally(head_of(head), campaign, terms, counts);
+    store(step, head, answer)
+}
+
+// Closes the day with its takings, total claim and full.
+#[no_mangle]
+pub extern "C" fn wezghuli_close<'a>(
+    head: &'a mut [u64; 6],
+    terms: &'a mut [u32; 128],
+    counts: &'a mut [u16; 256],
+    answer: &'a mut [u64; 5],
+) -> u64
+    ensures { λ r. ⌜ r ≡ status close-day
+        (memory (now (head .entry)) (now (terms .entry)) (now (counts .entry)) (now (answer .entry))) ⌝ }
+    ensures { λ _. ⌜ memory (now (head .exit)) (now (terms .exit)) (now (counts .exit)) (now (answer .exit))
+        ≡ after close-day
+        (memory (now (head .entry)) (now (terms .entry)) (now (counts .entry)) (now (answer .entry))) ⌝ }
+{
+    if !is_head(head) {
+        return STATUS_NO_HEAD;
+    }
+    let step = day::six::close(head_of(head), terms, counts);
+    store(step, head, answer)
+}

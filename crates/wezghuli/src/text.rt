@@ -1,0 +1,46 @@
+// Reading and writing a line, a record crossing as six words.
+use crate::encoding::is_form;
+use crate::encoding::record_of;
+use crate::encoding::record_words;
+use lines::Reading;
+use writer::Writing;
+ghost use mathlib.Core.Path.{_≡_};
+ghost use Rattle.wezghuli.specs.Library.{read-status, record-after, write-status, line-after, length-after};
+
+// Reads a line, without its byte 10, into a record; a refusal leaves the record as it was.
+#[no_mangle]
+pub extern "C" fn wezghuli_read_line<'a>(line: &'a [u8], words: &'a mut [u64; 6]) -> u64
+    ensures { λ r. ⌜ (r ≡ read-status (now (line .entry)))
+        × (now (words .exit) ≡ record-after (now (line .entry)) (now (words .entry))) ⌝ }
+{
+    match lines::read_line(line) {
+        Reading::Got(r) => {
+            *words = record_words(r);
+            crate::STATUS_ACCEPTED
+        }
+        Reading::Refusal(question) => question,
+    }
+}
+
+// Writes a record's line, with its byte 10, at the front of out, and its length; a refusal leaves both as they were.
+#[no_mangle]
+pub extern "C" fn wezghuli_write_line<'a>(
+    words: &'a [u64; 6],
+    out: &'a mut [u8],
+    length: &'a mut [u64; 1],
+) -> u64
+    ensures { λ r. ⌜ (r ≡ write-status (now (words .entry)) (now (out .entry)))
+        × (now (out .exit) ≡ line-after (now (words .entry)) (now (out .entry)))
+        × (now (length .exit) ≡ length-after (now (words .entry)) (now (out .entry)) (now (length .entry))) ⌝ }
+{
+    if !is_form(words) {
+        return crate::STATUS_NO_FORM;
+    }
+    match writer::write_line(record_of(words), out) {
+        Writing::Length(n) => {
+            *length = [n as u64];
+            crate::STATUS_ACCEPTED
+        }
+        Writing::Refusal(question) => question,
+    }
+}

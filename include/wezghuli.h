@@ -1,0 +1,149 @@
+/* Wezghuli: the controller above a fuel pump, as a library.
+ *
+ * Build the archive with `rt staticlib wezghuli` (target/staticlib/libwezghuli.a) and link it; docs/INTEGRATION.md has
+ * the rest.
+ *
+ * Every function may be called with any numbers and any contents of what it is lent: none has a condition on them. It
+ * reads and writes only what it is lent, and returns a status:
+ *
+ *   0           accepted
+ *   1 to 99     refused: the number of the first question that failed; the state is as it was, and of what else was
+ *               lent only an answer is written, which says the same
+ *   100 and up  misuse: what was lent is no state or no record; not one byte of it is changed
+ *
+ * What the caller owes is what C itself asks: each pointer leads to as many elements as its parameter says, aligned as
+ * its type asks, no two of them overlap, and nobody else writes to them during the call. A pointer to no bytes (of
+ * length 0) still must not be null. Different states may be used by different threads at the same time.
+ *
+ * The contracts that these comments tell in words stand, proved, over each function in crates/wezghuli/src.
+ */
+#ifndef WEZGHULI_H
+#define WEZGHULI_H
+
+#include <stddef.h>
+#include <stdint.h>
+
+#ifdef __cplusplus
+extern "C" {
+#endif
+
+/* Statuses of their own; every other is the number of a question, told at the functions that ask it. */
+#define WEZGHULI_STATUS_ACCEPTED 0
+/* The six words of a head are none: the phase is above 2, or takings are held in another phase than Closed. */
+#define WEZGHULI_STATUS_NO_HEAD 100
+/* The first word of a record is above WEZGHULI_FORM_TALLY. */
+#define WEZGHULI_STATUS_NO_FORM 101
+
+/* The limits of a plan and its campaigns; money is in cents. */
+#define WEZGHULI_MAX_DEPTH 32
+#define WEZGHULI_MAX_WIDTH 16
+#define WEZGHULI_MAX_CAMPAIGNS 64
+#define WEZGHULI_MAX_VIEWS 4096
+#define WEZGHULI_MAX_PRICE 1000000
+#define WEZGHULI_MAX_BUDGET 2000000000
+/* The longest line that is read, without its byte 10, and the room that every written line fits, with it. */
+#define WEZGHULI_MAX_LINE 200
+#define WEZGHULI_LINE_ROOM 201
+
+/* A state, in memory of the caller. It may be copied, stored and sent as it is; its numbers are in the machine's byte
+ * order. A state whose bytes were changed by somebody else is refused with 1 or 100 by every operation but
+ * wezghuli_blank, unless what it then says is sound. */
+typedef struct {
+    uint64_t head[6];     /* see WEZGHULI_HEAD_.. */
+    uint32_t terms[128];  /* campaign i: its price at i, its budget at i + WEZGHULI_TERMS_BUDGET */
+    uint16_t counts[256]; /* campaign i: its plays at i, and so on: see WEZGHULI_COUNTS_.. */
+} wezghuli_day;
+
+/* The words of a head. */
+#define WEZGHULI_HEAD_PHASE 0
+#define WEZGHULI_HEAD_TAKINGS 1 /* that a Closed phase holds; 0 in the other phases */
+#define WEZGHULI_HEAD_DEPTH 2
+#define WEZGHULI_HEAD_WIDTH 3
+#define WEZGHULI_HEAD_CAMPAIGNS 4
+#define WEZGHULI_HEAD_VIEWS 5 /* that were accepted */
+
+/* Where the columns begin. */
+#define WEZGHULI_TERMS_PRICE 0
+#define WEZGHULI_TERMS_BUDGET 64
+#define WEZGHULI_COUNTS_PLAYS 0
+#define WEZGHULI_COUNTS_TURNS 64
+#define WEZGHULI_COUNTS_AGE 128
+#define WEZGHULI_COUNTS_NAMED 192
+
+/* head[WEZGHULI_HEAD_PHASE] */
+#define WEZGHULI_PHASE_FILLING 0
+#define WEZGHULI_PHASE_RUNNING 1
+#define WEZGHULI_PHASE_CLOSED 2
+
+/* answer[0]; the values stand in answer[1] to answer[4], and 0 where there are fewer. */
+#define WEZGHULI_ANSWER_REFUSED 0 /* the question's number */
+#define WEZGHULI_ANSWER_DONE 1
+#define WEZGHULI_ANSWER_PLAYED 2  /* campaign, paid */
+#define WEZGHULI_ANSWER_NOBODY 3
+#define WEZGHULI_ANSWER_TALLIED 4 /* plays, turns, age, named */
+#define WEZGHULI_ANSWER_CLOSING 5 /* takings, total claim, full */
+
+/* words[0] of a record; its numbers stand in words[1] to words[5], and 0 where there are fewer. */
+#define WEZGHULI_FORM_PLAN 0     /* depth, width */
+#define WEZGHULI_FORM_CAMPAIGN 1 /* price, budget */
+#define WEZGHULI_FORM_START 2
+#define WEZGHULI_FORM_VIEW 3 /* the set: bit i stands for campaign i */
+#define WEZGHULI_FORM_CLOSE 4
+#define WEZGHULI_FORM_OK 5
+#define WEZGHULI_FORM_PLAY 6 /* campaign, paid */
+#define WEZGHULI_FORM_NOBODY 7
+#define WEZGHULI_FORM_REFUSED 8 /* the question's number */
+#define WEZGHULI_FORM_CLOSED 9  /* takings, total claim, full */
+#define WEZGHULI_FORM_TALLY 10  /* campaign, plays, turns, age, named */
+
+/* Writes the blank state, whatever was there: Closed, depth 1, width 1, no campaigns, no views, no takings. A day
+ * begins with it, or with any sound state that is Closed. It cannot fail and has no status. */
+void wezghuli_blank(uint64_t head[6], uint32_t terms[128], uint16_t counts[256]);
+
+/* Opens a plan: the state becomes Filling, with no campaigns and zero counts. Answers DONE.
+ * Refused: 1 the state is not sound, 2 it is not Closed, 3 depth is not 1 to 32, 4 width is not 1 to 16,
+ * 5 width to the power depth is above 4,294,967,296. */
+uint64_t wezghuli_open(uint64_t head[6], uint32_t terms[128], uint16_t counts[256],
+    uint64_t depth, uint64_t width, uint64_t answer[5]);
+
+/* Adds a campaign, which gets the next number from 0 on. Answers DONE.
+ * Refused: 1 the state is not sound, 6 it is not Filling, 7 there are 64 campaigns, 8 price is not 1 to 1,000,000,
+ * 9 budget is not from the price to 2,000,000,000, 10 all budgets with this one are above 2,000,000,000. */
+uint64_t wezghuli_add(uint64_t head[6], uint32_t terms[128], uint16_t counts[256],
+    uint64_t price, uint64_t budget, uint64_t answer[5]);
+
+/* Starts the day: the state becomes Running. Answers DONE.
+ * Refused: 1 the state is not sound, 6 it is not Filling. */
+uint64_t wezghuli_start(uint64_t head[6], uint32_t terms[128], uint16_t counts[256], uint64_t answer[5]);
+
+/* Shows a view, whose bit i names campaign i. Answers PLAYED with the campaign that plays and what this play pays, or
+ * NOBODY.
+ * Refused: 1 the state is not sound, 11 it is not Running, 12 4,096 views were accepted, 13 a named campaign is not in
+ * the plan, 14 not from 1 to width campaigns are named. */
+uint64_t wezghuli_view(uint64_t head[6], uint32_t terms[128], uint16_t counts[256],
+    uint64_t set, uint64_t answer[5]);
+
+/* Answers TALLIED with the four counts of a campaign, in any phase; the state stays.
+ * Refused: 1 the state is not sound, 15 there is no such campaign. */
+uint64_t wezghuli_tally(uint64_t head[6], uint32_t terms[128], uint16_t counts[256],
+    uint64_t campaign, uint64_t answer[5]);
+
+/* Closes the day: the state becomes Closed and holds its takings. Answers CLOSING with takings, total claim and full.
+ * Refused: 1 the state is not sound, 11 it is not Running. */
+uint64_t wezghuli_close(uint64_t head[6], uint32_t terms[128], uint16_t counts[256], uint64_t answer[5]);
+
+/* Reads a line, handed over without its byte 10, into the words of its record: an input line or an output line.
+ * Refused, with the words as they were: 16 the line has more than 200 bytes, 17 it is no form. */
+uint64_t wezghuli_read_line(const uint8_t *line, size_t line_len, uint64_t words[6]);
+
+/* Writes the line of a record with its byte 10 to the front of out, and how many bytes that is to length[0]; later
+ * bytes of out keep their values. Numbers that the form does not have are not looked at.
+ * Refused, with out and length as they were: 17 a number is out of its range, 18 the line does not fit out.
+ * WEZGHULI_STATUS_NO_FORM where words[0] is no form. */
+uint64_t wezghuli_write_line(const uint64_t words[6], uint8_t *out, size_t out_len, uint64_t length[1]);
+
+#ifdef __cplusplus
+}
+#endif
+
+#endif

@@ -1,0 +1,210 @@
+/* What the header says and the source has no name for, tried: where columns begin, the lengths of lines, misuse, and the
+ * stack that each function takes, found by running it on a stack that was painted before. */
+#define _XOPEN_SOURCE 700
+#include <stdint.h>
+#include <stdio.h>
+#include <string.h>
+#include <ucontext.h>
+
+#include "wezghuli.h"
+
+/* The stack that docs/INTEGRATION.md promises to be enough. */
+#define STACK_LIMIT 8192
+
+_Static_assert(WEZGHULI_LINE_ROOM == WEZGHULI_MAX_LINE + 1, "the longest line that is read, and its byte 10");
+_Static_assert(sizeof(wezghuli_day) == 1072, "a state has no gaps");
+
+static unsigned passed, failed;
+
+static void expect(int holds, const char *what)
+{
+    if (holds) {
+        passed++;
+    } else {
+        failed++;
+        printf("does not hold: %s\n", what);
+    }
+}
+
+static wezghuli_day day;
+static uint64_t answer[5];
+
+/* Document 01's listing up to its third view, and one campaign more than it has. */
+static void run_day(void)
+{
+    uint64_t refusals = 0;
+
+    wezghuli_blank(day.head, day.terms, day.counts);
+    refusals += wezghuli_open(day.head, day.terms, day.counts, 2, 2, answer);
+    refusals += wezghuli_add(day.head, day.terms, day.counts, 5, 10, answer);
+    refusals += wezghuli_add(day.head, day.terms, day.counts, 3, 6, answer);
+    refusals += wezghuli_add(day.head, day.terms, day.counts, 7, 77, answer);
+    refusals += wezghuli_start(day.head, day.terms, day.counts, answer);
+    for (int i = 0; i < 3; i++)
+        refusals += wezghuli_view(day.head, day.terms, day.counts, 3, answer);
+    expect(refusals == 0, "a day of three views is accepted");
+}
+
+static void columns(void)
+{
+    run_day();
+    expect(day.head[WEZGHULI_HEAD_PHASE] == WEZGHULI_PHASE_RUNNING, "the phase");
+    expect(day.head[WEZGHULI_HEAD_CAMPAIGNS] == 3, "the number of campaigns");
+    expect(day.head[WEZGHULI_HEAD_VIEWS] == 3, "the accepted views");
+    expect(day.terms[WEZGHULI_TERMS_PRICE + 2] == 7, "a price");
+    expect(day.terms[WEZGHULI_TERMS_BUDGET + 2] == 77, "a budget");
+    for (uint64_t i = 0; i < 3; i++) {
+        expect(wezghuli_tally(day.head, day.terms, day.counts, i, answer) == 0, "a tally");
+        expect(answer[0] == WEZGHULI_ANSWER_TALLIED, "the kind of a tally");
+        expect(day.counts[WEZGHULI_COUNTS_PLAYS + i] == answer[1], "plays");
+        expect(day.counts[WEZGHULI_COUNTS_TURNS + i] == answer[2], "turns");
+        expect(day.counts[WEZGHULI_COUNTS_AGE + i] == answer[3], "age");
+        expect(day.counts[WEZGHULI_COUNTS_NAMED + i] == answer[4], "named");
+    }
+    expect(day.counts[WEZGHULI_COUNTS_PLAYS] == 2 && day.counts[WEZGHULI_COUNTS_AGE + 1] == 1, "the counts themselves");
+    expect(wezghuli_close(day.head, day.terms, day.counts, answer) == 0, "closing");
+    expect(day.head[WEZGHULI_HEAD_TAKINGS] == 13 && answer[1] == 13, "the takings");
+    expect(day.head[WEZGHULI_HEAD_DEPTH] == 2 && day.head[WEZGHULI_HEAD_WIDTH] == 2, "the plan");
+}
+
+static void lengths(void)
+{
+    uint8_t line[WEZGHULI_MAX_LINE + 1];
+    uint64_t words[6] = {9, 9, 9, 9, 9, 9};
+    uint64_t before[6];
+
+    memcpy(before, words, sizeof words);
+    memset(line, 'x', sizeof line);
+    expect(wezghuli_read_line(line, WEZGHULI_MAX_LINE, words) == 17, "the longest line is read and is no form");
+    expect(wezghuli_read_line(line, WEZGHULI_MAX_LINE + 1, words) == 16, "a longer one is not read");
+    expect(wezghuli_read_line(line, 0, words) == 17, "an empty line");
+    expect(memcmp(before, words, sizeof words) == 0, "a refused line leaves the words");
+
+    uint64_t longest[6] = {WEZGHULI_FORM_VIEW, UINT64_MAX, 0, 0, 0, 0};
+    uint8_t out[WEZGHULI_LINE_ROOM];
+    uint64_t length[1] = {7};
+    expect(wezghuli_write_line(longest, out, sizeof out, length) == 0, "a view of all campaigns is written");
+    expect(length[0] <= WEZGHULI_LINE_ROOM && out[length[0] - 1] == 10, "its length counts its byte 10");
+    expect(wezghuli_write_line(longest, out, length[0] - 1, length) == 18, "one byte less is no room");
+    expect(wezghuli_read_line(out, length[0] - 1, words) == 0, "it reads back");
+    expect(memcmp(longest, words, sizeof words) == 0, "as what was written");
+}
+
+/* Words that are no head or no record: the status says so and not one byte changes. */
+static void misuse(void)
+{
+    const uint64_t heads[][2] = {{3, 0}, {UINT64_MAX, 0}, {0, 1}, {1, 1}, {0, UINT64_MAX}, {1, UINT64_MAX}};
+
+    for (size_t i = 0; i < sizeof heads / sizeof heads[0]; i++) {
+        uint64_t given[5] = {11, 12, 13, 14, 15};
+        run_day();
+        memcpy(answer, given, sizeof answer);
+        memcpy(day.head, heads[i], sizeof heads[i]);
+        wezghuli_day before = day;
+        int told = wezghuli_open(day.head, day.terms, day.counts, 2, 2, answer) == WEZGHULI_STATUS_NO_HEAD
+            && wezghuli_add(day.head, day.terms, day.counts, 5, 10, answer) == WEZGHULI_STATUS_NO_HEAD
+            && wezghuli_start(day.head, day.terms, day.counts, answer) == WEZGHULI_STATUS_NO_HEAD
+            && wezghuli_view(day.head, day.terms, day.counts, 1, answer) == WEZGHULI_STATUS_NO_HEAD
+            && wezghuli_tally(day.head, day.terms, day.counts, 0, answer) == WEZGHULI_STATUS_NO_HEAD
+            && wezghuli_close(day.head, day.terms, day.counts, answer) == WEZGHULI_STATUS_NO_HEAD;
+        expect(told, "no head is told");
+        expect(memcmp(&before, &day, sizeof day) == 0, "and the state is as it was");
+        expect(memcmp(given, answer, sizeof answer) == 0, "and so is the answer");
+    }
+    const uint64_t forms[] = {WEZGHULI_FORM_TALLY + 1, 100, UINT64_MAX};
+    for (size_t i = 0; i < sizeof forms / sizeof forms[0]; i++) {
+        uint64_t words[6] = {forms[i], 1, 1, 1, 1, 1}, length[1] = {7};
+        uint8_t out[WEZGHULI_LINE_ROOM], was[WEZGHULI_LINE_ROOM];
+        memset(out, 'o', sizeof out);
+        memset(was, 'o', sizeof was);
+        expect(wezghuli_write_line(words, out, sizeof out, length) == WEZGHULI_STATUS_NO_FORM, "no form is told");
+        expect(length[0] == 7 && memcmp(out, was, sizeof out) == 0, "and nothing is written");
+    }
+}
+
+/* Stacks. */
+static uint8_t stack[65536];
+static ucontext_t here, there;
+
+static void empty(void) {}
+static void blanks(void) { wezghuli_blank(day.head, day.terms, day.counts); }
+static void opens(void) { wezghuli_open(day.head, day.terms, day.counts, 8, 16, answer); }
+static void adds(void) { wezghuli_add(day.head, day.terms, day.counts, 5, 1000, answer); }
+static void starts(void) { wezghuli_start(day.head, day.terms, day.counts, answer); }
+static void views(void) { wezghuli_view(day.head, day.terms, day.counts, 0xffff, answer); }
+static void tallies(void) { wezghuli_tally(day.head, day.terms, day.counts, 3, answer); }
+static void closes(void) { wezghuli_close(day.head, day.terms, day.counts, answer); }
+
+static const char *text;
+static uint64_t record[6], length[1];
+static uint8_t out[WEZGHULI_LINE_ROOM];
+static void reads(void) { wezghuli_read_line((const uint8_t *)text, strlen(text), record); }
+static void writes(void) { wezghuli_write_line(record, out, sizeof out, length); }
+
+static size_t taken(void (*run)(void))
+{
+    memset(stack, 0xa5, sizeof stack);
+    getcontext(&there);
+    there.uc_stack.ss_sp = stack;
+    there.uc_stack.ss_size = sizeof stack;
+    there.uc_link = &here;
+    makecontext(&there, run, 0);
+    swapcontext(&here, &there);
+    size_t clean = 0;
+    while (clean < sizeof stack && stack[clean] == 0xa5)
+        clean++;
+    return sizeof stack - clean;
+}
+
+static size_t most;
+
+static void measure(const char *name, void (*run)(void))
+{
+    size_t bytes = taken(run);
+
+    printf("stack of %-10s %5zu bytes\n", name, bytes);
+    if (bytes > most)
+        most = bytes;
+    expect(bytes <= STACK_LIMIT, name);
+}
+
+static void stacks(void)
+{
+    size_t none = taken(empty);
+
+    printf("a function that does nothing is seen to take %zu bytes\n", none);
+    measure("blank", blanks);
+    measure("open", opens);
+    for (int i = 0; i < 64; i++)
+        adds();
+    wezghuli_blank(day.head, day.terms, day.counts);
+    opens();
+    for (int i = 0; i < 63; i++)
+        adds();
+    measure("add", adds);
+    measure("start", starts);
+    for (int i = 0; i < 40; i++)
+        views();
+    measure("view", views);
+    measure("tally", tallies);
+    measure("close", closes);
+    expect(answer[0] == WEZGHULI_ANSWER_CLOSING, "the measured day was accepted");
+    text = "(tally 63 (plays 4294967295) (turns 4294967295) (age 4294967295) (named 4294967295))";
+    measure("read_line", reads);
+    measure("write_line", writes);
+    expect(length[0] == strlen(text) + 1, "the measured line was read and written");
+    text = "(view 0 1 2 3 4 5 6 7 8 9 10 11 12 13 14 15 16 17 18 19 20 21 22 23 24 25 26 27 28 29 30 31 63)";
+    measure("read_line", reads);
+    measure("write_line", writes);
+    printf("stack at most %zu bytes of %d\n", most, STACK_LIMIT);
+}
+
+int main(void)
+{
+    columns();
+    lengths();
+    misuse();
+    stacks();
+    printf("%u passed, %u failed\n", passed, failed);
+    return failed != 0;
+}
