@@ -2,6 +2,7 @@
 //!
 //! pipe PUMPDAY STDIN STDOUT: the program, and document 01's listing with its answers.
 
+mod failing;
 mod talk;
 
 use std::fs;
@@ -46,6 +47,14 @@ fn byte_by_byte(talk: &mut Talk, day: &[(&str, String)]) {
             talk.send([byte]);
         }
         talk.hear(answer);
+    }
+}
+
+/// A signal that stops the program while it waits for input makes no read fail.
+fn stopped(talk: &mut Talk, day: &[(&str, String)]) {
+    for (line, answer) in day {
+        talk.stop_for_a_moment();
+        talk.say(line, answer);
     }
 }
 
@@ -189,12 +198,18 @@ fn main() {
     talked("several blocks", &blocks);
     talked("constant memory", &constant_memory);
     talked("a full day", &full_day);
-    last_line_closes(program, &day);
-    passed += 1;
-    let alone: [fn(&str); 4] = [last_lines, talk::reader_gone, talk::no_room, talk::unreadable];
-    for check in alone {
+    talked("stopped for a moment", &|t| stopped(t, &day));
+    let mut tried = |check: &dyn Fn(&str)| {
         check(program);
         passed += 1;
-    }
+    };
+    tried(&last_lines);
+    tried(&|p| last_line_closes(p, &day));
+    tried(&failing::reader_gone);
+    tried(&failing::no_room);
+    tried(&failing::no_room_at_the_end);
+    tried(&failing::unreadable);
+    tried(&failing::input_unready);
+    tried(&failing::output_unready);
     println!("{passed} passed, 0 failed");
 }

@@ -1,6 +1,5 @@
 //! A program that is spoken to over pipes, with a time limit on every answer.
 
-use std::fs::File;
 use std::io::{Read, Write};
 use std::process::{Child, ChildStdin, Command, Stdio};
 use std::sync::mpsc::{channel, Receiver};
@@ -20,18 +19,14 @@ pub struct Talk {
     heard: Vec<u8>,
 }
 
-fn fail(name: &str, what: &str) -> ! {
+pub fn fail(name: &str, what: &str) -> ! {
     println!("{name}: {what}");
     println!("0 passed, 1 failed");
     std::process::exit(1)
 }
 
-fn start(program: &str, input: Stdio) -> Child {
-    Command::new(program).stdin(input).stdout(Stdio::piped()).spawn().expect("the program starts")
-}
-
 /// The program's end within the limit, with status 0 where `well` asks for it.
-fn ended(name: &str, child: &mut Child, well: bool) {
+pub fn ended(name: &str, child: &mut Child, well: bool) {
     let start = Instant::now();
     while start.elapsed() < LIMIT {
         match child.try_wait().expect("its end is asked for") {
@@ -46,7 +41,8 @@ fn ended(name: &str, child: &mut Child, well: bool) {
 
 impl Talk {
     pub fn with(program: &str, name: &str) -> Talk {
-        let mut child = start(program, Stdio::piped());
+        let mut command = Command::new(program);
+        let mut child = command.stdin(Stdio::piped()).stdout(Stdio::piped()).spawn().expect("the program starts");
         let input = child.stdin.take();
         let mut stdout = child.stdout.take().expect("a pipe");
         let (sender, output) = channel();
@@ -96,6 +92,18 @@ impl Talk {
         line.trim().trim_end_matches(" kB").parse().expect("a number")
     }
 
+    /// The program is stopped for a moment, wherever it stands.
+    pub fn stop_for_a_moment(&self) {
+        for signal in ["-STOP", "-CONT"] {
+            let id = self.child.id().to_string();
+            let sent = Command::new("kill").args([signal, &id]).status().expect("a signal");
+            if !sent.success() {
+                self.fail("it cannot be stopped");
+            }
+            thread::sleep(PAUSE);
+        }
+    }
+
     pub fn fail(&self, what: &str) -> ! {
         fail(&self.name, what)
     }
@@ -124,34 +132,5 @@ impl Talk {
             Err(std::sync::mpsc::RecvTimeoutError::Timeout) => fail(&self.name, "its output did not end"),
             Err(std::sync::mpsc::RecvTimeoutError::Disconnected) => ended(&self.name, &mut self.child, true),
         }
-    }
-}
-
-/// Whoever read the answers is gone: a write fails, and the program ends although its input goes on.
-pub fn reader_gone(program: &str) {
-    let mut child = start(program, Stdio::piped());
-    let mut input = child.stdin.take().expect("a pipe");
-    drop(child.stdout.take());
-    let _ = input.write_all(b"(start)\n");
-    ended("no reader", &mut child, false);
-}
-
-/// A write that fails ends the program, although its input goes on: this device takes nothing.
-pub fn no_room(program: &str) {
-    let full = File::options().write(true).open("/dev/full").expect("a device that is full");
-    let mut child = Command::new(program).stdin(Stdio::piped()).stdout(full).spawn().expect("the program starts");
-    let mut input = child.stdin.take().expect("a pipe");
-    let _ = input.write_all(b"(start)\n");
-    ended("no room", &mut child, false);
-}
-
-/// A read that fails counts as the end of input: a folder cannot be read.
-pub fn unreadable(program: &str) {
-    let mut child = start(program, File::open("/").expect("a folder").into());
-    let mut said = vec![];
-    child.stdout.take().expect("a pipe").read_to_end(&mut said).expect("its output");
-    ended("no input", &mut child, true);
-    if !said.is_empty() {
-        fail("no input", "it answered");
     }
 }

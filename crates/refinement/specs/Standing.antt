@@ -17,7 +17,8 @@ use Rattle.campaigns.specs.Choice.Choice.{nobody, plays}
 use Rattle.campaigns.specs.Campaign.{fresh}
 use Rattle.campaigns.specs.View.{names, chosen-of, viewed}
 use Rattle.refinement.specs.Fraction.{Fraction, _÷_, integer, _⊖_, _⊗_, power, less, _≈_}
-use Rattle.refinement.specs.Algorithm4.{Instance, Neighbors, Variables, C, part, feasible-neighbor, quantity, line-4}
+use Rattle.refinement.specs.Algorithm4.{Instance, Neighbors, Variables, C, part, feasible-neighbor, quantity}
+use Rattle.refinement.specs.Algorithm4.{line-4}
 use Rattle.refinement.specs.Algorithm4.{line-9, algorithm-4, matches}
 
 -- B_i: "Without loss of generality, B_i/b_i is integral". The budget that was handed in, the budget without the cents

@@ -15,15 +15,12 @@ use Rattle.reply.specs.Session.{Session, longer, ended, after-byte, fed, upto}
 use Rattle.reply.proofs.Sessions.{cut-reply, cut-next, fed-append, byte-plain, byte-end}
 use Rattle.stream.specs.declared.feed.Stream.{Stream}
 use Rattle.stream.specs.declared.feed.Fed.{Fed}
-use Rattle.stream.specs.Stream.{finished, session, new-stream, session-of, Holds, Finishes}
-use Rattle.stream.specs.Chunking.{joined, Plain, All-plain, after-lines, replies, Split, Feeding, Takes, stream-after, written, last-reply, Any-chunking}
+use Rattle.stream.specs.Stream.{finished, session, new-stream, session-of, silent, Holds, Finishes}
+use Rattle.stream.specs.Chunking.{joined, Plain, All-plain, after-lines, replies, Split, Feeding, Takes}
+use Rattle.stream.specs.Chunking.{stream-after, written, last-reply, Any-input, Any-chunking}
 use Rattle.batch.proofs.Rests.{rest-fed}
 
--- x with its answers handed over
-abbrev silent : Session → Session
-silent x = record { day = x .day; pending = x .pending; output = [] }
-
-abbrev with-said : Session → List ℕ → Session
+abbrev pub with-said : Session → List ℕ → Session
 with-said x w = record { day = x .day; pending = x .pending; output = w }
 
 -- what was said before stays in front
@@ -51,11 +48,11 @@ fed-said x (b ∷ l) = go (eqb b 10) refl (fed-said (ended x) l) (fed-said (ende
 -- In blocks.
 
 -- what is put at the front is what was said
-front-said : {y : Session} {d e : List ℕ} {k : Stream} {n : ℕ} → Holds y d e k n → take n e ≡ y .output
+pub front-said : {y : Session} {d e : List ℕ} {k : Stream} {n : ℕ} → Holds y d e k n → take n e ≡ y .output
 front-said {y} {d} {e} {k} {n} h = ap₂ (λ (i : ℕ) (l : List ℕ). take i l) (h .length-is) (h .front) ∙ take-append-seam (y .output) (drop (length (y .output)) d)
 
 -- the next block begins where the last one left off, its answers handed over
-session-next : {y : Session} {d e : List ℕ} {k : Stream} {n : ℕ} → Holds y d e k n → session-of k ≡ silent y
+pub session-next : {y : Session} {d e : List ℕ} {k : Stream} {n : ℕ} → Holds y d e k n → session-of k ≡ silent y
 session-next h = ap₂ (λ (s : Day) (l : List ℕ). record { day = s; pending = l; output = [] }) (h .day) (h .pending)
 
 -- all that is written, with the end of input, is what the whole input says
@@ -113,12 +110,17 @@ unfolding finished
 last-said s [] = refl
 last-said s (b ∷ l) = cut-reply s (b ∷ l)
 
+pub any-input : Any-input
+any-input input ls rest a p w =
+    let y : Session = record { day = after-lines blank ls; pending = take 201 rest; output = replies blank ls } in
+    let f : fed (session-of new-stream) input ≡ y =
+    ap (fed (session blank [] 0)) (sym w) ∙ fed-lines blank [] ls rest a p in
+    ap (λ (y : Session). y .output ++ finished (silent y) .output) f
+    ∙ ap (λ (m : List ℕ). replies blank ls ++ m) (last-said (after-lines blank ls) rest)
+
 pub any-chunking : Any-chunking
 any-chunking input fs t d e r room h ls rest a p w =
-    let f : fed (session blank [] 0) input ≡ record { day = after-lines blank ls; pending = take 201 rest; output = replies blank ls } = ap (fed (session blank [] 0)) (sym w) ∙ fed-lines blank [] ls rest a p in
-    all-written d e r room new-stream input fs t h
-    ∙ ap (λ (y : Session). y .output ++ finished (silent y) .output) f
-    ∙ ap (λ (m : List ℕ). replies blank ls ++ m) (last-said (after-lines blank ls) rest)
+    all-written d e r room new-stream input fs t h ∙ any-input input ls rest a p w
 
 -- and every input is lines and a rest
 plain-cons : (b : ℕ) (l : List ℕ) → eqb b 10 ≡ false → Plain l → Plain (b ∷ l)

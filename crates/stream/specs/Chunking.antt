@@ -6,10 +6,10 @@ use lib.ListN.{length, take, drop}
 use Rattle.day.specs.declared.Day.{Day}
 use Rattle.day.specs.Day.{blank}
 use Rattle.reply.specs.Reply.{reply, next}
-use Rattle.reply.specs.Session.{upto}
+use Rattle.reply.specs.Session.{Session, fed, upto}
 use Rattle.stream.specs.declared.feed.Stream.{Stream}
 use Rattle.stream.specs.declared.feed.Fed.{Fed}
-use Rattle.stream.specs.Stream.{new-stream, Feeds, Finishes}
+use Rattle.stream.specs.Stream.{finished, silent, new-stream, session-of, Feeds, Finishes}
 
 -- the input that has these lines, each ended by byte 10, and a rest
 unfoldable pub joined : List (List ℕ) → List ℕ → List ℕ
@@ -69,6 +69,16 @@ written (f ∷ fs) = take (f .back .written) (f .after) ++ written fs
 abbrev pub last-reply : Day → List ℕ → List ℕ
 last-reply s [] = []
 last-reply s (b ∷ l) = reply s (b ∷ l)
+
+-- what a session answers over an input and at its end
+abbrev pub all-output : Session → List ℕ → List ℕ
+all-output x l = fed x l .output ++ finished (silent (fed x l)) .output
+
+-- a new stream answers an input by the answers to its lines and to its rest, from the blank state on, and nothing else
+abbrev pub Any-input : Type 0
+Any-input =
+    (input : List ℕ) (lines : List (List ℕ)) (rest : List ℕ) → All-plain lines → Plain rest → joined lines rest ≡ input
+    → all-output (session-of new-stream) input ≡ replies blank lines ++ last-reply (after-lines blank lines) rest
 
 -- a new stream that is handed an input in any blocks, with any room, and then its end, writes the answers to the lines
 -- of the input and to its rest, from the blank state on, and nothing else

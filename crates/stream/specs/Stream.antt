@@ -31,6 +31,10 @@ new-stream = record { day = blank; pending = table 201 (λ i. 0); kept = 0 }
 abbrev pub session-of : Stream → Session
 session-of k = session (k .day) (k .pending) (k .kept)
 
+-- x with its answers handed over
+abbrev pub silent : Session → Session
+silent x = record { day = x .day; pending = x .pending; output = [] }
+
 -- the stream k holds y, whose answers stand at the front of the buffer d, which became e
 pub record Holds (y : Session) (d e : List ℕ) (k : Stream) (written : ℕ) : Type 0 where
   pub day : k .day ≡ y .day

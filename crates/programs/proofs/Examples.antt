@@ -1,0 +1,209 @@
+-- Any blocks can be handed to a new stream: what it hands back is written out from the definitions, with room for every
+-- answer, and the theorem for any chunking says what was written. Of the day in two blocks the answers are computed
+-- line by line.
+use mathlib.Core.Path.{_≡_, refl, sym, ap, _∙_, subst, subst⁻¹}
+use mathlib.Core.Bool.{Bool, cond}
+use mathlib.Core.List.{List, [], _∷_, _++_}
+use Prim.Native.Nat.{ℕ, suc, _+_, _≤_}
+use native.Mathlib.Omega.{arith}
+use lib.ListN.{length, take, drop, length-append}
+use lib.Seq.{take-length, drop-length}
+use borrow.Author.Tests.{le-leb}
+use Rattle.finite.specs.Finite.{sum, count, every, table}
+use Rattle.sets.specs.Set.{member, size, within}
+use Rattle.powers.specs.Power.{weight, share}
+use Rattle.campaigns.specs.Choice.{best, choice}
+use Rattle.campaigns.specs.Campaign.{whole, claim, sound-plan, priced, counted, uncounted, empty, sound-campaign}
+use Rattle.lines.specs.Numeral.{numeral, numeral-in}
+use Rattle.lines.specs.Form.{bytes, template, in-slot, in-range, text, filled, slot-text, names-text, piece, numbers, numbers-after}
+use Rattle.lines.specs.Reading.{reading, first-of, forms, held-or, ended-or, made, numbers-of, rest-of, step, strip}
+use Rattle.lines.specs.Reading.{slot-at, names-at, numeral-at, digits, is-digit}
+use Rattle.writer.specs.Writing.{line}
+use Rattle.day.specs.Day.{blank, taken, claimed, budgeted}
+use Rattle.day.specs.Sound.{sound}
+use Rattle.day.specs.Calls.{first-no, width-holds, call}
+use Rattle.reply.specs.Reply.{reply, reply-text, next, outcome, tallies}
+use Rattle.reply.specs.Session.{Session, after-byte, fed, consumed-count, upto}
+use Rattle.reply.proofs.Sessions.{fed-append}
+use Rattle.stream.specs.declared.feed.Stream.{Stream}
+use Rattle.stream.specs.declared.feed.Fed.{Fed}
+use Rattle.stream.specs.Stream.{finished, new-stream, session-of, silent, Holds, Feeds, Finishes}
+use Rattle.stream.specs.Chunking.{joined, Plain, All-plain, after-lines, replies, last-reply, Split}
+use Rattle.stream.specs.Chunking.{Feeding, Takes, stream-after, written}
+use Rattle.stream.proofs.Chunking.{fed-said, fed-lines, any-chunking}
+use Rattle.programs.specs.Examples.{whole-of, blocks-of, Any-blocks}
+use Rattle.programs.specs.Examples.{Handed, lines-of, first-block, second-block, answers, Day-in-two-blocks}
+
+-- What is handed back.
+
+-- the stream that holds y, its answers handed over
+abbrev kept-of : Session → Stream
+kept-of y = record { day = y .day; pending = y .pending; kept = length (y .pending) }
+
+abbrev handed-back : Session → (consumed : ℕ) → Fed
+handed-back y n = record { stream = kept-of y; consumed = n; written = length (y .output) }
+
+-- the buffer d with the answers at its front
+abbrev put-in : Session → (d : List ℕ) → List ℕ
+put-in y d = y .output ++ drop (length (y .output)) d
+
+session-kept : (y : Session) → session-of (kept-of y) ≡ silent y
+session-kept y = ap (λ (l : List ℕ). record { day = y .day; pending = l; output = [] }) (take-length (y .pending))
+
+holds-kept : (y : Session) (d : List ℕ) → Holds y d (put-in y d) (kept-of y) (length (y .output))
+holds-kept y d = record {
+  day = refl;
+  pending = take-length (y .pending);
+  kept-is = refl;
+  length-is = refl;
+  front = refl;
+  fits = omega (arith, length-append (y .output) (drop (length (y .output)) d));
+}
+
+-- One block.
+
+answers-grow : (x : Session) (l : List ℕ) → length (x .output) ≤ length (fed x l .output)
+answers-grow x l =
+    let same = ap (λ (y : Session). length (y .output)) (fed-said x l) in
+    omega (arith, same, length-append (x .output) (fed (silent x) l .output))
+
+-- with room for all answers every byte is taken
+all-consumed : (n : ℕ) (x : Session) (l : List ℕ) → length (fed x l .output) + 16384 ≤ n
+    → consumed-count n x l ≡ length l
+unfolding consumed-count fed
+all-consumed n x [] h = refl
+all-consumed n x (b ∷ l) h =
+    rw (le-leb (length (x .output) + 16384) n (omega (arith, h, answers-grow x (b ∷ l))))
+    (ap suc (all-consumed n (after-byte x b) l h))
+
+module _ (k : Stream) (l d : List ℕ) (room : length (fed (session-of k) l .output) + 16384 ≤ length d) where
+  abbrev fed-block : Session
+  fed-block = fed (session-of k) l
+
+  feeds-all : Feeds k l d (put-in fed-block d) (handed-back fed-block (length l))
+  feeds-all =
+      let n : consumed-count (length d) (session-of k) l ≡ length l = all-consumed (length d) (session-of k) l room in
+      record {
+        consumed = sym n;
+        inside = omega arith;
+        holds = subst⁻¹
+            (λ (m : List ℕ).
+            Holds (fed (session-of k) m) d (put-in fed-block d) (kept-of fed-block) (length (fed-block .output)))
+            (ap (λ (i : ℕ). take i l) n ∙ take-length l)
+            (holds-kept fed-block d);
+      }
+
+finishes-all : (k : Stream) (d : List ℕ) → 16384 ≤ length d
+    → Finishes k d (put-in (finished (session-of k)) d) (handed-back (finished (session-of k)) 0)
+finishes-all k d room =
+    let z = finished (session-of k) in
+    record {
+      consumed = refl;
+      holds = subst⁻¹ (λ (b : Bool). Holds (cond b z (session-of k)) d (put-in z d) (kept-of z) (length (z .output)))
+          (le-leb 16384 (length d) room) (holds-kept z d);
+    }
+
+-- Any blocks.
+
+abbrev feedings : (d : List ℕ) → Stream → List (List ℕ) → List Feeding
+feedings d k [] = []
+feedings d k (b ∷ bs) =
+    record {
+      block = b;
+      later = whole-of bs;
+      before = d;
+      after = put-in (fed (session-of k) b) d;
+      back = handed-back (fed (session-of k) b) (length b);
+    } ∷ feedings d (kept-of (fed (session-of k) b)) bs
+
+blocks-same : (d : List ℕ) (k : Stream) (bs : List (List ℕ)) → blocks-of (feedings d k bs) ≡ bs
+blocks-same d k [] = refl
+blocks-same d k (b ∷ bs) = ap (λ (l : List (List ℕ)). b ∷ l) (blocks-same d (kept-of (fed (session-of k) b)) bs)
+
+-- the answers to a block and to what follows it, in bytes
+answers-add : (k : Stream) (b m : List ℕ)
+    → length (fed (session-of k) (b ++ m) .output)
+    ≡ length (fed (session-of k) b .output) + length (fed (session-of (kept-of (fed (session-of k) b))) m .output)
+answers-add k b m =
+    let y = fed (session-of k) b in
+    ap (λ (s : Session). length (s .output)) (fed-append (session-of k) b m ∙ fed-said y m)
+    ∙ length-append (y .output) (fed (silent y) m .output)
+    ∙ ap (λ (s : Session). length (y .output) + length (fed s m .output)) (sym (session-kept y))
+
+takes-all : (d : List ℕ) (k : Stream) (bs : List (List ℕ))
+    → length (fed (session-of k) (whole-of bs) .output) + 16384 ≤ length d → Takes k (whole-of bs) (feedings d k bs)
+takes-all d k [] h = refl
+takes-all d k (b ∷ bs) h =
+    let n = kept-of (fed (session-of k) b) in
+    let m = whole-of bs in
+    let q = answers-add k b m in (
+      refl,
+      feeds-all k b d (omega (arith, h, q)),
+      subst⁻¹ (λ (l : List ℕ). Takes n (l ++ m) (feedings d n bs)) (drop-length b)
+          (takes-all d n bs (omega (arith, h, q))),
+    )
+
+pub any-blocks : Any-blocks
+any-blocks bs i d room =
+    let fs = feedings d new-stream bs in
+    let z = finished (session-of (stream-after new-stream fs)) in
+    let f = fed-lines blank [] (i .lines) (i .rest) (i .lines-plain) (i .rest-plain) in
+    let all : length (fed (session-of new-stream) (whole-of bs) .output) + 16384 ≤ length d =
+    subst (λ (l : List ℕ). length (fed (session-of new-stream) l .output) + 16384 ≤ length d) (i .whole)
+    (subst⁻¹ (λ (y : Session). length (y .output) + 16384 ≤ length d) f room) in
+    let some : 16384 ≤ length d = omega (arith, room) in
+    let t = takes-all d new-stream bs all in
+    let h = finishes-all (stream-after new-stream fs) d some in
+    record {
+      feedings = fs;
+      blocks-are = blocks-same d new-stream bs;
+      takes = t;
+      after = put-in z d;
+      back = handed-back z 0;
+      finishes = h;
+      writes = any-chunking (whole-of bs) fs t d (put-in z d) (handed-back z 0) some h
+          (i .lines) (i .rest) (i .lines-plain) (i .rest-plain) (i .whole);
+    }
+
+-- The day.
+
+abbrev day-lines : List (List ℕ)
+day-lines =
+    lines-of ("(plan (depth 2) (width 2))" ∷ "(campaign (price 5) (budget 5))" ∷ "(start)" ∷ "(view 0)" ∷ [])
+
+day-plain : All-plain day-lines × Plain (bytes "(close)")
+unfolding upto
+day-plain = ((refl, (refl, (refl, (refl, tt)))), refl)
+
+day-joined : joined day-lines (bytes "(close)") ≡ whole-of (first-block ∷ second-block ∷ [])
+unfolding joined
+day-joined = refl
+
+abbrev day-split : Split (whole-of (first-block ∷ second-block ∷ []))
+day-split = record {
+  lines = day-lines;
+  rest = bytes "(close)";
+  lines-plain = day-plain .0;
+  rest-plain = day-plain .1;
+  whole = day-joined;
+}
+
+day-answers : replies blank day-lines ++ last-reply (after-lines blank day-lines) (bytes "(close)") ≡ answers
+unfolding replies after-lines joined reply reply-text next outcome tallies
+    reading first-of forms held-or ended-or made numbers-of rest-of step strip slot-at names-at numeral-at digits is-digit
+    template in-slot in-range line text filled slot-text names-text piece numbers numeral numeral-in numbers-after
+    call first-no sound blank sum count every table within size member width-holds weight share whole claim taken
+    claimed budgeted sound-plan priced counted uncounted empty sound-campaign best choice
+day-answers = refl
+
+answers-length : length answers ≡ 123
+unfolding joined
+answers-length = refl
+
+pub day-in-two-blocks : Day-in-two-blocks
+day-in-two-blocks d h =
+    let last = last-reply (after-lines blank day-lines) (bytes "(close)") in
+    let n : length (replies blank day-lines) + length last ≡ 123 =
+    sym (length-append (replies blank day-lines) last) ∙ ap (λ (w : List ℕ). length w) day-answers ∙ answers-length in
+    subst (λ (w : List ℕ). Handed (first-block ∷ second-block ∷ []) d w) day-answers
+    (any-blocks (first-block ∷ second-block ∷ []) day-split d (omega (arith, n, h)))

@@ -1,0 +1,281 @@
+-- Any lines keep the demands. Lines make calls, and their answers are those of the calls, so what holds of any list of
+-- calls (demand 3, Algorithm 4) holds of any list of lines. What was paid is read off the text: the first line of an
+-- answer reads back as the record of that answer, and each line adds to the sum what its call adds to the history.
+use mathlib.Core.Path.{_≡_, refl, sym, ap, _∙_, subst, subst⁻¹}
+use mathlib.Core.Bool.{Bool, true, false, cond, _&&_}
+use mathlib.Core.List.{List, [], _∷_, _++_, append-assoc, append-nil}
+use Prim.Native.Nat.{ℕ, suc, _+_, _<_}
+use native.Mathlib.Omega.{arith}
+use lib.Dec.{eqb}
+use lib.ListN.{getD, take}
+use borrow.Author.Tests.{eqb-true, ne-eqb}
+use Rattle.lines.specs.declared.Record.{Record}
+use Rattle.lines.specs.declared.Record.the-variants.{Plan, Campaign, Start, View, Close, Done, Play, Nobody, Refused}
+use Rattle.lines.specs.declared.Record.the-variants.{Closed, Tally}
+use Rattle.lines.specs.declared.Reading.{Reading}
+use Rattle.lines.specs.declared.Reading.the-variants.{Got, Refusal}
+use Rattle.lines.specs.Form.{text, in-range}
+use Rattle.lines.specs.Reading.{reading}
+use Rattle.lines.proofs.Inverse.{one-text}
+use Rattle.writer.specs.Writing.{line}
+use Rattle.campaigns.specs.declared.Terms.{Terms}
+use Rattle.campaigns.specs.declared.View.{View as Lift}
+use Rattle.campaigns.specs.Choice.{Choice}
+use Rattle.campaigns.specs.Choice.Choice.{nobody, plays}
+use Rattle.day.specs.declared.Answer.{Answer}
+use Rattle.day.specs.declared.Answer.the-variants.{Refused as refusing, Done as done, Played as played}
+use Rattle.day.specs.declared.Answer.the-variants.{Nobody as no-one, Tallied as tallied, Closing as closing}
+use Rattle.day.specs.declared.Day.{Day}
+use Rattle.day.specs.declared.Outcome.{Outcome}
+use Rattle.day.specs.Day.{blank, blank-plan, campaign, taken}
+use Rattle.day.specs.Calls.{Call, player, offers, told as shown-told}
+use Rattle.day.specs.Calls.Call.{open-plan, add-campaign, start-day, show-view, ask-tally, close-day}
+use Rattle.day.proofs.Questions.{call-elim}
+use Rattle.demands.specs.Transcript.{Exchange, transcript, final}
+use Rattle.floor.specs.History.{History, opening, with-call, entered, continued, history}
+use Rattle.floor.specs.History.Starts.{from-blank}
+use Rattle.floor.specs.Floor.{Floor}
+use Rattle.floor.proofs.Floor.{demand-3}
+use Rattle.refinement.specs.Standing.{Buys-alike}
+use Rattle.refinement.specs.Days.{replies as view-answers, Day-alike}
+use Rattle.refinement.proofs.Days.{days-as-algorithm-4}
+use Rattle.reply.specs.Reply.{Request, request, request-of, executed, outcome, tallies, answer-line, is-closing}
+use Rattle.reply.specs.Reply.{reply-text, reply, next}
+use Rattle.reply.specs.Reply.Request.{makes, fails}
+use Rattle.reply.specs.Contracts.{answer-in-range}
+use Rattle.reply.proofs.Replies.{Said, line-said}
+use Rattle.reply.proofs.Ranges.{said-range}
+use Rattle.reply.specs.Session.{upto}
+use Rattle.stream.specs.Chunking.{after-lines, replies}
+use Rattle.programs.specs.Lines.{with-request, calls-of, with-exchange, exchanges, first-line, is-plan, is-ok}
+use Rattle.programs.specs.Lines.{price-in, of-reading, sum-after, sum-over, sum-paid, day-of}
+use Rattle.programs.specs.Lines.{Lines-keep-the-demands, Rest-is-a-line}
+
+-- The first line of an answer.
+
+first-is : (t w : List ℕ) → ((i : ℕ) → getD t i 0 ≡ 10 → ⊥) → first-line (t ++ (10 ∷ w)) ≡ t
+unfolding upto
+first-is [] w p = refl
+first-is (b ∷ t) w p = go (eqb b 10) refl (first-is t w (λ i. p (suc i)))
+  where
+    go : (x : Bool) → eqb b 10 ≡ x → first-line (t ++ (10 ∷ w)) ≡ t
+        → take (cond x 0 (suc (upto (t ++ (10 ∷ w))))) (b ∷ (t ++ (10 ∷ w))) ≡ b ∷ t
+    go true e q = absurd (p 0 (eqb-true b 10 e))
+    go false e q = ap (λ (m : List ℕ). b ∷ m) q
+
+line-reads : (r : Record) (w : List ℕ) → in-range r ≡ true → reading (first-line (line r ++ w)) ≡ Got r
+unfolding line
+line-reads r w h =
+    ap (λ (m : List ℕ). reading (first-line m)) (append-assoc (text r) (10 ∷ []) w)
+    ∙ ap reading (first-is (text r) w (one-text .plain r))
+    ∙ one-text .reads r h
+
+-- the record of an answer; no line asks for one tally
+abbrev record-of : Answer → Record
+record-of (refusing q) = Refused q
+record-of done = Done
+record-of (played i p) = Play i p
+record-of no-one = Nobody
+record-of (tallied p t a n) = Tally 0 p t a n
+record-of (closing t c f) = Closed t c f
+
+answer-line-reads : (a : Answer) → Said a → answer-in-range a ≡ true → (w : List ℕ)
+    → reading (first-line (answer-line a ++ w)) ≡ Got (record-of a)
+answer-line-reads (refusing q) h r w = line-reads (Refused q) w r
+answer-line-reads done h r w = line-reads Done w r
+answer-line-reads (played i p) h r w = line-reads (Play i p) w r
+answer-line-reads no-one h r w = line-reads Nobody w r
+answer-line-reads (tallied p t a n) h r w = absurd h
+answer-line-reads (closing t c f) h r w = line-reads (Closed t c f) w r
+
+said-is : (s : Day) (l : List ℕ) → reading (first-line (reply s l)) ≡ Got (record-of (outcome s l .answer))
+unfolding reply reply-text
+said-is s l =
+    let o = outcome s l in
+    answer-line-reads (o .answer) (line-said s l) (said-range s l)
+    (cond (is-closing (o .answer)) (tallies (campaign (o .day)) (o .day .count)) [])
+
+-- The calls.
+
+final-step : (s : Day) (r : Request) (cs : List Call) → final (executed s r .day) cs ≡ final s (with-request r cs)
+unfolding final
+final-step s (makes c) cs = refl
+final-step s (fails q) cs = refl
+
+state-is : (s : Day) (ls : List (List ℕ)) → after-lines s ls ≡ final s (calls-of ls)
+unfolding after-lines calls-of next outcome final
+state-is s [] = refl
+state-is s (l ∷ ls) = state-is (next s l) ls ∙ final-step s (request-of (reading l)) (calls-of ls)
+
+transcript-step : (s : Day) (r : Request) (cs : List Call)
+    → with-exchange r (executed s r .answer) (transcript (executed s r .day) cs) ≡ transcript s (with-request r cs)
+unfolding transcript
+transcript-step s (makes c) cs = refl
+transcript-step s (fails q) cs = refl
+
+exchanges-are : (s : Day) (ls : List (List ℕ)) → exchanges s ls ≡ transcript s (calls-of ls)
+unfolding exchanges calls-of next outcome transcript
+exchanges-are s [] = refl
+exchanges-are s (l ∷ ls) =
+    let r = request-of (reading l) in
+    ap (with-exchange r (executed s r .answer)) (exchanges-are (next s l) ls) ∙ transcript-step s r (calls-of ls)
+
+-- What was paid.
+
+none-more : (p : ℕ) → p ≡ p + 0
+none-more p = omega arith
+
+refused-entered : (h : History) (c : Call) (q : ℕ) → entered h (record { made = c; answer = refusing (suc q) }) ≡ h
+refused-entered h c q =
+    ap (λ (b : Bool). cond b (with-call h c (refusing (suc q))) h) (ne-eqb (suc q) 0 (λ e. omega arith))
+
+-- the day with a line more
+abbrev stepped : History → Request → Answer → History
+stepped h (makes c) a = entered h (record { made = c; answer = a })
+stepped h (fails q) a = h
+
+continued-step : (h : History) (r : Request) (a : Answer) (xs : List Exchange)
+    → continued h (with-exchange r a xs) ≡ continued (stepped h r a) xs
+unfolding continued
+continued-step h (makes c) a xs = refl
+continued-step h (fails q) a xs = refl
+
+-- the sum with a line more, whose reading is l and whose answer is a
+abbrev summed : ℕ → Reading → Answer → ℕ
+summed p l a = cond (of-reading is-plan false l && is-ok (record-of a)) 0 (p + price-in (record-of a))
+
+module _ (s : Day) (h : History) where
+  abbrev Adds : Record → Call → Outcome → Type 0
+  Adds r c o = entered h (record { made = c; answer = o .answer }) .paid ≡ summed (h .paid) (Got r) (o .answer)
+
+  -- of a refusal
+  refused-adds : (c : Call) (q : ℕ) → entered h (record { made = c; answer = refusing (suc q) }) .paid ≡ h .paid + 0
+  refused-adds c q = ap (λ (x : History). x .paid) (refused-entered h c q) ∙ none-more (h .paid)
+
+  view-adds : (w : Lift) (ch : Choice)
+      → entered h (record { made = show-view w; answer = shown-told (offers s w) ch }) .paid
+      ≡ h .paid + price-in (record-of (shown-told (offers s w) ch))
+  view-adds w nobody = refl
+  view-adds w (plays m) = refl
+
+  record-adds : (r : Record)
+      → stepped h (request r) (executed s (request r) .answer) .paid
+      ≡ summed (h .paid) (Got r) (executed s (request r) .answer)
+  record-adds (Plan k d) =
+      let c = open-plan (record { depth = k; width = d }) in
+      call-elim (Adds (Plan k d) c) s c (λ q. refused-adds c q) (λ y. refl)
+  record-adds (Campaign p b) =
+      let c = add-campaign (record { price = p; budget = b }) in
+      call-elim (Adds (Campaign p b) c) s c (λ q. refused-adds c q) (λ y. none-more (h .paid))
+  record-adds Start =
+      call-elim (Adds Start start-day) s start-day (λ q. refused-adds start-day q) (λ y. none-more (h .paid))
+  record-adds (View v) =
+      call-elim (Adds (View v) (show-view (record { set = v }))) s (show-view (record { set = v }))
+      (λ q. refused-adds (show-view (record { set = v })) q)
+      (λ y. view-adds (record { set = v }) (player s (record { set = v })))
+  record-adds Close =
+      call-elim (Adds Close close-day) s close-day (λ q. refused-adds close-day q) (λ y. none-more (h .paid))
+  record-adds Done = none-more (h .paid)
+  record-adds (Play i p) = none-more (h .paid)
+  record-adds Nobody = none-more (h .paid)
+  record-adds (Refused q) = none-more (h .paid)
+  record-adds (Closed t c f) = none-more (h .paid)
+  record-adds (Tally i p t a n) = none-more (h .paid)
+
+  reading-adds : (l : Reading)
+      → stepped h (request-of l) (executed s (request-of l) .answer) .paid
+      ≡ summed (h .paid) l (executed s (request-of l) .answer)
+  reading-adds (Got r) = record-adds r
+  reading-adds (Refusal q) = none-more (h .paid)
+
+  line-adds : (l : List ℕ)
+      → stepped h (request-of (reading l)) (outcome s l .answer) .paid ≡ sum-after (h .paid) l (reply s l)
+  unfolding outcome
+  line-adds l =
+      reading-adds (reading l)
+      ∙ sym (ap after (said-is s l))
+    where
+      -- the sum where the first line of the answer reads as x
+      after : Reading → ℕ
+      after x =
+          cond (of-reading is-plan false (reading l) && of-reading is-ok false x) 0 (h .paid + of-reading price-in 0 x)
+
+paid-is : (s : Day) (h : History) (ls : List (List ℕ)) → continued h (exchanges s ls) .paid ≡ sum-over (h .paid) s ls
+unfolding continued exchanges sum-over
+paid-is s h [] = refl
+paid-is s h (l ∷ ls) =
+    let r = request-of (reading l) in
+    let a = outcome s l .answer in
+    ap (λ (x : History). x .paid) (continued-step h r a (exchanges (next s l) ls))
+    ∙ paid-is (next s l) (stepped h r a) ls
+    ∙ ap (λ (p : ℕ). sum-over p (next s l) ls) (line-adds s h l)
+
+-- Closing.
+module _ (s : Day) (t c f : ℕ) where
+  abbrev Closes : Outcome → Type 0
+  Closes o = record-of (o .answer) ≡ Closed t c f → t ≡ taken s
+
+  call-closes : (k : Call) → Closes (executed s (makes k))
+  call-closes (open-plan pl) = call-elim Closes s (open-plan pl) (λ q e. cc) (λ y e. cc)
+  call-closes (add-campaign x) = call-elim Closes s (add-campaign x) (λ q e. cc) (λ y e. cc)
+  call-closes start-day = call-elim Closes s start-day (λ q e. cc) (λ y e. cc)
+  call-closes (show-view w) = call-elim Closes s (show-view w) (λ q e. cc) (λ y. go (player s w))
+    where
+      go : (ch : Choice) → record-of (shown-told (offers s w) ch) ≡ Closed t c f → t ≡ taken s
+      go nobody e = cc
+      go (plays m) e = cc
+  call-closes (ask-tally i) = call-elim Closes s (ask-tally i) (λ q e. cc) (λ y e. cc)
+  call-closes close-day = call-elim Closes s close-day (λ q e. cc) (λ y e. cc)
+
+  request-closes : (r : Request) → Closes (executed s r)
+  request-closes (makes k) = call-closes k
+  request-closes (fails q) = λ e. cc
+
+  line-closes : (l : List ℕ) → reading (first-line (reply s l)) ≡ Got (Closed t c f) → t ≡ taken s
+  unfolding outcome
+  line-closes l e =
+      request-closes (request-of (reading l)) (got (record-of (outcome s l .answer)) (sym (said-is s l) ∙ e))
+    where
+      got : (r : Record) → Got r ≡ Got (Closed t c f) → r ≡ Closed t c f
+      got r q = cc
+
+-- All of it.
+floor-is : (ls : List (List ℕ)) → Floor (day-of ls) (after-lines blank ls)
+floor-is ls =
+    subst⁻¹ (λ (x : Day). Floor (day-of ls) x) (state-is blank ls)
+    (subst⁻¹ (λ (xs : List Exchange). Floor (history xs) (final blank (calls-of ls))) (exchanges-are blank ls)
+    (demand-3 blank (calls-of ls) (from-blank (calls-of ls))))
+
+alike-is : (ls : List (List ℕ)) (B : Terms → ℕ) → Buys-alike B → 1 < day-of ls .plan .width
+    → Day-alike B (day-of ls) (view-answers (exchanges blank ls)) (after-lines blank ls)
+alike-is ls B b w =
+    let e = exchanges-are blank ls in
+    subst⁻¹ (λ (x : Day). Day-alike B (day-of ls) (view-answers (exchanges blank ls)) x) (state-is blank ls)
+    (subst⁻¹ (λ (xs : List Exchange). Day-alike B (history xs) (view-answers xs) (final blank (calls-of ls))) e
+    (days-as-algorithm-4 B b blank (calls-of ls) (from-blank (calls-of ls))
+    (subst (λ (xs : List Exchange). 1 < history xs .plan .width) e w)))
+
+pub lines-keep-the-demands : Lines-keep-the-demands
+lines-keep-the-demands ls =
+    let p : day-of ls .paid ≡ sum-paid ls = paid-is blank (opening blank-plan) ls in
+    record {
+      state-is = state-is blank ls;
+      exchanges-are = exchanges-are blank ls;
+      paid-is = p;
+      floor = floor-is ls;
+      closing-is = λ l t c f e. line-closes (after-lines blank ls) t c f l e ∙ floor-is ls .shown ∙ p;
+      alike = alike-is ls;
+    }
+
+-- A last line.
+replies-last : (s : Day) (ls : List (List ℕ)) (l : List ℕ)
+    → replies s ls ++ reply (after-lines s ls) l ≡ replies s (ls ++ (l ∷ []))
+unfolding replies after-lines
+replies-last s [] l = sym (append-nil (reply s l))
+replies-last s (k ∷ ls) l =
+    append-assoc (reply s k) (replies (next s k) ls) (reply (after-lines (next s k) ls) l)
+    ∙ ap (λ (w : List ℕ). reply s k ++ w) (replies-last (next s k) ls l)
+
+pub rest-is-a-line : Rest-is-a-line
+rest-is-a-line s ls [] = append-nil (replies s ls)
+rest-is-a-line s ls (b ∷ l) = replies-last s ls (b ∷ l)
