@@ -100,18 +100,20 @@ fn made(r: Record) -> Made {
 
 /// The product's reader: a record, or the number of the refusal.
 fn read(line: &[u8]) -> Result<Made, u64> {
-    let mut numbers = [0; 5];
-    match unsafe { lines_read(line.as_ptr(), line.len(), numbers.as_mut_ptr()) } {
-        form @ 0..100 => Ok((form, numbers)),
-        refused => Err(refused - 100),
+    let mut words = [0; 6];
+    match unsafe { wezghuli_read_line(line.as_ptr(), line.len(), words.as_mut_ptr()) } {
+        0 => Ok((words[0], [words[1], words[2], words[3], words[4], words[5]])),
+        refused => Err(refused),
     }
 }
 
 /// The product's writer: the length, or the number of the refusal.
 fn write(r: Made, out: &mut [u8]) -> Result<usize, u64> {
-    match unsafe { lines_write(r.0, r.1.as_ptr(), out.as_mut_ptr(), out.len()) } {
-        length @ 0..1000 => Ok(length as usize),
-        refused => Err(refused - 1000),
+    let words = [r.0, r.1[0], r.1[1], r.1[2], r.1[3], r.1[4]];
+    let mut length = [0];
+    match unsafe { wezghuli_write_line(words.as_ptr(), out.as_mut_ptr(), out.len(), length.as_mut_ptr()) } {
+        0 => Ok(length[0] as usize),
+        refused => Err(refused),
     }
 }
 
