@@ -44,8 +44,8 @@ pub record Progress (x : Session) (l d : List ℕ) (t : Position) (h e : List �
   pub wide : length h ≡ 201
   pub fits : t .at ≤ length d
 
--- where a byte is kept, the n bytes of g are the line whose front the k bytes of h are, up to 201 of it; else nothing
--- changes
+-- where a byte is kept, the n bytes of g are the line whose front the k bytes of h are, up to 201 of it; else n and
+-- g are free
 pub record Completed (h : List ℕ) (k : ℕ) (s g : List ℕ) (n : ℕ) : Type 0 where
   pub some : (k ≡ 0 → ⊥) → take n g ≡ line-of h k s
   pub few : n ≤ 201

@@ -1,5 +1,6 @@
 // Opening a plan, adding a campaign, starting the day, asking for a tally and closing, of a sound state; and any call
-// of any state, which is audited first. A loop that has audited its state once goes on with `obey_sound`.
+// of any state, which is audited first. A loop that has asked once whether its state is sound
+// (`prepare`) goes on with the operations of a sound state.
 use crate::Answer;
 use crate::Call;
 use crate::Step;

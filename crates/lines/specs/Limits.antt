@@ -1,4 +1,5 @@
--- The limits of document 01's lines, each by its name. The code's constants are proved to have these values.
+-- The limits of document 01's lines, each by its name. Where the code has a constant of its own, it is
+-- proved to have the value here.
 use Prim.Native.Nat.{ℕ, _+_}
 
 -- the longest line that is read, and a buffer for it with its byte 10
@@ -30,7 +31,7 @@ max-campaign = 63
 abbrev pub set-bits : ℕ
 set-bits = 64
 
--- the highest refusal number that the documents give
+-- the highest refusal number that document 01 gives; a request that brings another raises it
 abbrev pub max-question : ℕ
 max-question = 18
 

@@ -24,8 +24,8 @@ abbrev pub lines-in : {l : List ℕ} → Split l → List (List ℕ)
 lines-in i = with-rest (i .lines) (i .rest)
 
 -- A whole run: reads gave blocks, which are lines and a rest. Unless a write failed or 2^64 − 1 reads were made, the
--- last read gave nothing, and as many bytes were told, each time what was due, as answer the lines from the blank state
--- on. Of the lines demand 3 holds, and at widths above 1 Algorithm 4.
+-- last read gave nothing, and as many bytes were told as answer the lines from the blank state on; which bytes they are
+-- is said call by call (`due`). Of the lines demand 3 holds, and at widths above 1 Algorithm 4.
 pub record Runs (r : Wire) : Type 0 where
   pub blocks : List (List ℕ)
   pub none-empty : r .sent ≡ true → None-empty blocks

@@ -20,7 +20,7 @@ counted n l = (n + length l) % 2 ^ 64
 abbrev pub new-wire : Wire
 new-wire = record { reads = 0; got = 0; told = 0; ended = false; failed = false; sent = true }
 
--- one read, after which the block is l
+-- One read, after which the block is l. Whether it failed is what C answered, and free.
 pub record Reads (w : Wire) (l : List ℕ) (r : Got) : Type 0 where
   pub inside : r .n ≤ length l
   pub reads-is : r .wire .reads ≡ (w .reads + 1) % 2 ^ 64
@@ -34,7 +34,7 @@ abbrev pub due : Stream → List ℕ → (end : Bool) → List ℕ
 due k l false = fed (session-of k) l .output
 due k l true = finished (session-of k) .output
 
--- the bytes l told
+-- The bytes l told. Whether they went is what C answered: it is free, but that a failure before stays one.
 pub record Tells (w : Wire) (l : List ℕ) (r : Wire) : Type 0 where
   pub reads-is : r .reads ≡ w .reads
   pub got-is : r .got ≡ w .got

@@ -61,7 +61,7 @@ impl Wire {
         }
     }
 
-    // Writes what is due from a stream for the bytes that it took, or at the end of input, and nothing else.
+    // Writes what is due from the given stream for the bytes that it took, or at the end of input.
     pub fn tell(self, before: Stream, taken: &[u8], end: bool, bytes: &[u8]) -> Self
         requires { ⌜ now bytes ≡ due before (now taken) end ⌝ }
         ensures { λ r. ⌜ Tells self (now (bytes .entry)) r ⌝ }
