@@ -5,8 +5,8 @@ use campaigns::Phase;
 ghost use mathlib.Core.Path.{_≡_};
 ghost use Prim.Native.Nat.{_≤_};
 ghost use Rattle.campaigns.specs.Campaign.{campaign-at};
-ghost use Rattle.audit.specs.Inner.{priced-columns, ordered-columns, untouched-columns, no-terms-from};
-ghost use Rattle.audit.specs.Inner.{no-counts-in, empty-from, columns-hold};
+ghost use Rattle.audit.specs.Contracts.{priced-columns, ordered-columns, untouched-columns, no-terms-from};
+ghost use Rattle.audit.specs.Contracts.{no-counts-in, empty-from, columns-hold};
 
 // The limits of questions 8 and 9 in the widths of the arrays.
 const MAX_PRICE: u32 = 1_000_000;

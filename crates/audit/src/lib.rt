@@ -11,11 +11,12 @@ use campaigns::Plan;
 use campaigns::Terms;
 use campaigns::weights::weigh;
 ghost use mathlib.Core.Path.{_≡_};
-ghost use Prim.Native.Nat.{_≤_};
+ghost use mathlib.Core.Bool.{true};
 ghost use Rattle.campaigns.specs.Campaign.{campaign-at};
-ghost use Rattle.campaigns.specs.Inner.{Weights};
+ghost use Rattle.campaigns.specs.Contracts.{Weights};
 ghost use Rattle.campaigns.specs.Phase.{phase-holds};
-ghost use Rattle.audit.specs.Inner.{limits, not-sound, Bounded, settled, examined};
+ghost use Rattle.audit.specs.Sound.{not-sound, audit-of};
+ghost use Rattle.audit.specs.Contracts.{limits, Bounded, claim-checked};
 
 // Whether the state is sound and, if so, the sum of its budgets, its takings, total claim and full.
 pub struct Audit {
@@ -42,7 +43,7 @@ impl Audit {
 
 // Questions 3 to 5 of a state's plan, and the limits of its campaigns and its views.
 pub fn limits_hold(head: Head) -> bool
-    ensures { λ r. ⌜ r ≡ limits (head .plan) (head .count) (head .accepted) ⌝ }
+    ensures { λ r. ⌜ r ≡ limits head ⌝ }
 {
     let plan = head.plan;
     plan.depth_fits()
@@ -65,10 +66,10 @@ fn phase_holds(phase: Phase, accepted: u64, takings: u64) -> bool
 
 // The last question of soundness: the total claim, turned × (d^k − (d−1)^k) + waited, is at most full. The product is
 // formed only once it is known to be at most full, so that nothing overflows.
-fn settle(sums: Sums, plan: Plan, weights: &[u64; 33]) -> Audit
+fn check_claim(sums: Sums, plan: Plan, weights: &[u64; 33]) -> Audit
     requires { ⌜ Weights plan (now weights) ⌝ }
     requires { ⌜ Bounded sums ⌝ }
-    ensures { λ r. ⌜ r ≡ settled plan sums ⌝ }
+    ensures { λ r. ⌜ r ≡ claim-checked plan sums ⌝ }
 {
     let high = weigh(plan.depth, plan, weights);
     let share = high - weigh(0, plan, weights);
@@ -90,15 +91,15 @@ fn settle(sums: Sums, plan: Plan, weights: &[u64; 33]) -> Audit
 }
 
 // The audit of a state within its limits, whose arrays are lent, by the weights of its plan.
-pub fn examine<'a>(
+pub fn audit_parts<'a>(
     head: Head,
     weights: &'a [u64; 33],
     terms: &'a [u32; 128],
     counts: &'a [u16; 256],
 ) -> Audit
-    requires { ⌜ Weights (head .plan) (now weights) × (head .count ≤ 64) × (head .accepted ≤ 4096) ⌝ }
-    ensures { λ r. ⌜ r ≡ examined (head .phase) (head .plan) (head .accepted) (head .count)
-        (campaign-at (now (terms .entry)) (now (counts .entry))) ⌝ }
+    requires { ⌜ Weights (head .plan) (now weights) ⌝ }
+    requires { ⌜ limits head ≡ true ⌝ }
+    ensures { λ r. ⌜ r ≡ audit-of head (campaign-at (now (terms .entry)) (now (counts .entry))) ⌝ }
 {
     let plan = head.plan;
     let phase = head.phase;
@@ -112,5 +113,5 @@ pub fn examine<'a>(
         & phase_holds(phase, head.accepted, sums.takings)) {
         return Audit::unsound();
     }
-    settle(sums, plan, weights)
+    check_claim(sums, plan, weights)
 }

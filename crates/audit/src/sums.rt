@@ -6,8 +6,8 @@ use campaigns::weights::weigh;
 ghost use mathlib.Core.Path.{_≡_};
 ghost use Prim.Native.Nat.{_≤_};
 ghost use Rattle.campaigns.specs.Campaign.{campaign-at};
-ghost use Rattle.campaigns.specs.Inner.{Weights};
-ghost use Rattle.audit.specs.Inner.{spent-of, waited-of, Entries-bounded, no-sums, summed};
+ghost use Rattle.campaigns.specs.Contracts.{Weights};
+ghost use Rattle.audit.specs.Contracts.{spent-of, waited-of, Entries-bounded, no-sums, summed};
 
 // Whether each campaign has paid at most its budget and, if so, the sums that soundness compares.
 pub struct Sums {

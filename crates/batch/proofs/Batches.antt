@@ -9,7 +9,7 @@ use lib.ListN.{length, take, drop, length-drop}
 use borrow.Author.Tests.{eqb-true, eqb-false}
 use Rattle.day.specs.declared.Day.{Day}
 use Rattle.day.specs.Day.{state-of}
-use Rattle.day.specs.Parts.{Ready}
+use Rattle.day.specs.Contracts.{Ready}
 use Rattle.reply.specs.declared.line.Turn.{Turn}
 use Rattle.reply.specs.Session.{Session, upto}
 use Rattle.reply.specs.Contracts.{Written}

@@ -7,7 +7,7 @@ ghost use mathlib.Core.Bool.{cond};
 ghost use Prim.Native.Nat.{_+_, _≤_};
 ghost use lib.ListN.{length, take, drop};
 ghost use Rattle.reply.specs.Session.{upto};
-ghost use Rattle.day.specs.Parts.{Ready};
+ghost use Rattle.day.specs.Contracts.{Ready};
 ghost use Rattle.batch.specs.Contracts.{line-of, position, Completed, Batch};
 
 // Between two lines: the turn, how many bytes of a line are pending, and the place in the input.

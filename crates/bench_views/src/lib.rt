@@ -71,7 +71,7 @@ fn shown_in_place(start: Day, views: &[u64]) -> Viewed {
     let mut counts = start.counts;
     let mut sum: u64 = 0;
     for i in 0..views.len() {
-        let step = day::six::view(head, View { set: views[i] }, &mut terms, &mut counts);
+        let step = day::in_place::view(head, View { set: views[i] }, &mut terms, &mut counts);
         let next = step.head;
         head = next;
         let answer = step.answer;

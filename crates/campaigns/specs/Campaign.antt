@@ -5,12 +5,14 @@ use mathlib.Core.List.{List}
 use Prim.Native.Nat.{ℕ, _+_, _-_, _*_, _/_, _^_}
 use lib.Dec.{leb, ltb, eqb}
 use lib.ListN.{getD}
+use Rattle.powers.specs.Limits.{max-depth, max-width, max-power}
 use Rattle.powers.specs.Power.{weight, share}
 use Rattle.campaigns.specs.declared.Campaign.{Campaign}
 use Rattle.campaigns.specs.declared.Phase.{Phase}
 use Rattle.campaigns.specs.declared.Phase.the-variants.{Filling, Running, Closed}
 use Rattle.campaigns.specs.declared.Plan.{Plan}
 use Rattle.campaigns.specs.declared.Terms.{Terms}
+use Rattle.campaigns.specs.Limits.{max-price, max-budget}
 use Rattle.campaigns.specs.Choice.{Role}
 use Rattle.campaigns.specs.Choice.Role.{absent, spent, chosen, passed}
 
@@ -63,20 +65,20 @@ fresh t = record { price = t .price; budget = t .budget; plays = 0; turns = 0; a
 
 -- questions 3, 4 and 5
 abbrev pub depth-fits : Plan → Bool
-depth-fits pl = leb 1 (pl .depth) && leb (pl .depth) 32
+depth-fits pl = leb 1 (pl .depth) && leb (pl .depth) max-depth
 
 abbrev pub width-fits : Plan → Bool
-width-fits pl = leb 1 (pl .width) && leb (pl .width) 16
+width-fits pl = leb 1 (pl .width) && leb (pl .width) max-width
 
 abbrev pub power-fits : Plan → Bool
-power-fits pl = leb (pl .width ^ pl .depth) 4_294_967_296
+power-fits pl = leb (pl .width ^ pl .depth) max-power
 
 -- questions 8 and 9
 abbrev pub price-fits : ℕ → Bool
-price-fits price = leb 1 price && leb price 1_000_000
+price-fits price = leb 1 price && leb price max-price
 
 abbrev pub budget-fits : (price budget : ℕ) → Bool
-budget-fits price budget = leb price budget && leb budget 2_000_000_000
+budget-fits price budget = leb price budget && leb budget max-budget
 
 unfoldable pub sound-plan : Plan → Bool
 sound-plan pl = depth-fits pl && width-fits pl && power-fits pl

@@ -3,7 +3,7 @@ use crate::Campaign;
 ghost use mathlib.Core.Path.{_≡_};
 ghost use Prim.Native.Nat.{_<_};
 ghost use Rattle.campaigns.specs.Campaign.{campaign-at};
-ghost use Rattle.campaigns.specs.Inner.{Narrow, Room};
+ghost use Rattle.campaigns.specs.Contracts.{Narrow, Room};
 
 pub fn wide32(x: u32) -> u64
     ensures { λ r. ⌜ (r ≡ x) × (r < 4294967296) ⌝ }

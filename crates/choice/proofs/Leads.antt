@@ -16,7 +16,7 @@ use Rattle.campaigns.specs.Choice.Choice.{nobody, plays}
 use Rattle.campaigns.specs.Campaign.{can-pay}
 use Rattle.campaigns.specs.View.{names, offer, figure, able, chosen-of}
 use Rattle.campaigns.proofs.Choices.{Fits, best-fits}
-use Rattle.choice.specs.Inner.{led, challenged, leader-of}
+use Rattle.choice.specs.Contracts.{led, challenged, leader-of}
 
 -- an unnamed campaign changes no choice
 choice-unnamed : (pl : Plan) (w : View) (f : ℕ → Campaign) (j : ℕ) → names w j ≡ false → chosen-of (suc j) pl w f ≡ chosen-of j pl w f

@@ -17,9 +17,9 @@ use Rattle.campaigns.specs.Choice.{Role, role-of}
 use Rattle.campaigns.specs.Choice.Role.{absent, spent, chosen, passed}
 use Rattle.campaigns.specs.Campaign.{can-pay, aged, after, campaign-at}
 use Rattle.campaigns.specs.View.{names}
-use Rattle.campaigns.specs.Inner.{played}
+use Rattle.campaigns.specs.Contracts.{played}
 use Rattle.campaigns.proofs.Laws.{played-passed}
-use Rattle.choice.specs.Inner.{put, Counts, no-leader, remade}
+use Rattle.choice.specs.Contracts.{put, Counts, no-leader, remade}
 
 -- a view leaves price and budget
 pub after-price : (k : ℕ) (r : Role) (c : Campaign) → after k r c .price ≡ c .price

@@ -9,8 +9,8 @@ ghost use mathlib.Core.Path.{_≡_};
 ghost use mathlib.Core.Bool.{true};
 ghost use Prim.Native.Nat.{_≤_, _<_};
 ghost use Rattle.campaigns.specs.Campaign.{priced, campaign-at};
-ghost use Rattle.campaigns.specs.Inner.{Narrow, Room, Weights};
-ghost use Rattle.choice.specs.Inner.{no-leader, challenged, leader-of, put, Counts, Ready, remade};
+ghost use Rattle.campaigns.specs.Contracts.{Narrow, Room, Weights};
+ghost use Rattle.choice.specs.Contracts.{no-leader, challenged, leader-of, put, Counts, Ready, remade};
 
 // The campaign that leads a choice, what it would pay, and its score. A score of 0 can lead, so that nobody is told
 // apart by `found`.

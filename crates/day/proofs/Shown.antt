@@ -17,17 +17,17 @@ use Rattle.campaigns.specs.Campaign.{campaign-at}
 use Rattle.campaigns.specs.Choice.{Choice, is, role-of}
 use Rattle.campaigns.specs.Choice.Choice.{nobody, plays}
 use Rattle.campaigns.specs.View.{names, pays, figure, becomes}
-use Rattle.choice.specs.Inner.{led, leader-of, Counts, Ready, remade}
+use Rattle.choice.specs.Contracts.{led, leader-of, Counts, Ready, remade}
 use Rattle.campaigns.proofs.Laws.{plan-sized}
 use Rattle.choice.proofs.Leads.{choice-within}
 use Rattle.day.specs.declared.Answer.{Answer}
 use Rattle.day.specs.declared.Day.{Day}
-use Rattle.day.specs.Day.{campaign, state-of, holding}
+use Rattle.day.specs.Day.{campaign, state-of, state-with}
 use Rattle.campaigns.specs.Phase.{is-running}
-use Rattle.day.specs.Calls.{questions, player, offers, shown, told, call}
+use Rattle.day.specs.Calls.{questions, player, offers, shown, view-answer, call}
 use Rattle.day.specs.Calls.Call.{show-view}
-use Rattle.day.specs.Inner.{answer-of}
-use Rattle.day.proofs.State.{Sound, sound-facts, held-at, holding-is}
+use Rattle.day.specs.Contracts.{answer-of}
+use Rattle.day.proofs.State.{Sound, sound-facts, held-at, state-with-is}
 use Rattle.day.proofs.Questions.{Yes, call-yes}
 
 running-is : (p : Phase) → is-running p ≡ true → p ≡ Running
@@ -49,7 +49,7 @@ made s w nobody i = refl
 made s w (plays m) i = refl
 
 -- the answer
-answered : (s : Day) (w : View) (ch : Choice) → answer-of (leading s w ch) ≡ told (offers s w) ch
+answered : (s : Day) (w : View) (ch : Choice) → answer-of (leading s w ch) ≡ view-answer (offers s w) ch
 answered s w nobody = refl
 answered s w (plays m) = refl
 
@@ -79,5 +79,5 @@ module _ (h : Head) (t n : List ℕ) (w : View) (l : Leader) (y : Yes (questions
       → record { day = state-of (record { phase = h .phase; plan = h .plan; count = h .count; accepted = h .accepted + 1 }) t m; answer = r } ≡ call s (show-view w)
   accepted-shows m r c e =
       let d : Day = state-of (record { phase = h .phase; plan = h .plan; count = h .count; accepted = h .accepted + 1 }) t m in
-      let a : d ≡ holding Running (h .plan) (h .count) (h .accepted + 1) (shown s w) = holding-is d (shown s w) (c .room) (λ i k. c .at i k ∙ becomes-shown i) ∙ ap (λ (p : Phase). holding p (h .plan) (h .count) (h .accepted + 1) (shown s w)) (running-is (h .phase) (y .1 .0)) in
+      let a : d ≡ state-with Running (h .plan) (h .count) (h .accepted + 1) (shown s w) = state-with-is d (shown s w) (c .room) (λ i k. c .at i k ∙ becomes-shown i) ∙ ap (λ (p : Phase). state-with p (h .plan) (h .count) (h .accepted + 1) (shown s w)) (running-is (h .phase) (y .1 .0)) in
       ap₂ (λ (x : Day) (z : Answer). record { day = x; answer = z }) a (e ∙ ap answer-of leads ∙ answered s w (player s w)) ∙ sym (call-yes s (show-view w) y)

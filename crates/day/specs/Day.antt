@@ -1,7 +1,8 @@
 -- The state: how its arrays hold the campaigns, and the states that the operations hand back.
+use mathlib.Core.Bool.{Bool}
 use mathlib.Core.List.{List, _++_}
 use Prim.Native.Nat.{ℕ}
-use Rattle.finite.specs.Finite.{sum, table}
+use Rattle.finite.specs.Finite.{table}
 use Rattle.campaigns.specs.declared.Campaign.{Campaign}
 use Rattle.campaigns.specs.declared.Head.{Head}
 use Rattle.day.specs.declared.Day.{Day}
@@ -10,11 +11,17 @@ use Rattle.campaigns.specs.declared.Phase.the-variants.{Closed}
 use Rattle.campaigns.specs.declared.Plan.{Plan}
 use Rattle.campaigns.specs.declared.Terms.{Terms}
 use Rattle.campaigns.specs.Campaign.{fresh, campaign-at}
-use Rattle.campaigns.specs.View.{takings, claims}
+use Rattle.campaigns.specs.View.{budgets, takings, claims}
+use Rattle.audit.specs.declared.Audit.{Audit}
+use Rattle.audit.specs.Sound.{sound-record, audit-of}
 
 -- campaign i of the record
 abbrev pub campaign : Day → ℕ → Campaign
 campaign s i = campaign-at (s .terms) (s .counts) i
+
+-- a state but for its campaigns
+abbrev pub head-of : Day → Head
+head-of s = record { phase = s .phase; plan = s .plan; count = s .count; accepted = s .accepted }
 
 -- the state of a head and two arrays
 abbrev pub state-of : Head → (terms counts : List ℕ) → Day
@@ -28,8 +35,8 @@ state-of h t n = record {
 }
 
 -- the state that holds n campaigns, f i at entry i
-abbrev pub holding : Phase → Plan → (count accepted : ℕ) → (ℕ → Campaign) → Day
-holding p pl n a f = record {
+abbrev pub state-with : Phase → Plan → (count accepted : ℕ) → (ℕ → Campaign) → Day
+state-with p pl n a f = record {
   phase = p;
   plan = pl;
   count = n;
@@ -55,21 +62,29 @@ abbrev pub no-terms : Terms
 no-terms = record { price = 0; budget = 0 }
 
 -- a plan with no campaigns and zero counts
-abbrev pub planned : Phase → Plan → Day
-planned p pl = holding p pl 0 0 (λ i. fresh no-terms)
+abbrev pub empty-plan : Phase → Plan → Day
+empty-plan p pl = state-with p pl 0 0 (λ i. fresh no-terms)
 
 -- the blank state: Closed, depth 1, width 1, no campaigns, zero accepted views and zero takings
 abbrev pub blank-plan : Plan
 blank-plan = record { depth = 1; width = 1 }
 
 unfoldable pub blank : Day
-blank = planned (Closed 0) blank-plan
+blank = empty-plan (Closed 0) blank-plan
 
-unfoldable pub taken : Day → ℕ
-taken s = takings (s .plan) (s .count) (campaign s)
+unfoldable pub total-takings : Day → ℕ
+total-takings s = takings (s .plan) (s .count) (campaign s)
 
-unfoldable pub claimed : Day → ℕ
-claimed s = claims (s .plan) (s .count) (campaign s)
+unfoldable pub total-claim : Day → ℕ
+total-claim s = claims (s .plan) (s .count) (campaign s)
 
-unfoldable pub budgeted : Day → ℕ
-budgeted s = sum (s .count) (λ i. campaign s i .budget)
+unfoldable pub total-budgets : Day → ℕ
+total-budgets s = budgets (s .count) (campaign s)
+
+-- sound
+unfoldable pub sound : Day → Bool
+sound s = sound-record (head-of s) (campaign s)
+
+-- whether the state is sound and, if so, its sums
+unfoldable pub audited : Day → Audit
+audited s = audit-of (head-of s) (campaign s)

@@ -1,7 +1,7 @@
 // The day's record: its state and the six operations on it, which change the lent arrays of its campaigns where they
 // stand.
+pub mod in_place;
 pub mod ops;
-pub mod six;
 pub mod value;
 pub mod view;
 
@@ -13,7 +13,7 @@ use campaigns::View;
 ghost use mathlib.Core.Path.{_≡_};
 ghost use lib.ListN.{replicate};
 ghost use Rattle.day.specs.Day.{state-of, blank};
-ghost use Rattle.day.specs.Parts.{refusing};
+ghost use Rattle.day.specs.Contracts.{refusing};
 
 // The whole state, for those who hold it by value. The operations take it by its head and its two arrays.
 pub struct Day {

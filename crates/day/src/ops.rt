@@ -18,17 +18,19 @@ ghost use mathlib.Core.Path.{_≡_};
 ghost use Prim.Native.Nat.{_≤_};
 ghost use Rattle.finite.specs.Finite.{sum};
 ghost use Rattle.campaigns.specs.Campaign.{campaign-at};
-ghost use Rattle.campaigns.specs.Inner.{Room, Weights};
+ghost use Rattle.campaigns.specs.Contracts.{Room, Weights};
 ghost use Rattle.day.specs.Day.{state-of};
-ghost use Rattle.day.specs.Calls.{first-no, call};
+ghost use Rattle.day.specs.Calls.{first-failed, call};
 ghost use Rattle.day.specs.Calls.Call.{open-plan, add-campaign, start-day, ask-tally, close-day};
-ghost use Rattle.day.specs.Parts.{audited, outcome-of, Kept, Ready, asked};
-ghost use Rattle.day.specs.Inner.{plan-questions, add-questions};
+ghost use Rattle.day.specs.Day.{audited};
+ghost use Rattle.day.specs.InPlace.{outcome-of, asked};
+ghost use Rattle.day.specs.Contracts.{Kept, Ready};
+ghost use Rattle.day.specs.Calls.{plan-questions, add-questions};
 
 // The number of the first of questions 3 to 5 that a plan fails, or 0. The last is looked up in the table, unless
 // `deepest` already tells yes: a constant table is written to the stack at each use.
 fn plan_question(plan: Plan) -> u64
-    ensures { λ r. ⌜ r ≡ first-no (plan-questions plan) ⌝ }
+    ensures { λ r. ⌜ r ≡ first-failed (plan-questions plan) ⌝ }
 {
     if !plan.depth_fits() {
         return 3;
@@ -54,7 +56,7 @@ pub fn audited<'a>(head: Head, terms: &'a [u32; 128], counts: &'a [u16; 256]) ->
     }
     let plan = head.plan;
     let list = weights(plan);
-    audit::examine(head, &list, terms, counts)
+    audit::audit_parts(head, &list, terms, counts)
 }
 
 // A new plan with no campaigns, in Filling.
@@ -90,7 +92,7 @@ pub fn open_sound<'a>(
 }
 
 // The sum of the budgets.
-fn budgeted<'a>(n: usize, terms: &'a [u32; 128], counts: &'a [u16; 256]) -> u64
+fn total_budgets<'a>(n: usize, terms: &'a [u32; 128], counts: &'a [u16; 256]) -> u64
     requires { ⌜ n ≤ 64 ⌝ }
     ensures { λ r. ⌜ (r ≡ sum n (λ i. campaign-at (now (terms .entry)) (now (counts .entry)) i .budget))
         × (r ≤ 274877906944) ⌝ }
@@ -105,7 +107,7 @@ fn budgeted<'a>(n: usize, terms: &'a [u32; 128], counts: &'a [u16; 256]) -> u64
 // The number of the first of questions 6 to 10 that an adding fails, or 0.
 fn add_question(head: Head, t: Terms, budgets: u64) -> u64
     requires { ⌜ budgets ≤ 274877906944 ⌝ }
-    ensures { λ r. ⌜ r ≡ first-no (add-questions head t budgets) ⌝ }
+    ensures { λ r. ⌜ r ≡ first-failed (add-questions head t budgets) ⌝ }
 {
     let phase = head.phase;
     if !phase.filling() {
@@ -138,7 +140,7 @@ pub fn add_sound<'a>(
         ≡ call (state-of head (now (terms .entry)) (now (counts .entry))) (add-campaign t) ⌝ }
 {
     let at = head.count as usize;
-    let budgets = budgeted(at, terms, counts);
+    let budgets = total_budgets(at, terms, counts);
     let question = add_question(head, t, budgets);
     if question != 0 {
         return Step::refused(head, question);
@@ -231,7 +233,7 @@ pub fn close_sound<'a>(
         count: head.count,
         accepted: head.accepted,
     };
-    let audit = audit::examine(copy, list, terms, counts);
+    let audit = audit::audit_parts(copy, list, terms, counts);
     Step {
         head: Head {
             phase: Phase::Closed(audit.takings),
@@ -248,7 +250,7 @@ pub fn close_sound<'a>(
 }
 
 // A call of a sound state.
-pub fn obey_sound<'a>(
+pub fn execute_sound<'a>(
     head: Head,
     ask: Call,
     weights: &'a [u64; 33],
@@ -286,12 +288,12 @@ pub fn prepare<'a>(
     let plan = head.plan;
     let all = weights(plan);
     *list = all;
-    let audit = audit::examine(head, list, terms, counts);
+    let audit = audit::audit_parts(head, list, terms, counts);
     audit.sound
 }
 
 // A call of any state.
-pub fn obey<'a>(
+pub fn execute<'a>(
     head: Head,
     ask: Call,
     terms: &'a mut [u32; 128],
@@ -307,5 +309,5 @@ pub fn obey<'a>(
     if !prepare(head, &mut list, terms, counts) {
         return Step::refused(head, 1);
     }
-    obey_sound(head, ask, &list, terms, counts)
+    execute_sound(head, ask, &list, terms, counts)
 }

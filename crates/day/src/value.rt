@@ -4,7 +4,7 @@ use crate::Call;
 use crate::Day;
 use crate::Outcome;
 use crate::ops::audited;
-use crate::ops::obey;
+use crate::ops::execute;
 use audit::Audit;
 use campaigns::Head;
 use campaigns::Phase;
@@ -15,7 +15,8 @@ ghost use mathlib.Core.Path.{_≡_};
 ghost use Rattle.day.specs.Day.{blank};
 ghost use Rattle.day.specs.Calls.{day-limits, call};
 ghost use Rattle.day.specs.Calls.Call.{open-plan, add-campaign, start-day, show-view, ask-tally, close-day};
-ghost use Rattle.day.specs.Parts.{audited, asked, head-of};
+ghost use Rattle.day.specs.Day.{audited, head-of};
+ghost use Rattle.day.specs.InPlace.{asked};
 
 impl Day {
     // The limits, for callers; they are those of `Plan` and `Terms`.
@@ -81,13 +82,13 @@ impl Day {
     }
 
     // Any call.
-    pub fn obey(self, ask: Call) -> Outcome
+    pub fn execute(self, ask: Call) -> Outcome
         ensures { λ r. ⌜ r ≡ call self (asked ask) ⌝ }
     {
         let head = self.head();
         let mut terms = self.terms;
         let mut counts = self.counts;
-        let step = obey(head, ask, &mut terms, &mut counts);
+        let step = execute(head, ask, &mut terms, &mut counts);
         let next = step.head;
         let phase = next.phase;
         let plan = next.plan;
@@ -109,41 +110,41 @@ impl Day {
     pub fn open(self, plan: Plan) -> Outcome
         ensures { λ r. ⌜ r ≡ call self (open-plan plan) ⌝ }
     {
-        self.obey(Call::Open(plan))
+        self.execute(Call::Open(plan))
     }
 
     // One campaign more, with zero counts.
     pub fn add(self, terms: Terms) -> Outcome
         ensures { λ r. ⌜ r ≡ call self (add-campaign terms) ⌝ }
     {
-        self.obey(Call::Add(terms))
+        self.execute(Call::Add(terms))
     }
 
     // The day starts: no campaign is added from now on.
     pub fn start(self) -> Outcome
         ensures { λ r. ⌜ r ≡ call self start-day ⌝ }
     {
-        self.obey(Call::Start)
+        self.execute(Call::Start)
     }
 
     // The play of a view, or nobody.
     pub fn view(self, view: View) -> Outcome
         ensures { λ r. ⌜ r ≡ call self (show-view view) ⌝ }
     {
-        self.obey(Call::Show(view))
+        self.execute(Call::Show(view))
     }
 
     // The four counts of a campaign; the state stays.
     pub fn tally(self, campaign: u64) -> Outcome
         ensures { λ r. ⌜ r ≡ call self (ask-tally campaign) ⌝ }
     {
-        self.obey(Call::Tally(campaign))
+        self.execute(Call::Tally(campaign))
     }
 
     // The day closes with its takings, total claim and full.
     pub fn close(self) -> Outcome
         ensures { λ r. ⌜ r ≡ call self close-day ⌝ }
     {
-        self.obey(Call::Close)
+        self.execute(Call::Close)
     }
 }

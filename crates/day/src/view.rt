@@ -7,16 +7,18 @@ use campaigns::View;
 use choice::Leader;
 use choice::play;
 ghost use mathlib.Core.Path.{_≡_};
-ghost use Rattle.campaigns.specs.Inner.{Weights};
+ghost use Rattle.campaigns.specs.Contracts.{Weights};
 ghost use Rattle.day.specs.Day.{state-of};
-ghost use Rattle.day.specs.Calls.{first-no, call};
+ghost use Rattle.day.specs.Calls.{first-failed, call};
 ghost use Rattle.day.specs.Calls.Call.{show-view};
-ghost use Rattle.day.specs.Parts.{outcome-of, Kept};
-ghost use Rattle.day.specs.Inner.{view-questions, answer-of};
+ghost use Rattle.day.specs.InPlace.{outcome-of};
+ghost use Rattle.day.specs.Contracts.{Kept};
+ghost use Rattle.day.specs.Calls.{view-questions};
+ghost use Rattle.day.specs.Contracts.{answer-of};
 
 // The number of the first of questions 11 to 14 that a view fails, or 0.
 fn view_question(head: Head, view: View) -> u64
-    ensures { λ r. ⌜ r ≡ first-no (view-questions head view) ⌝ }
+    ensures { λ r. ⌜ r ≡ first-failed (view-questions head view) ⌝ }
 {
     let phase = head.phase;
     if !phase.running() {
@@ -37,7 +39,7 @@ fn view_question(head: Head, view: View) -> u64
 }
 
 // Who plays, and what is paid.
-fn told(leader: Leader) -> Answer
+fn view_answer(leader: Leader) -> Answer
     ensures { λ r. ⌜ r ≡ answer-of leader ⌝ }
 {
     if leader.found {
@@ -69,7 +71,7 @@ pub fn show_sound<'a>(
     let phase = head.phase;
     let plan = head.plan;
     let leader = play(view, plan, weights, terms, counts);
-    let answer = told(leader);
+    let answer = view_answer(leader);
     Step {
         head: Head {
             phase: phase,

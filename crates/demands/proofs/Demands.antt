@@ -5,13 +5,13 @@ use Rattle.campaigns.specs.Choice.{Choice}
 use Rattle.campaigns.specs.Choice.Choice.{nobody, plays}
 use Rattle.day.specs.declared.Day.{Day}
 use Rattle.day.specs.declared.Outcome.{Outcome}
-use Rattle.day.specs.Calls.{values, Call, told, offers, player, result}
+use Rattle.day.specs.Calls.{values, Call, view-answer, offers, player, result}
 use Rattle.day.specs.Calls.Call.{open-plan, add-campaign, start-day, show-view, ask-tally, close-day}
 use Rattle.demands.specs.Demands.{shown-values, given, Answers}
 use Rattle.demands.proofs.Refusals.{call-number, refused-unchanged, accepted-result}
 use Rattle.demands.proofs.Sound.{sound-kept}
 
-told-values : (x : ℕ → ℕ) (ch : Choice) → values (told x ch) ≡ shown-values x ch
+told-values : (x : ℕ → ℕ) (ch : Choice) → values (view-answer x ch) ≡ shown-values x ch
 told-values x nobody = refl
 told-values x (plays m) = refl
 

@@ -5,10 +5,10 @@ use Rattle.campaigns.specs.Choice.{Choice}
 use Rattle.campaigns.specs.Choice.Choice.{nobody, plays}
 use Rattle.day.specs.declared.Day.{Day}
 use Rattle.day.specs.declared.Answer.the-variants.{Refused}
-use Rattle.day.specs.Calls.{number, first-no, Call, questions, offers, player, told, result, answered, call}
+use Rattle.day.specs.Calls.{number, first-failed, Call, questions, offers, player, view-answer, result, answered, call}
 use Rattle.day.specs.Calls.Call.{open-plan, add-campaign, start-day, show-view, ask-tally, close-day}
 
-told-number : (x : ℕ → ℕ) (ch : Choice) → number (told x ch) ≡ 0
+told-number : (x : ℕ → ℕ) (ch : Choice) → number (view-answer x ch) ≡ 0
 told-number x nobody = refl
 told-number x (plays m) = refl
 
@@ -21,18 +21,18 @@ result-number s (ask-tally i) = refl
 result-number s close-day = refl
 
 -- a call is refused with the number of the first question that fails, and accepted where none does
-pub call-number : (s : Day) (c : Call) → number (call s c .answer) ≡ first-no (questions s c)
+pub call-number : (s : Day) (c : Call) → number (call s c .answer) ≡ first-failed (questions s c)
 unfolding call
-call-number s c = go (first-no (questions s c))
+call-number s c = go (first-failed (questions s c))
   where
     go : (n : ℕ) → number (answered n s (result s c) .answer) ≡ n
     go zero = result-number s c
     go (suc n) = refl
 
 -- a refused call hands its state back unchanged, and answers nothing but the number
-pub refused-unchanged : (s : Day) (c : Call) → (number (call s c .answer) ≡ 0 → ⊥) → (call s c .day ≡ s) × (call s c .answer ≡ Refused (first-no (questions s c)))
+pub refused-unchanged : (s : Day) (c : Call) → (number (call s c .answer) ≡ 0 → ⊥) → (call s c .day ≡ s) × (call s c .answer ≡ Refused (first-failed (questions s c)))
 unfolding call
-refused-unchanged s c = go (first-no (questions s c))
+refused-unchanged s c = go (first-failed (questions s c))
   where
     go : (n : ℕ) → (number (answered n s (result s c) .answer) ≡ 0 → ⊥) → (answered n s (result s c) .day ≡ s) × (answered n s (result s c) .answer ≡ Refused n)
     go zero r = absurd (r (result-number s c))

@@ -18,19 +18,21 @@ use Rattle.campaigns.specs.declared.Phase.the-variants.{Filling, Running, Close
 use Rattle.campaigns.specs.declared.Plan.{Plan}
 use Rattle.campaigns.specs.declared.Terms.{Terms}
 use Rattle.campaigns.specs.declared.View.{View}
+use Rattle.campaigns.specs.Limits.{max-campaigns, max-budget, max-views}
 use Rattle.campaigns.specs.Choice.{is, role-of}
 use Rattle.campaigns.specs.Campaign.{spending, aged, after, fresh, depth-fits, width-fits, power-fits, sound-plan, uncounted, empty, untouched, sound-campaign}
 use Rattle.campaigns.specs.View.{names, pays, becomes, able, takings, claims, full}
 use Rattle.campaigns.proofs.Laws.{Sized, plan-sized}
 use Rattle.day.specs.declared.Day.{Day}
 use Rattle.day.specs.declared.Outcome.{Outcome}
-use Rattle.day.specs.Day.{campaign, holding, in-phase, no-terms, planned, blank-plan, blank, taken, claimed, budgeted}
-use Rattle.day.specs.Sound.{sound-entry, sound-tests, sound}
+use Rattle.day.specs.Day.{campaign, state-with, in-phase, no-terms, empty-plan, blank-plan, blank, total-takings, total-claim, total-budgets}
+use Rattle.audit.specs.Sound.{sound-entry, sound-tests, sound-record}
+use Rattle.day.specs.Day.{head-of, sound}
 use Rattle.campaigns.specs.Phase.{phase-holds}
-use Rattle.day.specs.Calls.{number, Call, width-holds, questions, result, joined, player, shown, call}
+use Rattle.day.specs.Calls.{number, Call, width-holds, questions, result, with-campaign, player, shown, call}
 use Rattle.day.specs.Calls.Call.{open-plan, add-campaign, start-day, show-view, ask-tally, close-day}
 use Rattle.day.proofs.Questions.{Yes, call-elim}
-use Rattle.day.proofs.State.{filling-is, Sound, sound-facts, sound-at, held-at, empty-at, campaign-holding}
+use Rattle.day.proofs.State.{filling-is, Sound, sound-facts, sound-at, held-at, empty-at, campaign-of-state}
 use Rattle.demands.proofs.Laws.{claim-of, claim-fresh}
 use Rattle.demands.proofs.Step.{able-few, takings-step, claims-step}
 use Rattle.demands.proofs.Holding.{sum-holding, joined-old, joined-new, sum-joined, takings-joined}
@@ -39,39 +41,39 @@ use Rattle.demands.proofs.SoundCampaign.{campaign-sound, becomes-sound,
 -- all that makes the state that holds n campaigns, f i at entry i, a sound one
 pub record Whole (p : Phase) (pl : Plan) (n a : ℕ) (f : ℕ → Campaign) : Type 0 where
   pub plan-sound : sound-plan pl ≡ true
-  pub few : n ≤ 64
-  pub views : a ≤ 4_096
+  pub few : n ≤ max-campaigns
+  pub views : a ≤ max-views
   pub entry : (i : ℕ) → i < n → sound-campaign p pl a (f i) ≡ true
   pub past : (i : ℕ) → n ≤ i → i < 64 → empty (f i) ≡ true
-  pub budgets : sum n (λ i. f i .budget) ≤ 2_000_000_000
+  pub budgets : sum n (λ i. f i .budget) ≤ max-budget
   pub phased : phase-holds p a (takings pl n f) ≡ true
   pub covered : claims pl n f ≤ full pl (takings pl n f)
 
 whole-sound : (s : Day) → Whole (s .phase) (s .plan) (s .count) (s .accepted) (campaign s) → sound s ≡ true
-unfolding sound taken claimed budgeted
-whole-sound s h = all-of (sound-tests s) (h .plan-sound, (le-leb _ _ (h .few), (le-leb _ _ (h .views), (every-of 64 (sound-entry s) (λ i l. go i l (ltb i (s .count)) refl), (le-leb _ _ (h .budgets), (h .phased, (le-leb _ _ (h .covered), tt)))))))
+unfolding sound sound-record
+whole-sound s h = all-of (sound-tests (head-of s) (campaign s)) (h .plan-sound, (le-leb _ _ (h .few), (le-leb _ _ (h .views), (every-of 64 (sound-entry (head-of s) (campaign s)) (λ i l. go i l (ltb i (s .count)) refl), (le-leb _ _ (h .budgets), (h .phased, (le-leb _ _ (h .covered), tt)))))))
   where
-    go : (i : ℕ) → i < 64 → (b : Bool) → ltb i (s .count) ≡ b → sound-entry s i ≡ true
+    go : (i : ℕ) → i < 64 → (b : Bool) → ltb i (s .count) ≡ b → sound-entry (head-of s) (campaign s) i ≡ true
     go i l true e = rw e (h .entry i (ltb-true i (s .count) e))
     go i l false e = rw e (h .past i (ltb-false i (s .count) e) l)
 
-sound-holding : (p : Phase) (pl : Plan) (n a : ℕ) (f : ℕ → Campaign) → Whole p pl n a f → sound (holding p pl n a f) ≡ true
+sound-holding : (p : Phase) (pl : Plan) (n a : ℕ) (f : ℕ → Campaign) → Whole p pl n a f → sound (state-with p pl n a f) ≡ true
 sound-holding p pl n a f h =
-    let ta : takings pl n (campaign (holding p pl n a f)) ≡ takings pl n f = sum-holding p pl n a f spending (h .few) in
-    let cl : claims pl n (campaign (holding p pl n a f)) ≡ claims pl n f = sum-holding p pl n a f (claim-of pl) (h .few) in
-    whole-sound (holding p pl n a f) (record {
+    let ta : takings pl n (campaign (state-with p pl n a f)) ≡ takings pl n f = sum-holding p pl n a f spending (h .few) in
+    let cl : claims pl n (campaign (state-with p pl n a f)) ≡ claims pl n f = sum-holding p pl n a f (claim-of pl) (h .few) in
+    whole-sound (state-with p pl n a f) (record {
       plan-sound = h .plan-sound;
       few = h .few;
       views = h .views;
-      entry = λ i l. rw (campaign-holding p pl n a f i (lt-of-lt-of-le l (h .few))) (h .entry i l);
-      past = λ i l m. rw (campaign-holding p pl n a f i m) (h .past i l m);
+      entry = λ i l. rw (campaign-of-state p pl n a f i (lt-of-lt-of-le l (h .few))) (h .entry i l);
+      past = λ i l m. rw (campaign-of-state p pl n a f i m) (h .past i l m);
       budgets = rw (sum-holding p pl n a f (λ c. c .budget) (h .few)) (h .budgets);
       phased = rw ta (h .phased);
       covered = rw (ta, cl) (h .covered);
     })
 
 -- a plan with no campaigns
-sound-planned : (p : Phase) (pl : Plan) → sound-plan pl ≡ true → phase-holds p 0 0 ≡ true → sound (planned p pl) ≡ true
+sound-planned : (p : Phase) (pl : Plan) → sound-plan pl ≡ true → phase-holds p 0 0 ≡ true → sound (empty-plan p pl) ≡ true
 unfolding empty uncounted
 sound-planned p pl e h = sound-holding p pl 0 0 (λ i. fresh no-terms) (record {
   plan-sound = e;
@@ -106,12 +108,12 @@ module _ (s : Day) (h : Sound s) where
   sized = plan-sized (s .plan) (h .plan-sound)
 
   covered-claims : claims (s .plan) (s .count) (campaign s) ≤ full (s .plan) (takings (s .plan) (s .count) (campaign s))
-  unfolding taken claimed
+  unfolding total-takings total-claim
   covered-claims = h .covered
 
   -- another phase than Filling
-  sound-phase : (p : Phase) → ((c : Campaign) → untouched p c ≡ true) → phase-holds p (s .accepted) (taken s) ≡ true → sound (in-phase s p) ≡ true
-  unfolding taken budgeted
+  sound-phase : (p : Phase) → ((c : Campaign) → untouched p c ≡ true) → phase-holds p (s .accepted) (total-takings s) ≡ true → sound (in-phase s p) ≡ true
+  unfolding total-takings total-budgets
   sound-phase p u e = whole-sound (in-phase s p) (record {
     plan-sound = h .plan-sound;
     few = h .few;
@@ -124,39 +126,39 @@ module _ (s : Day) (h : Sound s) where
   })
 
   module _ (t : Terms) where
-    sound-joined : Yes (questions s (add-campaign t)) → sound (holding Filling (s .plan) (s .count + 1) (s .accepted) (joined s t)) ≡ true
-    unfolding budgeted taken
+    sound-joined : Yes (questions s (add-campaign t)) → sound (state-with Filling (s .plan) (s .count + 1) (s .accepted) (with-campaign s t)) ≡ true
+    unfolding total-budgets total-takings
     sound-joined (e1, (e6, (e7, (e8, (e9, (e10, _)))))) =
         let f : s .phase ≡ Filling = filling-is (s .phase) e6 in
         let room : s .count < 64 = ltb-true (s .count) 64 e7 in
         let next : s .count + 1 ≡ suc (s .count) = omega arith in
-        sound-holding Filling (s .plan) (s .count + 1) (s .accepted) (joined s t) (record {
+        sound-holding Filling (s .plan) (s .count + 1) (s .accepted) (with-campaign s t) (record {
           plan-sound = h .plan-sound;
           few = omega arith;
           views = h .views;
-          entry = λ i l. one-more (λ j. sound-campaign Filling (s .plan) (s .accepted) (joined s t j) ≡ true) (s .count)
+          entry = λ i l. one-more (λ j. sound-campaign Filling (s .plan) (s .accepted) (with-campaign s t j) ≡ true) (s .count)
               (λ j m. rw (joined-old s t j (λ e. omega arith), ← f) (sound-at s h j m))
               (rw (joined-new s t) (fresh-sound Filling (s .plan) (s .accepted) t (sized .deep) e8 e9))
               i (omega arith);
           past = λ i l m. rw (joined-old s t i (λ e. omega arith)) (empty-at s h i (omega arith) m);
-          budgets = omega (arith, sum-joined s t (λ c. c .budget), leb-true (sum (s .count) (λ i. campaign s i .budget) + t .budget) 2_000_000_000 e10);
+          budgets = omega (arith, sum-joined s t (λ c. c .budget), leb-true (sum (s .count) (λ i. campaign s i .budget) + t .budget) max-budget e10);
           phased = subst (λ (p : Phase). phase-holds p (s .accepted) (takings (s .plan) (s .count) (campaign s)) ≡ true) f (h .phased);
           covered = omega (arith, covered-claims, sum-joined s t (claim-of (s .plan)), claim-fresh (s .plan) sized t, ap (full (s .plan)) (takings-joined s t));
         })
 
   module _ (w : View) where
-    few-able : width-holds s w ≡ true → count (s .count) (able (s .plan) w (campaign s)) ≤ s .plan .width
+    few-able : width-holds (head-of s) w ≡ true → count (s .count) (able (s .plan) w (campaign s)) ≤ s .plan .width
     unfolding width-holds size
     few-able e =
         le-trans (able-few (s .count) (s .plan) w (campaign s))
         (le-trans (count-below (s .count) 64 (names w) (h .few)) (leb-true (size (w .set)) (s .plan .width) (both-right (leb 1 (size (w .set))) (leb (size (w .set)) (s .plan .width)) e)))
 
-    sound-shown : Yes (questions s (show-view w)) → sound (holding Running (s .plan) (s .count) (s .accepted + 1) (shown s w)) ≡ true
-    unfolding budgeted
+    sound-shown : Yes (questions s (show-view w)) → sound (state-with Running (s .plan) (s .count) (s .accepted + 1) (shown s w)) ≡ true
+    unfolding total-budgets
     sound-shown (e1, (e11, (e12, (e13, (e14, _))))) = sound-holding Running (s .plan) (s .count) (s .accepted + 1) (shown s w) (record {
       plan-sound = h .plan-sound;
       few = h .few;
-      views = omega (arith, ltb-true (s .accepted) 4_096 e12);
+      views = omega (arith, ltb-true (s .accepted) max-views e12);
       entry = λ i l. becomes-sound (s .plan) (s .accepted) (campaign s i) (held-at s h i l) w i (is (player s w) i);
       past = λ i l m. rw (absent-becomes (s .plan) w i (names w i) (pays (s .plan) w i (campaign s i)) (is (player s w) i) (campaign s i) (within-not-member (s .count) (w .set) i e13 l m)) (empty-at s h i l m);
       budgets = rw (sum-eq (s .count) (λ i. shown s w i .budget) (λ i. campaign s i .budget) (λ i l. budget-after (s .plan .depth) (names w i) (pays (s .plan) w i (campaign s i)) (is (player s w) i) (campaign s i))) (h .budgets);
@@ -165,7 +167,7 @@ module _ (s : Day) (h : Sound s) where
     })
 
 -- an opening that is accepted gives a sound state
-opened-sound : (s : Day) (pl : Plan) → Yes (questions s (open-plan pl)) → sound (planned Filling pl) ≡ true
+opened-sound : (s : Day) (pl : Plan) → Yes (questions s (open-plan pl)) → sound (empty-plan Filling pl) ≡ true
 unfolding sound-plan
 opened-sound s pl (e1, (e2, (e3, (e4, (e5, _))))) = sound-planned Filling pl (joint-of (depth-fits pl) (width-fits pl ∷ power-fits pl ∷ []) (e3, (e4, (e5, tt)))) refl
 
@@ -182,7 +184,7 @@ sound-kept s c e = call-elim (λ (o : Outcome). sound (o .day) ≡ true) s c (λ
     go start-day y = sound-phase s h Running (λ x. refl) refl
     go (show-view w) y = sound-shown s h w y
     go (ask-tally i) y = e
-    go close-day y = sound-phase s h (Closed (taken s)) (λ x. refl) (eq-eqb (taken s) (taken s) refl)
+    go close-day y = sound-phase s h (Closed (total-takings s)) (λ x. refl) (eq-eqb (total-takings s) (total-takings s) refl)
 
 -- an accepted opening gives a sound state whatever it was given
 pub opening-sound : (s : Day) (pl : Plan) → number (call s (open-plan pl) .answer) ≡ 0 → sound (call s (open-plan pl) .day) ≡ true

@@ -11,7 +11,7 @@ use Rattle.campaigns.specs.Campaign.{score, fresh}
 use Rattle.day.specs.declared.Answer.{Answer}
 use Rattle.day.specs.declared.Answer.the-variants.{Refused, Done, Played, Nobody, Tallied, Closing}
 use Rattle.day.specs.declared.Day.{Day}
-use Rattle.day.specs.Day.{campaign, holding, no-terms, blank}
+use Rattle.day.specs.Day.{campaign, state-with, no-terms, blank}
 use Rattle.day.specs.Calls.{Call}
 use Rattle.day.specs.Calls.Call.{open-plan, add-campaign, start-day, show-view, ask-tally, close-day}
 use Rattle.demands.specs.Transcript.{Exchange, transcript, final}
@@ -42,7 +42,7 @@ scores s = table (s .count) (λ i. score (s .plan .depth) (s .plan .width) (camp
 
 -- a state of depth 1 and width 1 with n campaigns of price 1 and one play, which nothing named
 abbrev pub state : Phase → (count accepted : ℕ) → Day
-state p n a = holding p (record { depth = 1; width = 1 }) n a
+state p n a = state-with p (record { depth = 1; width = 1 }) n a
     (λ i. fresh (cond (ltb i n) (record { price = 1; budget = 1 }) no-terms))
 
 abbrev pub Holds : Case → Type 0

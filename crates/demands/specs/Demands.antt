@@ -10,9 +10,9 @@ use Rattle.campaigns.specs.Choice.{Choice}
 use Rattle.campaigns.specs.Choice.Choice.{nobody, plays}
 use Rattle.campaigns.specs.View.{able, figure, full}
 use Rattle.day.specs.declared.Day.{Day}
-use Rattle.day.specs.Day.{campaign, taken, claimed}
-use Rattle.day.specs.Sound.{sound}
-use Rattle.day.specs.Calls.{number, values, first-no, Call, questions, player, offers, call}
+use Rattle.day.specs.Day.{campaign, total-takings, total-claim}
+use Rattle.day.specs.Day.{sound}
+use Rattle.day.specs.Calls.{number, values, first-failed, Call, questions, player, offers, call}
 use Rattle.day.specs.Calls.Call.{open-plan, add-campaign, start-day, show-view, ask-tally, close-day}
 use Rattle.demands.specs.Choice.{Right}
 
@@ -28,14 +28,14 @@ given s (add-campaign t) = []
 given s start-day = []
 given s (show-view w) = shown-values (offers s w) (player s w)
 given s (ask-tally i) = campaign s i .plays ∷ campaign s i .turns ∷ campaign s i .age ∷ campaign s i .named ∷ []
-given s close-day = taken s ∷ claimed s ∷ full (s .plan) (taken s) ∷ []
+given s close-day = total-takings s ∷ total-claim s ∷ full (s .plan) (total-takings s) ∷ []
 
 pub record Answers (s : Day) (c : Call) : Type 0 where
   -- the number of the first question that fails, or 0
-  pub number-is : number (call s c .answer) ≡ first-no (questions s c)
+  pub number-is : number (call s c .answer) ≡ first-failed (questions s c)
   -- a refusal answers its number alone and leaves the state
   pub refusal : (number (call s c .answer) ≡ 0 → ⊥) → (call s c .day ≡ s)
-      × (values (call s c .answer) ≡ first-no (questions s c) ∷ [])
+      × (values (call s c .answer) ≡ first-failed (questions s c) ∷ [])
   pub values-are : number (call s c .answer) ≡ 0 → values (call s c .answer) ≡ given s c
   pub keeps-sound : sound s ≡ true → sound (call s c .day) ≡ true
 

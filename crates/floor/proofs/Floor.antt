@@ -18,9 +18,9 @@ use Rattle.campaigns.specs.declared.Terms.{Terms}
 use Rattle.campaigns.specs.Campaign.{whole}
 use Rattle.campaigns.proofs.Laws.{Sized, plan-sized}
 use Rattle.day.specs.declared.Day.{Day}
-use Rattle.day.specs.Day.{campaign, no-terms, taken, claimed}
+use Rattle.day.specs.Day.{campaign, no-terms, total-takings, total-claim}
 use Rattle.campaigns.specs.View.{full}
-use Rattle.day.specs.Sound.{sound}
+use Rattle.day.specs.Day.{sound}
 use Rattle.campaigns.specs.Phase.{phase-holds}
 use Rattle.day.specs.Calls.{Call}
 use Rattle.day.proofs.State.{Sound, sound-facts, held-at}
@@ -96,13 +96,13 @@ module _ (s : Day) (h : History) (r : Reached s h) where
       (claim-turns (s .plan) sized (campaign s i) (held-at s p i l .young)))
 
   -- the total claim lies between the share of what is due and full
-  claims-due : share (s .plan .depth) (s .plan .width) * sum (s .count) (λ i. price-of h i * due h i) ≤ claimed s
-  unfolding claimed
+  claims-due : share (s .plan .depth) (s .plan .width) * sum (s .count) (λ i. price-of h i * due h i) ≤ total-claim s
+  unfolding total-claim
   claims-due =
       omega (arith, sum-mul (s .count) (share (s .plan .depth) (s .plan .width)) (λ i. price-of h i * due h i), sum-le (s .count) (λ i. share (s .plan .depth) (s .plan .width) * (price-of h i * due h i)) (λ i. claim-of (s .plan) (campaign s i)) claim-due)
 
-  claims-full : claimed s ≤ full (s .plan) (h .paid)
-  claims-full = subst (λ (x : ℕ). claimed s ≤ full (s .plan) x) (r .agrees .paid-is) (p .covered)
+  claims-full : total-claim s ≤ full (s .plan) (h .paid)
+  claims-full = subst (λ (x : ℕ). total-claim s ≤ full (s .plan) x) (r .agrees .paid-is) (p .covered)
 
   covers : (to : ℕ → ℕ) → Allotted h to → Covered h (takings-of (unstruck h) (h .views) to)
   covers to al =
@@ -115,15 +115,15 @@ module _ (s : Day) (h : History) (r : Reached s h) where
     floor = λ none to al. subst (λ (x : ℕ). Covered h x) (sum-eq (length (h .views)) (λ j. unstruck h (to j)) (λ j. price-of h (to j)) (λ j l. none-struck h none (to j))) (covers to al);
     struck = covers;
     shown = r .agrees .paid-is;
-    held = λ x e. eqb-true x (taken s) (subst (λ (q : Phase). phase-holds q (s .accepted) (taken s) ≡ true) e (p .phased)) ∙ r .agrees .paid-is;
+    held = λ x e. eqb-true x (total-takings s) (subst (λ (q : Phase). phase-holds q (s .accepted) (total-takings s) ≡ true) e (p .phased)) ∙ r .agrees .paid-is;
   }
 
   pub dues-of : Dues h s
   dues-of = record {
     named-is = λ i l. r .agrees .follows i (omega (arith, r .agrees .many)) .named-is;
     turns-enough = λ i l. turns-of i (omega (arith, r .agrees .many));
-    claims-enough = subst (λ (pl : Plan). share (pl .depth) (pl .width) * sum (length (h .terms)) (λ i. price-of h i * due h i) ≤ claimed s) (r .agrees .plan-is) (rw (r .agrees .many) claims-due);
-    claims-most = subst (λ (pl : Plan). claimed s ≤ full pl (h .paid)) (r .agrees .plan-is) claims-full;
+    claims-enough = subst (λ (pl : Plan). share (pl .depth) (pl .width) * sum (length (h .terms)) (λ i. price-of h i * due h i) ≤ total-claim s) (r .agrees .plan-is) (rw (r .agrees .many) claims-due);
+    claims-most = subst (λ (pl : Plan). total-claim s ≤ full pl (h .paid)) (r .agrees .plan-is) claims-full;
   }
 
 pub demand-3 : Demand-3

@@ -25,13 +25,13 @@ use Rattle.day.specs.declared.Answer.{Answer}
 use Rattle.day.specs.declared.Answer.the-variants.{Refused, Done}
 use Rattle.day.specs.declared.Day.{Day}
 use Rattle.day.specs.declared.Outcome.{Outcome}
-use Rattle.day.specs.Day.{campaign, no-terms, planned, blank-plan, blank, taken}
+use Rattle.day.specs.Day.{campaign, no-terms, empty-plan, blank-plan, blank, total-takings}
 use Rattle.campaigns.specs.Phase.{is-filling}
-use Rattle.day.specs.Sound.{sound}
-use Rattle.day.specs.Calls.{number, Call, questions, joined, player, offers, shown, told, result, call}
+use Rattle.day.specs.Day.{sound}
+use Rattle.day.specs.Calls.{number, Call, questions, with-campaign, player, offers, shown, view-answer, result, call}
 use Rattle.day.specs.Calls.Call.{open-plan, add-campaign, start-day, show-view, ask-tally, close-day}
 use Rattle.day.proofs.Questions.{Yes, call-elim}
-use Rattle.day.proofs.State.{Sound, sound-facts, held-at, campaign-holding}
+use Rattle.day.proofs.State.{Sound, sound-facts, held-at, campaign-of-state}
 use Rattle.demands.specs.Transcript.{transcript, final}
 use Rattle.demands.proofs.Step.{takings-step}
 use Rattle.demands.proofs.Holding.{sum-holding, joined-old, joined-new, takings-joined}
@@ -47,11 +47,11 @@ pub record Agrees (s : Day) (h : History) : Type 0 where
   pub plan-is : s .plan ≡ h .plan
   pub many : length (h .terms) ≡ s .count
   pub follows : (i : ℕ) → i < s .count → Follows (s .plan) (trace h i) (campaign s i)
-  pub paid-is : taken s ≡ h .paid
+  pub paid-is : total-takings s ≡ h .paid
   pub unviewed : is-filling (s .phase) ≡ true → h .views ≡ []
 
-agrees-opening : (p : Phase) (pl : Plan) → Agrees (planned p pl) (opening pl)
-unfolding taken
+agrees-opening : (p : Phase) (pl : Plan) → Agrees (empty-plan p pl) (opening pl)
+unfolding total-takings
 agrees-opening p pl = record { plan-is = refl; many = refl; follows = λ i l. absurd (not-suc-le-zero l); paid-is = sum-zero _; unviewed = λ _. refl }
 
 agrees-blank : Agrees blank (opening blank-plan)
@@ -69,7 +69,7 @@ Keeps h c o = Agrees (o .day) (entered h (record { made = c; answer = o .answer 
 refused-not : (q : ℕ) → accepted (Refused (suc q)) ≡ false
 refused-not q = ne-eqb (suc q) 0 (λ z. omega arith)
 
-told-paid : (x : ℕ → ℕ) (ch : Choice) → paid-in (told x ch) ≡ paid x ch
+told-paid : (x : ℕ → ℕ) (ch : Choice) → paid-in (view-answer x ch) ≡ paid x ch
 told-paid x nobody = refl
 told-paid x (plays m) = refl
 
@@ -82,42 +82,42 @@ module _ (s : Day) (h : History) (e : sound s ≡ true) (k : Agrees s h) where
     more = with-call h (add-campaign t) Done
 
     agrees-add : Agrees (result s (add-campaign t) .day) more
-    unfolding more taken total
+    unfolding more total-takings total
     agrees-add =
         let room : s .count < 64 = ltb-true (s .count) 64 (y .1 .1 .0) in
         let few : s .count + 1 ≤ 64 = omega arith in
         record {
           plan-is = k .plan-is;
           many = length-append (h .terms) (t ∷ []) ∙ ap (λ (n : ℕ). n + 1) (k .many);
-          follows = λ i l. rw (campaign-holding Filling (s .plan) (s .count + 1) (s .accepted) (joined s t) i (lt-of-lt-of-le l few)) (one-more (λ j. Follows (s .plan) (trace more j) (joined s t j)) (s .count) old new i (omega arith));
-          paid-is = sum-holding Filling (s .plan) (s .count + 1) (s .accepted) (joined s t) spending few ∙ takings-joined s t ∙ k .paid-is;
+          follows = λ i l. rw (campaign-of-state Filling (s .plan) (s .count + 1) (s .accepted) (with-campaign s t) i (lt-of-lt-of-le l few)) (one-more (λ j. Follows (s .plan) (trace more j) (with-campaign s t j)) (s .count) old new i (omega arith));
+          paid-is = sum-holding Filling (s .plan) (s .count + 1) (s .accepted) (with-campaign s t) spending few ∙ takings-joined s t ∙ k .paid-is;
           unviewed = λ _. k .unviewed (y .1 .0);
         }
       where
-        old : (j : ℕ) → j < s .count → Follows (s .plan) (trace more j) (joined s t j)
+        old : (j : ℕ) → j < s .count → Follows (s .plan) (trace more j) (with-campaign s t j)
         old j l = rw (List·getD-append (h .terms) (t ∷ []) no-terms j (omega (arith, k .many)), joined-old s t j (λ q. omega arith)) (k .follows j l)
 
-        new : Follows (s .plan) (trace more (s .count)) (joined s t (s .count))
+        new : Follows (s .plan) (trace more (s .count)) (with-campaign s t (s .count))
         new = rw (snoc-last (h .terms) t (s .count) (k .many), joined-new s t, k .unviewed (y .1 .0)) (follows-fresh (s .plan) t)
 
   module _ (w : View) where
     agrees-view : (a : Answer) → paid-in a ≡ paid (offers s w) (player s w) → Agrees (result s (show-view w) .day) (with-call h (show-view w) a)
-    unfolding taken
+    unfolding total-takings
     agrees-view a q = record {
       plan-is = k .plan-is;
       many = k .many;
-      follows = λ i l. rw (campaign-holding Running (s .plan) (s .count) (s .accepted + 1) (shown s w) i (lt-of-lt-of-le l (p .few)), total-snoc (λ (v : View). one-if (names v i)) (h .views) w)
+      follows = λ i l. rw (campaign-of-state Running (s .plan) (s .count) (s .accepted + 1) (shown s w) i (lt-of-lt-of-le l (p .few)), total-snoc (λ (v : View). one-if (names v i)) (h .views) w)
           (follows-view (s .plan) (trace h i) (campaign s i) (k .follows i l) (held-at s p i l .young) w i (is (player s w) i));
       paid-is = omega (arith, sum-holding Running (s .plan) (s .count) (s .accepted + 1) (shown s w) spending (p .few), takings-step (s .count) (s .plan) w (campaign s), k .paid-is);
       unviewed = λ z. absurd (never false refl z);
     }
 
   keeps-result : (c : Call) → Yes (questions s c) → Agrees (result s c .day) (with-call h c (result s c .answer))
-  unfolding more taken
+  unfolding more total-takings
   keeps-result (open-plan pl) y = agrees-opening Filling pl
   keeps-result (add-campaign t) y = agrees-add t y
   keeps-result start-day y = record { plan-is = k .plan-is; many = k .many; follows = k .follows; paid-is = k .paid-is; unviewed = λ z. absurd (never false refl z) }
-  keeps-result (show-view w) y = agrees-view w (told (offers s w) (player s w)) (told-paid (offers s w) (player s w))
+  keeps-result (show-view w) y = agrees-view w (view-answer (offers s w) (player s w)) (told-paid (offers s w) (player s w))
   keeps-result (ask-tally i) y = k
   keeps-result close-day y = record { plan-is = k .plan-is; many = k .many; follows = k .follows; paid-is = k .paid-is; unviewed = λ z. absurd (never false refl z) }
 

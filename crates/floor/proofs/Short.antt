@@ -10,9 +10,10 @@ use Rattle.sets.specs.Set.{member, size, within}
 use Rattle.powers.specs.Power.{weight, share}
 use Rattle.campaigns.specs.Choice.{best, choice}
 use Rattle.campaigns.specs.Campaign.{whole, claim, sound-plan, priced, counted, uncounted, empty, sound-campaign}
-use Rattle.day.specs.Day.{blank, taken, claimed, budgeted}
-use Rattle.day.specs.Sound.{sound}
-use Rattle.day.specs.Calls.{first-no, width-holds, call}
+use Rattle.audit.specs.Sound.{sound-record}
+use Rattle.day.specs.Day.{blank, total-takings, total-claim, total-budgets}
+use Rattle.day.specs.Day.{sound}
+use Rattle.day.specs.Calls.{first-failed, width-holds, call}
 use Rattle.demands.specs.Transcript.{transcript}
 use Rattle.floor.specs.History.{History, continued}
 use Rattle.floor.specs.History.Starts.{from-blank}
@@ -26,7 +27,7 @@ day : History
 day = record { plan = record { depth = 2; width = 2 }; terms = record { price = 2; budget = 3 } ∷ record { price = 2; budget = 3 } ∷ []; views = record { set = 3 } ∷ record { set = 1 } ∷ []; paid = 2 }
 
 day-is : short-day ≡ day
-unfolding day transcript continued call first-no sound blank sum count every table total within size member width-holds weight share whole claim taken claimed budgeted sound-plan priced counted uncounted empty sound-campaign best choice
+unfolding day transcript continued call first-failed sound sound-record blank sum count every table total within size member width-holds weight share whole claim total-takings total-claim total-budgets sound-plan priced counted uncounted empty sound-campaign best choice
 day-is = refl
 
 record Computed (h : History) : Type 0 where

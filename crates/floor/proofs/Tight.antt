@@ -14,9 +14,10 @@ use Rattle.powers.specs.Power.{weight, share}
 use Rattle.campaigns.specs.Choice.{best, choice}
 use Rattle.campaigns.specs.Campaign.{whole, claim, sound-plan, priced, counted, uncounted, empty, sound-campaign}
 use Rattle.campaigns.specs.View.{names, full}
-use Rattle.day.specs.Day.{blank, taken, claimed, budgeted}
-use Rattle.day.specs.Sound.{sound}
-use Rattle.day.specs.Calls.{first-no, width-holds, call}
+use Rattle.audit.specs.Sound.{sound-record}
+use Rattle.day.specs.Day.{blank, total-takings, total-claim, total-budgets}
+use Rattle.day.specs.Day.{sound}
+use Rattle.day.specs.Calls.{first-failed, width-holds, call}
 use Rattle.demands.specs.Transcript.{transcript}
 use Rattle.floor.specs.History.{History, continued, history}
 use Rattle.floor.specs.History.Starts.{from-blank}
@@ -75,5 +76,5 @@ tight-of [] c = tt
 tight-of (x ∷ xs) c = ((from-blank (calls-of x), subst⁻¹ (λ (h : History). Met h (λ j. getD (x .to) j 64)) (c .0 .0) (met-of (day-of x) (λ j. getD (x .to) j 64) (c .0 .1))), tight-of xs (c .1))
 
 pub tight : Tight exact-days
-unfolding day-of transcript continued call first-no sound blank sum count every table total within size member width-holds weight share whole claim taken claimed budgeted sound-plan priced counted uncounted empty sound-campaign best choice
+unfolding day-of transcript continued call first-failed sound sound-record blank sum count every table total within size member width-holds weight share whole claim total-takings total-claim total-budgets sound-plan priced counted uncounted empty sound-campaign best choice
 tight = tight-of exact-days ((refl, refl), ((refl, refl), ((refl, refl), ((refl, refl), ((refl, refl), tt)))))

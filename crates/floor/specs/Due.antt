@@ -6,7 +6,7 @@ use lib.ListN.{length}
 use Rattle.finite.specs.Finite.{sum}
 use Rattle.powers.specs.Power.{share}
 use Rattle.day.specs.declared.Day.{Day}
-use Rattle.day.specs.Day.{campaign, claimed}
+use Rattle.day.specs.Day.{campaign, total-claim}
 use Rattle.campaigns.specs.View.{full}
 use Rattle.day.specs.Calls.{Call}
 use Rattle.demands.specs.Transcript.{transcript, final}
@@ -24,8 +24,8 @@ pub record Dues (h : History) (s : Day) : Type 0 where
   pub turns-enough : (i : ℕ) → i < length (h .terms) → due h i ≤ campaign s i .turns
   -- the total claim lies between (d^k − (d−1)^k) × the prices of what is due and full
   pub claims-enough : share (h .plan .depth) (h .plan .width) * sum (length (h .terms)) (λ i. price-of h i * due h i) ≤
-      claimed s
-  pub claims-most : claimed s ≤ full (h .plan) (h .paid)
+      total-claim s
+  pub claims-most : total-claim s ≤ full (h .plan) (h .paid)
 
 abbrev pub At-every-moment : Type 0
 At-every-moment = (s : Day) (cs : List Call) → Starts s cs → Dues (history (transcript s cs)) (final s cs)

@@ -12,7 +12,7 @@ use Rattle.campaigns.specs.declared.Terms.{Terms}
 use Rattle.campaigns.specs.Campaign.{whole, fresh}
 use Rattle.campaigns.specs.View.{names, full}
 use Rattle.day.specs.declared.Day.{Day}
-use Rattle.day.specs.Day.{no-terms, taken}
+use Rattle.day.specs.Day.{no-terms, total-takings}
 use Rattle.day.specs.Calls.{Call}
 use Rattle.demands.specs.Transcript.{transcript, final}
 use Rattle.floor.specs.History.{History, Starts, history}
@@ -58,7 +58,7 @@ pub record Floor (h : History) (s : Day) : Type 0 where
   -- in any case they are without the part of the campaigns that fall short
   pub struck : (to : ℕ → ℕ) → Allotted h to → Covered h (takings-of (unstruck h) (h .views) to)
   -- the takings of the state, and those that its phase holds if it is Closed, are the day's takings
-  pub shown : taken s ≡ h .paid
+  pub shown : total-takings s ≡ h .paid
   pub held : (x : ℕ) → s .phase ≡ Closed x → x ≡ h .paid
 
 abbrev pub Demand-3 : Type 0

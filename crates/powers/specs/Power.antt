@@ -5,10 +5,11 @@ use mathlib.Core.Path.{_≡_}
 use Prim.Native.Nat.{ℕ, _+_, _-_, _*_, _^_, _≤_}
 use lib.Dec.{leb}
 use Rattle.finite.specs.Finite.{table}
+use Rattle.powers.specs.Limits.{max-depth, max-width, max-power}
 
 -- an entry: the power, or 0 where the power is above 4,294,967,296
 unfoldable pub entry : ℕ → ℕ → ℕ
-entry base exponent = cond (leb (base ^ exponent) 4_294_967_296) (base ^ exponent) 0
+entry base exponent = cond (leb (base ^ exponent) max-power) (base ^ exponent) 0
 
 -- one column for each exponent from 0 to 32
 unfoldable pub row-of : ℕ → List ℕ
@@ -20,11 +21,11 @@ grid = table 16 (λ i. row-of (i + 1))
 
 -- the entry for a width and an exponent, or 0 where the table has none
 unfoldable pub listed : ℕ → ℕ → ℕ
-listed width exponent = cond (leb 1 width && leb width 16 && leb exponent 32) (entry width exponent) 0
+listed width exponent = cond (leb 1 width && leb width max-width && leb exponent max-depth) (entry width exponent) 0
 
 -- an exponent up to 32 is at most r exactly if its power is at most 4,294,967,296
 abbrev pub Deepest : (width r : ℕ) → Type 0
-Deepest w r = (k : ℕ) → k ≤ 32 → leb k r ≡ leb (w ^ k) 4_294_967_296
+Deepest w r = (k : ℕ) → k ≤ max-depth → leb k r ≡ leb (w ^ k) max-power
 
 -- W(a) = d^a × (d − 1)^(k − a); (d − 1)^0 is 1 also for d = 1
 unfoldable pub weight : (k d : ℕ) → ℕ → ℕ

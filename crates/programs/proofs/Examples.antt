@@ -19,9 +19,9 @@ use Rattle.lines.specs.Form.{bytes, template, in-slot, in-range, text, filled, 
 use Rattle.lines.specs.Reading.{reading, first-of, forms, held-or, ended-or, made, numbers-of, rest-of, step, strip}
 use Rattle.lines.specs.Reading.{slot-at, names-at, numeral-at, digits, is-digit}
 use Rattle.writer.specs.Writing.{line}
-use Rattle.day.specs.Day.{blank, taken, claimed, budgeted}
-use Rattle.day.specs.Sound.{sound}
-use Rattle.day.specs.Calls.{first-no, width-holds, call}
+use Rattle.audit.specs.Sound.{sound-record}
+use Rattle.day.specs.Day.{blank, total-takings, total-claim, total-budgets, sound}
+use Rattle.day.specs.Calls.{first-failed, width-holds, call}
 use Rattle.reply.specs.Reply.{reply, reply-text, next, outcome, tallies}
 use Rattle.reply.specs.Session.{Session, after-byte, fed, consumed-count, upto}
 use Rattle.reply.proofs.Sessions.{fed-append}
@@ -192,8 +192,8 @@ day-answers : replies blank day-lines ++ last-reply (after-lines blank day-lines
 unfolding replies after-lines joined reply reply-text next outcome tallies
     reading first-of forms held-or ended-or made numbers-of rest-of step strip slot-at names-at numeral-at digits is-digit
     template in-slot in-range line text filled slot-text names-text piece numbers numeral numeral-in numbers-after
-    call first-no sound blank sum count every table within size member width-holds weight share whole claim taken
-    claimed budgeted sound-plan priced counted uncounted empty sound-campaign best choice
+    call first-failed sound sound-record blank sum count every table within size member width-holds weight share whole claim
+    total-takings total-claim total-budgets sound-plan priced counted uncounted empty sound-campaign best choice
 day-answers = refl
 
 answers-length : length answers ≡ 123

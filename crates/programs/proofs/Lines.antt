@@ -27,8 +27,8 @@ use Rattle.day.specs.declared.Answer.the-variants.{Refused as refusing, Done as
 use Rattle.day.specs.declared.Answer.the-variants.{Nobody as no-one, Tallied as tallied, Closing as closing}
 use Rattle.day.specs.declared.Day.{Day}
 use Rattle.day.specs.declared.Outcome.{Outcome}
-use Rattle.day.specs.Day.{blank, blank-plan, campaign, taken}
-use Rattle.day.specs.Calls.{Call, player, offers, told as shown-told}
+use Rattle.day.specs.Day.{blank, blank-plan, campaign, total-takings}
+use Rattle.day.specs.Calls.{Call, player, offers, view-answer as shown-told}
 use Rattle.day.specs.Calls.Call.{open-plan, add-campaign, start-day, show-view, ask-tally, close-day}
 use Rattle.day.proofs.Questions.{call-elim}
 use Rattle.demands.specs.Transcript.{Exchange, transcript, final}
@@ -213,7 +213,7 @@ paid-is s h (l ∷ ls) =
 -- Closing.
 module _ (s : Day) (t c f : ℕ) where
   abbrev Closes : Outcome → Type 0
-  Closes o = record-of (o .answer) ≡ Closed t c f → t ≡ taken s
+  Closes o = record-of (o .answer) ≡ Closed t c f → t ≡ total-takings s
 
   call-closes : (k : Call) → Closes (executed s (makes k))
   call-closes (open-plan pl) = call-elim Closes s (open-plan pl) (λ q e. cc) (λ y e. cc)
@@ -221,7 +221,7 @@ module _ (s : Day) (t c f : ℕ) where
   call-closes start-day = call-elim Closes s start-day (λ q e. cc) (λ y e. cc)
   call-closes (show-view w) = call-elim Closes s (show-view w) (λ q e. cc) (λ y. go (player s w))
     where
-      go : (ch : Choice) → record-of (shown-told (offers s w) ch) ≡ Closed t c f → t ≡ taken s
+      go : (ch : Choice) → record-of (shown-told (offers s w) ch) ≡ Closed t c f → t ≡ total-takings s
       go nobody e = cc
       go (plays m) e = cc
   call-closes (ask-tally i) = call-elim Closes s (ask-tally i) (λ q e. cc) (λ y e. cc)
@@ -231,7 +231,7 @@ module _ (s : Day) (t c f : ℕ) where
   request-closes (makes k) = call-closes k
   request-closes (fails q) = λ e. cc
 
-  line-closes : (l : List ℕ) → reading (first-line (reply s l)) ≡ Got (Closed t c f) → t ≡ taken s
+  line-closes : (l : List ℕ) → reading (first-line (reply s l)) ≡ Got (Closed t c f) → t ≡ total-takings s
   unfolding outcome
   line-closes l e =
       request-closes (request-of (reading l)) (got (record-of (outcome s l .answer)) (sym (said-is s l) ∙ e))

@@ -21,13 +21,13 @@ use Rattle.campaigns.specs.Choice.{Choice}
 use Rattle.campaigns.specs.Choice.Choice.{nobody, plays}
 use Rattle.campaigns.specs.Campaign.{fresh}
 use Rattle.campaigns.specs.View.{names, chosen-of}
-use Rattle.day.specs.Day.{campaign, in-phase, planned, no-terms, blank-plan, blank, taken}
+use Rattle.day.specs.Day.{campaign, in-phase, empty-plan, no-terms, blank-plan, blank, total-takings}
 use Rattle.campaigns.specs.Phase.{is-filling}
-use Rattle.day.specs.Sound.{sound-tests, sound}
-use Rattle.day.specs.Calls.{number, Call, questions, joined, player, offers, shown, told, result, call}
+use Rattle.day.specs.Day.{sound}
+use Rattle.day.specs.Calls.{number, Call, questions, with-campaign, player, offers, shown, view-answer, result, call}
 use Rattle.day.specs.Calls.Call.{open-plan, add-campaign, start-day, show-view, ask-tally, close-day}
 use Rattle.day.proofs.Questions.{Yes, call-elim}
-use Rattle.day.proofs.State.{campaign-holding}
+use Rattle.day.proofs.State.{sound-facts, campaign-of-state}
 use Rattle.demands.specs.Transcript.{transcript, final}
 use Rattle.demands.proofs.Holding.{joined-old, joined-new}
 use Rattle.demands.proofs.Refusals.{result-number}
@@ -56,7 +56,7 @@ matches-snoc I (M ∷ Ns) N j v =
     (matches-snoc I Ns N (suc j) (lines-3-to-11 I j M v) ∙ ap (λ m. matches-from I (suc j) Ns (lines-3-to-11 I j M v) ++ (line-4 I m N (line-2 I (suc j) Ns (lines-3-to-11 I j M v)) ∷ [])) (omega arith))
 
 -- the answer to a match, with the prices that the matched one's candidates have on both sides
-told-eq : (n : ℕ) (able : ℕ → Bool) (x y : ℕ → ℕ) → ((i : ℕ) → i < n → x i ≡ y i) → (m : Choice) → Fits n able m → told x m ≡ told y m
+told-eq : (n : ℕ) (able : ℕ → Bool) (x y : ℕ → ℕ) → ((i : ℕ) → i < n → x i ≡ y i) → (m : Choice) → Fits n able m → view-answer x m ≡ view-answer y m
 told-eq n able x y e nobody f = refl
 told-eq n able x y e (plays m) f = rw (e m (f .0))
 
@@ -67,16 +67,12 @@ snoc-all P ts t old new i l =
     one-more (λ j. P j (getD (ts ++ (t ∷ [])) j no-terms)) (length ts) (λ j m. subst (P j) (sym (List·getD-append ts (t ∷ []) no-terms j m)) (old j m))
     (subst (P (length ts)) (sym (getD-append-seam ts t [] no-terms)) new) i (omega (arith, length-append ts (t ∷ [])))
 
-few-campaigns : (s : Day) → sound s ≡ true → s .count ≤ 64
-unfolding sound
-few-campaigns s e = leb-true (s .count) 64 (all-parts (sound-tests s) e .1 .0)
-
 module _ (B : Terms → ℕ) (buys : Buys-alike B) where
   abbrev pub Beside : History → Day → Type 0
   Beside h s = (i : ℕ) → i < length (h .terms) → Follows (instance-of B h) (length (h .views)) (algorithm-4 (instance-of B h) (slots (h .views))) i (campaign s i)
 
   abbrev pub Answered : History → List Answer → Type 0
-  Answered h rs = rs ≡ map (told (λ i. terms-of h i .price)) (matches (instance-of B h) (slots (h .views)))
+  Answered h rs = rs ≡ map (view-answer (λ i. terms-of h i .price)) (matches (instance-of B h) (slots (h .views)))
 
   -- the state s holds the day h, whose views were answered rs
   pub record Kept (s : Day) (h : History) (rs : List Answer) : Type 0 where
@@ -90,7 +86,7 @@ module _ (B : Terms → ℕ) (buys : Buys-alike B) where
     pub beside : 1 < h .plan .width → Beside h s
     pub answered : 1 < h .plan .width → Answered h rs
 
-  kept-opening : (p : Phase) (pl : Plan) → 1 ≤ pl .depth → Kept (planned p pl) (opening pl) []
+  kept-opening : (p : Phase) (pl : Plan) → 1 ≤ pl .depth → Kept (empty-plan p pl) (opening pl) []
   unfolding matches-from
   kept-opening p pl deep = record {
     plan-is = refl;
@@ -130,8 +126,8 @@ module _ (B : Terms → ℕ) (buys : Buys-alike B) where
       more-fresh =
           let room : s .count < 64 = ltb-true (s .count) 64 (y .1 .1 .0) in
           snoc-all (λ i u. campaign (result s (add-campaign t) .day) i ≡ fresh u) (h .terms) t
-          (λ i l. campaign-holding Filling (s .plan) (s .count + 1) (s .accepted) (joined s t) i (omega (arith, k .many)) ∙ joined-old s t i (λ e. omega (arith, k .many)) ∙ k .unplayed (y .1 .0) i l)
-          (campaign-holding Filling (s .plan) (s .count + 1) (s .accepted) (joined s t) (length (h .terms)) (omega (arith, k .many)) ∙ ap (joined s t) (k .many) ∙ joined-new s t)
+          (λ i l. campaign-of-state Filling (s .plan) (s .count + 1) (s .accepted) (with-campaign s t) i (omega (arith, k .many)) ∙ joined-old s t i (λ e. omega (arith, k .many)) ∙ k .unplayed (y .1 .0) i l)
+          (campaign-of-state Filling (s .plan) (s .count + 1) (s .accepted) (with-campaign s t) (length (h .terms)) (omega (arith, k .many)) ∙ ap (with-campaign s t) (k .many) ∙ joined-new s t)
 
       kept-add : Kept (result s (add-campaign t) .day) more rs
       unfolding more matches-from
@@ -173,10 +169,10 @@ module _ (B : Terms → ℕ) (buys : Buys-alike B) where
         unfolding I so-far ok
         view-follows i l = rw (k .plan-is, ← k .many) (same-step I ok (length (h .views)) w so-far (campaign s) (k .beside wide) i l)
 
-        view-told : told (offers s w) (player s w) ≡ told (λ i. terms-of h i .price) (line-4 I (length (h .views)) (names w) so-far)
+        view-told : view-answer (offers s w) (player s w) ≡ view-answer (λ i. terms-of h i .price) (line-4 I (length (h .views)) (names w) so-far)
         unfolding I so-far line-4
         view-told =
-            ap (told (offers s w)) (sym played)
+            ap (view-answer (offers s w)) (sym played)
             ∙ told-eq (length (h .terms)) (feasible-neighbor I so-far (length (h .views)) (names w)) (offers s w) (λ i. terms-of h i .price) (λ i l. k .beside wide i l .accounts .bid) (line-4 I (length (h .views)) (names w) so-far) (best-fits _ _ _)
 
       kept-view : Kept (result s (show-view w) .day) (with-call h (show-view w) (result s (show-view w) .answer)) (with-answer rs (show-view w) (result s (show-view w) .answer))
@@ -196,7 +192,7 @@ module _ (B : Terms → ℕ) (buys : Buys-alike B) where
               slots-snoc,
               line-2-snoc I (slots (h .views)) (names w) 0 line-1,
               slots-many,
-              campaign-holding Running (s .plan) (s .count) (s .accepted + 1) (shown s w) i (omega (arith, few-campaigns s (y .0), k .many)),
+              campaign-of-state Running (s .plan) (s .count) (s .accepted + 1) (shown s w) i (omega (arith, sound-facts s (y .0) .few, k .many)),
             )
             (view-follows wide i l);
         answered = λ wide.
@@ -224,7 +220,7 @@ module _ (B : Terms → ℕ) (buys : Buys-alike B) where
     kept-result start-day y = kept-phase Running refl
     kept-result (show-view w) y = kept-view w y
     kept-result (ask-tally i) y = k
-    kept-result close-day y = kept-phase (Closed (taken s)) refl
+    kept-result close-day y = kept-phase (Closed (total-takings s)) refl
 
     kept-call : (c : Call) → Kept (call s c .day) (entered h (record { made = c; answer = call s c .answer })) (replied rs (record { made = c; answer = call s c .answer }))
     kept-call c =

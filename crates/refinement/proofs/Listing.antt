@@ -14,9 +14,10 @@ use Rattle.campaigns.specs.declared.View.{View}
 use Rattle.campaigns.specs.Choice.{best, choice}
 use Rattle.campaigns.specs.Choice.Choice.{nobody, plays}
 use Rattle.campaigns.specs.Campaign.{whole, claim, sound-plan, sound-campaign, priced, counted, uncounted, empty}
-use Rattle.day.specs.Day.{no-terms, blank, taken, claimed, budgeted}
-use Rattle.day.specs.Sound.{sound}
-use Rattle.day.specs.Calls.{Call, first-no, width-holds, call}
+use Rattle.audit.specs.Sound.{sound-record}
+use Rattle.day.specs.Day.{no-terms, blank, total-takings, total-claim, total-budgets}
+use Rattle.day.specs.Day.{sound}
+use Rattle.day.specs.Calls.{Call, first-failed, width-holds, call}
 use Rattle.day.specs.Calls.Call.{open-plan, add-campaign, start-day, show-view, close-day}
 use Rattle.demands.specs.Transcript.{transcript, final}
 use Rattle.floor.specs.History.{continued, history}
@@ -56,12 +57,12 @@ abbrev calls : List Call
 calls = open-plan plan ∷ map add-campaign terms ++ start-day ∷ map show-view views ++ show-view (record { set = 4 }) ∷ close-day ∷ []
 
 pub listing-replies : replies (transcript blank calls) ≡ Played 0 5 ∷ Played 1 3 ∷ Played 0 5 ∷ Nobody ∷ Played 1 3 ∷ []
-unfolding replies-from transcript call first-no sound sound-plan sound-campaign priced counted uncounted empty taken claimed budgeted blank width-holds size within choice best whole claim weight share member sum count every table
+unfolding replies-from transcript call first-failed sound sound-record sound-plan sound-campaign priced counted uncounted empty total-takings total-claim total-budgets blank width-holds size within choice best whole claim weight share member sum count every table
 listing-replies = refl
 
 -- so the theorem speaks of this day
 pub listing-width : history (transcript blank calls) .plan ≡ plan
-unfolding continued transcript call first-no sound sound-plan sound-campaign priced counted uncounted empty taken claimed budgeted blank width-holds size within choice best whole claim weight share member sum count every table
+unfolding continued transcript call first-failed sound sound-record sound-plan sound-campaign priced counted uncounted empty total-takings total-claim total-budgets blank width-holds size within choice best whole claim weight share member sum count every table
 listing-width = refl
 
 pub listing-alike : Day-alike (λ t. t .budget) (history (transcript blank calls)) (replies (transcript blank calls)) (final blank calls)
@@ -79,11 +80,11 @@ abbrev cents-calls : List Call
 cents-calls = open-plan plan ∷ map add-campaign cents ++ start-day ∷ map show-view views ++ close-day ∷ []
 
 pub cents-replies : replies (transcript blank cents-calls) ≡ Played 0 5 ∷ Played 1 3 ∷ Played 0 5 ∷ Nobody ∷ Played 1 3 ∷ []
-unfolding replies-from transcript call first-no sound sound-plan sound-campaign priced counted uncounted empty taken claimed budgeted blank width-holds size within choice best whole claim weight share member sum count every table
+unfolding replies-from transcript call first-failed sound sound-record sound-plan sound-campaign priced counted uncounted empty total-takings total-claim total-budgets blank width-holds size within choice best whole claim weight share member sum count every table
 cents-replies = refl
 
 pub cents-width : history (transcript blank cents-calls) .plan ≡ plan
-unfolding continued transcript call first-no sound sound-plan sound-campaign priced counted uncounted empty taken claimed budgeted blank width-holds size within choice best whole claim weight share member sum count every table
+unfolding continued transcript call first-failed sound sound-record sound-plan sound-campaign priced counted uncounted empty total-takings total-claim total-budgets blank width-holds size within choice best whole claim weight share member sum count every table
 cents-width = refl
 
 pub cents-alike : Day-alike spendable (history (transcript blank cents-calls)) (replies (transcript blank cents-calls)) (final blank cents-calls)

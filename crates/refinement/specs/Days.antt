@@ -9,7 +9,7 @@ use Rattle.day.specs.declared.Answer.{Answer}
 use Rattle.day.specs.declared.Day.{Day}
 use Rattle.campaigns.specs.declared.Terms.{Terms}
 use Rattle.day.specs.Day.{campaign, no-terms}
-use Rattle.day.specs.Calls.{Call, told}
+use Rattle.day.specs.Calls.{Call, view-answer}
 use Rattle.day.specs.Calls.Call.{open-plan, add-campaign, start-day, show-view, ask-tally, close-day}
 use Rattle.demands.specs.Transcript.{Exchange, transcript, final}
 use Rattle.floor.specs.History.{accepted, Starts, History, history}
@@ -45,7 +45,7 @@ instance-of B h = instance B (h .plan) (length (h .terms)) (terms-of h)
 -- the day h, whose views were answered rs, and at whose end the state is s: each view got the answer that Algorithm 4
 -- gives, with the price of the one matched, and the tallies stand for its variables
 pub record Day-alike (B : Terms → ℕ) (h : History) (rs : List Answer) (s : Day) : Type 0 where
-  pub same-answers : rs ≡ map (told (λ i. terms-of h i .price)) (matches (instance-of B h) (slots (h .views)))
+  pub same-answers : rs ≡ map (view-answer (λ i. terms-of h i .price)) (matches (instance-of B h) (slots (h .views)))
   pub same-tallies : (i : ℕ) → i < length (h .terms)
       → Stands (instance-of B h) (length (h .views)) (algorithm-4 (instance-of B h) (slots (h .views))) i (campaign s i)
 

@@ -7,10 +7,11 @@ use Rattle.sets.specs.Set.{member, size, within}
 use Rattle.powers.specs.Power.{weight, share}
 use Rattle.campaigns.specs.Choice.{best, choice}
 use Rattle.campaigns.specs.Campaign.{whole, claim, sound-plan, priced, counted, uncounted, empty, sound-campaign}
+use Rattle.audit.specs.Sound.{sound-record}
 use Rattle.day.specs.declared.Day.{Day}
-use Rattle.day.specs.Day.{blank, taken, claimed, budgeted}
-use Rattle.day.specs.Sound.{sound}
-use Rattle.day.specs.Calls.{first-no, width-holds, Call, call}
+use Rattle.day.specs.Day.{blank, total-takings, total-claim, total-budgets}
+use Rattle.day.specs.Day.{sound}
+use Rattle.day.specs.Calls.{first-failed, width-holds, Call, call}
 use Rattle.demands.specs.Transcript.{transcript, final}
 use Rattle.floor.specs.History.{Starts, continued, history}
 use Rattle.floor.specs.History.Starts.{from-blank, from-opening}
@@ -24,5 +25,5 @@ example s words calls paid e st p =
     record { encodes = e; starts = here; pays = λ r q. (q .paid-is ∙ sum-is, q .demand-3 here .shown ∙ sum-is) }
 
 pub examples : Examples
-unfolding call-in decode transcript final continued call first-no sound blank sum count every table within size member width-holds weight share whole claim taken claimed budgeted sound-plan priced counted uncounted empty sound-campaign best choice
+unfolding call-in decode transcript final continued call first-failed sound sound-record blank sum count every table within size member width-holds weight share whole claim total-takings total-claim total-budgets sound-plan priced counted uncounted empty sound-campaign best choice
 examples = (example blank listing listed 16 refl (from-blank listed) refl, example (final blank listed) next-day _ 2 refl (from-opening (final blank listed) _ _ refl) refl)

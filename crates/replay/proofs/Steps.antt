@@ -20,7 +20,7 @@ use Rattle.day.specs.declared.Answer.the-variants.{Refused, Done, Played, Nobod
 use Rattle.day.specs.declared.Day.{Day}
 use Rattle.day.specs.declared.Outcome.{Outcome}
 use Rattle.day.specs.Day.{blank-plan, campaign}
-use Rattle.day.specs.Calls.{number, Call, questions, player, offers, told, result, call}
+use Rattle.day.specs.Calls.{number, Call, questions, player, offers, view-answer, result, call}
 use Rattle.day.specs.Calls.Call.{open-plan, add-campaign, start-day, show-view, ask-tally, close-day}
 use Rattle.day.proofs.Questions.{Yes, call-elim}
 use Rattle.day.proofs.State.{Sound, sound-facts, held-at}
@@ -32,17 +32,17 @@ use Rattle.floor.specs.Floor.{Floor}
 use Rattle.floor.proofs.Floor.{demand-3}
 use Rattle.replay.specs.declared.Replayed.{Replayed}
 use Rattle.replay.specs.Replay.{call-in, decode, Replays}
-use Rattle.replay.specs.Inner.{at, takings-after, after, after-all}
+use Rattle.replay.specs.Contracts.{at, takings-after, after, after-all}
 
 -- the takings are at most 1,000,000 for each accepted view
 abbrev pub Bounded : Replayed → Type 0
 Bounded r = r .paid ≤ 1_000_000 * r .day .accepted
 
 -- a sound state pays at most 1,000,000 for a view
-pays-most : (s : Day) (w : View) → Sound s → paid-in (told (offers s w) (player s w)) ≤ 1_000_000
+pays-most : (s : Day) (w : View) → Sound s → paid-in (view-answer (offers s w) (player s w)) ≤ 1_000_000
 pays-most s w h = go (player s w) (player-right s w)
   where
-    go : (ch : Choice) → Right (s .count) (able (s .plan) w (campaign s)) (λ i. figure (s .plan) w i (campaign s i)) ch → paid-in (told (offers s w) ch) ≤ 1_000_000
+    go : (ch : Choice) → Right (s .count) (able (s .plan) w (campaign s)) (λ i. figure (s .plan) w i (campaign s i)) ch → paid-in (view-answer (offers s w) ch) ≤ 1_000_000
     go nobody r = omega arith
     go (plays m) r = price-most (campaign s m) (held-at s h m (r .below) .is-priced)
 

@@ -3,7 +3,7 @@ use mathlib.Core.Path.{_≡_}
 use mathlib.Core.List.{List, [], _∷_}
 use Prim.Native.Nat.{ℕ}
 use Rattle.day.specs.declared.Day.{Day}
-use Rattle.day.specs.Day.{blank, taken}
+use Rattle.day.specs.Day.{blank, total-takings}
 use Rattle.day.specs.Calls.{Call}
 use Rattle.day.specs.Calls.Call.{start-day, ask-tally, close-day}
 use Rattle.demands.specs.Transcript.{final}
@@ -16,7 +16,7 @@ use Rattle.replay.specs.Replay.{decode, Replays}
 pub record Example (s : Day) (words : List ℕ) (calls : List Call) (paid : ℕ) : Type 0 where
   pub encodes : decode words ≡ calls
   pub starts : Starts s (decode words)
-  pub pays : (r : Replayed) → Replays s words r → (r .paid ≡ paid) × (taken (r .day) ≡ paid)
+  pub pays : (r : Replayed) → Replays s words r → (r .paid ≡ paid) × (total-takings (r .day) ≡ paid)
 
 -- document 01's listing, with a kind that is no call and two words left at the end
 abbrev pub listing : List ℕ

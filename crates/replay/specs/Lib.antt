@@ -1,3 +1,3 @@
 pub mod Replay
-pub mod Inner
+pub mod Contracts
 pub mod Examples

@@ -12,7 +12,7 @@ ghost use Rattle.day.specs.Calls.{number};
 ghost use Rattle.day.specs.Calls.Call.{open-plan, show-view};
 ghost use Rattle.floor.specs.History.{paid-in};
 ghost use Rattle.replay.specs.Replay.{call-in, Replays};
-ghost use Rattle.replay.specs.Inner.{at, after, after-all};
+ghost use Rattle.replay.specs.Contracts.{at, after, after-all};
 
 // The state at a list's end, and the day's takings, added up from the answers.
 pub struct Replayed {

@@ -8,15 +8,16 @@ use Rattle.campaigns.specs.declared.Head.{Head}
 use Rattle.campaigns.specs.declared.Phase.the-variants.{Filling, Running}
 use Rattle.campaigns.specs.declared.Plan.{Plan}
 use Rattle.campaigns.specs.Campaign.{sound-plan, fresh}
-use Rattle.campaigns.specs.Inner.{Room, Weights}
+use Rattle.campaigns.specs.Contracts.{Room, Weights}
 use Rattle.day.specs.declared.Day.{Day}
 use Rattle.day.specs.declared.Outcome.{Outcome}
 use Rattle.day.specs.declared.Step.{Step}
 use Rattle.day.specs.Day.{state-of, no-terms}
-use Rattle.day.specs.Sound.{sound}
-use Rattle.day.specs.Calls.{Call, joined, shown, result, questions, refused, call}
+use Rattle.day.specs.Day.{sound}
+use Rattle.day.specs.Calls.{Call, with-campaign, shown, result, questions, refused, call}
 use Rattle.day.specs.Calls.Call.{open-plan, add-campaign, start-day, show-view, ask-tally, close-day}
-use Rattle.day.specs.Parts.{outcome-of, refusing, Kept, Ready}
+use Rattle.day.specs.InPlace.{outcome-of}
+use Rattle.day.specs.Contracts.{refusing, Kept, Ready}
 use Rattle.day.proofs.State.{sound-facts, holding-room}
 use Rattle.day.proofs.Questions.{Yes, call-elim, unsound-refused}
 use Rattle.demands.proofs.Sound.{sound-kept}
@@ -30,7 +31,7 @@ call-room s c h = call-elim (λ (o : Outcome). Room (o .day .terms) (o .day .cou
   where
     go : (c : Call) → Yes (questions s c) → Room (result s c .day .terms) (result s c .day .counts)
     go (open-plan pl) y = holding-room Filling pl 0 0 (λ i. fresh no-terms)
-    go (add-campaign t) y = holding-room Filling (s .plan) (s .count + 1) (s .accepted) (joined s t)
+    go (add-campaign t) y = holding-room Filling (s .plan) (s .count + 1) (s .accepted) (with-campaign s t)
     go start-day y = h
     go (show-view w) y = holding-room Running (s .plan) (s .count) (s .accepted + 1) (shown s w)
     go (ask-tally i) y = h

@@ -18,10 +18,10 @@ use Rattle.day.specs.declared.Answer.the-variants.{Refused, Done, Played, Nobod
 use Rattle.day.specs.declared.Day.{Day}
 use Rattle.day.specs.declared.Outcome.{Outcome}
 use Rattle.day.specs.Day.{state-of}
-use Rattle.day.specs.Calls.{Call, call, number, answered, result, told, offers, player, Question, question, questions}
-use Rattle.day.specs.Calls.{first-no}
+use Rattle.day.specs.Calls.{Call, call, number, answered, result, view-answer, offers, player, Question, question, questions}
+use Rattle.day.specs.Calls.{first-failed}
 use Rattle.day.specs.Calls.Call.{open-plan, add-campaign, start-day, show-view, ask-tally, close-day}
-use Rattle.day.specs.Parts as parts
+use Rattle.day.specs.Day as states
 use Rattle.lines.specs.declared.Record.{Record}
 use Rattle.lines.specs.declared.Record.the-variants as form
 use Rattle.lines.specs.Form.{numbers, in-range}
@@ -133,7 +133,7 @@ unfolding after
 after-is k m e = sym (pick-first (is-head (m .head)) (stored (outcome k m)) m (stored (outcome k m)) e refl)
 
 stored-state : (o : Outcome) → state (stored o) ≡ o .day
-stored-state o = ap (λ (h : Head). state-of h (o .day .terms) (o .day .counts)) (head-back (parts.head-of (o .day)))
+stored-state o = ap (λ (h : Head). state-of h (o .day .terms) (o .day .counts)) (head-back (states.head-of (o .day)))
 
 head-stays : (k : Call) (m : Memory) → is-head (m .head) ≡ true → is-head (after k m .head) ≡ true
 head-stays k m e = ap (λ (x : Memory). is-head (x .head)) (after-is k m e) ∙ tagged (outcome k m .day .phase)
@@ -146,7 +146,7 @@ small : (b : Bool) (x y : ℕ) → x < 100 → y < 100 → cond b x y < 100
 small true x y p q = p
 small false x y p q = q
 
-told-number : (x : ℕ → ℕ) (c : Choice) → number (told x c) ≡ 0
+told-number : (x : ℕ → ℕ) (c : Choice) → number (view-answer x c) ≡ 0
 told-number x nobody = refl
 told-number x (plays m) = refl
 
@@ -163,10 +163,10 @@ data Low : List Question → Type 0 where
   none : Low []
   then : (q : ℕ) {b : Bool} {qs : List Question} → q < 100 → Low qs → Low (question q b ∷ qs)
 
-low-small : {qs : List Question} → Low qs → first-no qs < 100
-unfolding first-no
+low-small : {qs : List Question} → Low qs → first-failed qs < 100
+unfolding first-failed
 low-small none = omega arith
-low-small (then q {b} {qs} p r) = small b (first-no qs) q (low-small r) p
+low-small (then q {b} {qs} p r) = small b (first-failed qs) q (low-small r) p
 
 low : (s : Day) (k : Call) → Low (questions s k)
 low s (open-plan pl) =
@@ -190,7 +190,7 @@ answer-small (suc q) s o p e = p
 call-small : (s : Day) (k : Call) → number (call s k .answer) < 100
 unfolding call
 call-small s k =
-    answer-small (first-no (questions s k)) s (result s k) (low-small (low s k)) (accepted-number s k)
+    answer-small (first-failed (questions s k)) s (result s k) (low-small (low s k)) (accepted-number s k)
 
 call-refusal : (k : Call) (m : Memory) → is-head (m .head) ≡ true → status k m < 100
 unfolding status

@@ -7,7 +7,7 @@ use Rattle.day.specs.declared.Outcome.{Outcome}
 use Rattle.day.specs.Day.{state-of}
 use Rattle.day.specs.Calls.{Call, call, number}
 use Rattle.day.specs.Calls.Call.{open-plan, add-campaign, show-view}
-use Rattle.day.specs.Parts as parts
+use Rattle.day.specs.Day as states
 use Rattle.lines.specs.declared.Reading.{Reading}
 use Rattle.lines.specs.declared.Reading.the-variants as reading
 use Rattle.lines.specs.OneText as read
@@ -53,7 +53,7 @@ outcome c m = call (state m) c
 
 -- an outcome, stored
 abbrev pub stored : Outcome → Memory
-stored o = memory (head-words (parts.head-of (o .day))) (o .day .terms) (o .day .counts) (answer-words (o .answer))
+stored o = memory (head-words (states.head-of (o .day))) (o .day .terms) (o .day .counts) (answer-words (o .answer))
 
 -- an operation: 0, the number of the question that failed, or 100 with everything as it was
 unfoldable pub status : Call → Memory → ℕ

@@ -13,7 +13,7 @@ ghost use mathlib.Core.Path.{_≡_};
 ghost use Rattle.day.specs.Day.{blank};
 ghost use Rattle.day.specs.Calls.{number};
 ghost use Rattle.day.specs.Calls.Call.{start-day, ask-tally, close-day};
-ghost use Rattle.day.specs.Parts.{head-of};
+ghost use Rattle.day.specs.Day.{head-of};
 ghost use Rattle.wezghuli.specs.Encoding.{head-words, answer-words};
 ghost use Rattle.wezghuli.specs.Library.{opening, adding, showing, memory, after, status};
 
@@ -68,7 +68,7 @@ pub extern "C" fn wezghuli_open<'a>(
         depth: depth,
         width: width,
     };
-    let step = day::six::open(head_of(head), plan, terms, counts);
+    let step = day::in_place::open(head_of(head), plan, terms, counts);
     store(step, head, answer)
 }
 
@@ -95,7 +95,7 @@ pub extern "C" fn wezghuli_add<'a>(
         price: price,
         budget: budget,
     };
-    let step = day::six::add(head_of(head), added, terms, counts);
+    let step = day::in_place::add(head_of(head), added, terms, counts);
     store(step, head, answer)
 }
 
@@ -116,7 +116,7 @@ pub extern "C" fn wezghuli_start<'a>(
     if !is_head(head) {
         return STATUS_NO_HEAD;
     }
-    let step = day::six::start(head_of(head), terms, counts);
+    let step = day::in_place::start(head_of(head), terms, counts);
     store(step, head, answer)
 }
 
@@ -138,7 +138,7 @@ pub extern "C" fn wezghuli_view<'a>(
     if !is_head(head) {
         return STATUS_NO_HEAD;
     }
-    let step = day::six::view(head_of(head), View { set: set }, terms, counts);
+    let step = day::in_place::view(head_of(head), View { set: set }, terms, counts);
     store(step, head, answer)
 }
 
@@ -160,7 +160,7 @@ pub extern "C" fn wezghuli_tally<'a>(
     if !is_head(head) {
         return STATUS_NO_HEAD;
     }
-    let step = day::six::tally(head_of(head), campaign, terms, counts);
+    let step = day::in_place::tally(head_of(head), campaign, terms, counts);
     store(step, head, answer)
 }
 
@@ -181,6 +181,6 @@ pub extern "C" fn wezghuli_close<'a>(
     if !is_head(head) {
         return STATUS_NO_HEAD;
     }
-    let step = day::six::close(head_of(head), terms, counts);
+    let step = day::in_place::close(head_of(head), terms, counts);
     store(step, head, answer)
 }

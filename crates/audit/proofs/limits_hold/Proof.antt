@@ -1,5 +1,6 @@
 -- Depth, width, `deepest` and the two limits: within width 16, depth ≤ deepest is question 5, by `plan-tells`.
-use Rattle.audit.proofs.Settling.{plan-tells}
+use Rattle.audit.proofs.Claims.{plan-tells}
+use Rattle.campaigns.specs.Limits.{max-campaigns, max-views}
 use lib.Dec.{leb}
 use mathlib.Core.Bool.{Bool, _&&_}
 use mathlib.Core.Path.{ap, ap₂, _∙_}
@@ -20,7 +21,7 @@ returns : tie.Need-returns
 returns c =
     let a = c .before .before .before .before .before .before .before .args .head in
     let r = c .before .before .before .deepest in
-    ap (λ (x : Bool). x && leb (a .count) 64 && leb (a .accepted) 4_096)
+    ap (λ (x : Bool). x && leb (a .count) max-campaigns && leb (a .accepted) max-views)
     (ap₂ (λ (x y : Bool). x && y && leb (a .plan .depth) (r .result)) (c .before .before .before .before .before .depth-fits .ensures) (c .before .before .before .before .width-fits .ensures) ∙ plan-tells (a .plan) (r .result) (r .ensures .0))
 
 pub limits-hold-spec : {M : Type 1} → statement M

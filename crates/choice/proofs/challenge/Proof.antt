@@ -2,7 +2,7 @@
 -- greater. The score is at most 1,000,000 × 2^32.
 use mathlib.Core.Bool.{true, false}
 use Rattle.campaigns.proofs.Laws.{price-least, price-most}
-use Rattle.choice.specs.Inner.{challenged}
+use Rattle.choice.specs.Contracts.{challenged}
 use Rattle.campaigns.specs.Campaign.{can-pay}
 use borrow.Author.Tests.{not-true, not-false}
 use native.Mathlib.Omega.{arith}

@@ -2,10 +2,10 @@
 -- after the view. Where nobody is found, the marks are already those.
 use Rattle.choice.proofs.Leads.{leader-able}
 use Rattle.choice.proofs.Marks.{Grown, after-grown, played-grown, same-counts, put-counts, played-marks, unplayed-marks}
-use Rattle.choice.specs.Inner.{no-leader, Counts, remade}
+use Rattle.choice.specs.Contracts.{no-leader, Counts, remade}
 use Rattle.campaigns.specs.Campaign.{can-pay, campaign-at}
 use Rattle.campaigns.specs.Choice.{role-of}
-use Rattle.campaigns.specs.Inner.{Narrow, played}
+use Rattle.campaigns.specs.Contracts.{Narrow, played}
 use Rattle.campaigns.specs.View.{names}
 use Rattle.campaigns.specs.declared.Campaign.{Campaign}
 use borrow.Author.Needs.{needs}

@@ -3,9 +3,9 @@
 use Rattle.choice.proofs.Leads.{leader-gap, leader-named}
 use Rattle.choice.proofs.Marks.{after-grown, after-price, after-budget, same-counts, put-counts, cut, cut-here, cut-gap, cut-step, cut-end}
 use Rattle.campaigns.proofs.Laws.{price-least}
-use Rattle.choice.specs.Inner.{challenged, leader-of, Counts, no-leader, remade}
+use Rattle.choice.specs.Contracts.{challenged, leader-of, Counts, no-leader, remade}
 use Rattle.campaigns.specs.Campaign.{priced, can-pay, after, campaign-at}
-use Rattle.campaigns.specs.Inner.{Narrow}
+use Rattle.campaigns.specs.Contracts.{Narrow}
 use Rattle.campaigns.specs.Choice.{best, choice, role-of}
 use Rattle.campaigns.specs.declared.Campaign.{Campaign}
 use Rattle.choice.specs.declared.Leader.{Leader}

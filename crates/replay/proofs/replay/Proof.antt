@@ -4,7 +4,7 @@ use Prim.Native.Nat.{_+_, _-_, _≤_}
 use native.Mathlib.Omega.{arith}
 use lib.ListN.{getD, length, drop}
 use Rattle.replay.specs.Replay.{call-in, decode}
-use Rattle.replay.specs.Inner.{at, after-all}
+use Rattle.replay.specs.Contracts.{at, after-all}
 use Rattle.replay.proofs.Steps.{Bounded, same-end, still-bounded, decode-end, replayed}
 use Rattle.replay.proofs.replay.Statement.{statement}
 use Rattle.replay.proofs.replay.Tie as tie

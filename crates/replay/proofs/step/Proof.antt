@@ -3,7 +3,7 @@ use mathlib.Core.Path.{ap, sym, _∙_}
 use native.Mathlib.Omega.{arith}
 use Rattle.day.specs.declared.Outcome.{Outcome}
 use Rattle.replay.specs.Replay.{call-in}
-use Rattle.replay.specs.Inner.{at, after-all}
+use Rattle.replay.specs.Contracts.{at, after-all}
 use Rattle.replay.proofs.Steps.{no-call}
 use borrow.Author.Needs.{needs}
 use Rattle.replay.proofs.step.Statement.{statement}

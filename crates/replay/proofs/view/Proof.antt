@@ -6,7 +6,7 @@ use Rattle.day.specs.declared.Outcome.{Outcome}
 use Rattle.day.specs.Calls.{call}
 use Rattle.day.specs.Calls.Call.{show-view}
 use Rattle.floor.specs.History.{paid-in}
-use Rattle.replay.specs.Inner.{at}
+use Rattle.replay.specs.Contracts.{at}
 use Rattle.replay.proofs.Steps.{view-fits}
 use borrow.Author.Needs.{needs}
 use Rattle.replay.proofs.view.Statement.{statement}

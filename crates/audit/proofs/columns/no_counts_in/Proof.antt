@@ -1,5 +1,5 @@
 -- The loop keeps: the "or" so far is zero exactly if the entries from n on and below i have no counts.
-use Rattle.audit.specs.Inner.{no-counts-in}
+use Rattle.audit.specs.Contracts.{no-counts-in}
 use Rattle.audit.proofs.Zeros.{or-zero}
 use Rattle.finite.proofs.Tests.{from-start, from-next}
 use lib.Dec.{eqb}

@@ -2,7 +2,7 @@
 use Rattle.finite.proofs.Tests.{every-next}
 use lib.Dec.{leb, ltb}
 use mathlib.Core.Bool.{_&&_, and-assoc}
-use Rattle.audit.specs.Inner.{ordered-columns}
+use Rattle.audit.specs.Contracts.{ordered-columns}
 use Rattle.finite.specs.Finite.{every}
 use mathlib.Core.Path.{_≡_, refl, ap, _∙_}
 use Rattle.campaigns.specs.declared.Campaign.{Campaign}

@@ -2,7 +2,7 @@
 use Rattle.finite.proofs.Tests.{every-next}
 use Rattle.campaigns.specs.Campaign.{price-fits, budget-fits}
 use mathlib.Core.Bool.{_&&_, and-assoc}
-use Rattle.audit.specs.Inner.{priced-columns}
+use Rattle.audit.specs.Contracts.{priced-columns}
 use Rattle.finite.specs.Finite.{every}
 use mathlib.Core.Path.{_≡_, refl, ap, _∙_}
 use Rattle.campaigns.specs.declared.Campaign.{Campaign}

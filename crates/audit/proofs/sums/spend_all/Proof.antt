@@ -4,7 +4,7 @@ use Rattle.finite.proofs.Tests.{every-next, every-not, both-join}
 use Rattle.finite.proofs.Sums.{sum-next}
 use borrow.Author.Tests.{le-leb, lt-leb}
 use native.Mathlib.Nat.{mul-le-mul}
-use Rattle.audit.specs.Inner.{paid-columns, spent-of}
+use Rattle.audit.specs.Contracts.{paid-columns, spent-of}
 use Rattle.finite.specs.Finite.{sum, every}
 use lib.Dec.{leb}
 use Prim.Native.Nat.{_*_}

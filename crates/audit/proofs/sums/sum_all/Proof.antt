@@ -1,5 +1,5 @@
 -- The sums without weights and the one with them are `summed`; where a campaign has paid too much, both say none.
-use Rattle.audit.specs.Inner.{waiting, sums-of, paid-columns, spendings, no-spending, spent-of, waited-of, summed}
+use Rattle.audit.specs.Contracts.{waiting, sums-of, paid-columns, spendings, no-spending, spent-of, waited-of, summed}
 use Rattle.audit.specs.declared.sums.Spent.{Spent}
 use borrow.Author.Tests.{not-true, not-false}
 use mathlib.Core.Bool.{Bool, true, false, cond}

@@ -4,7 +4,7 @@ use Rattle.finite.proofs.Sums.{sum-next}
 use Rattle.campaigns.proofs.Laws.{plan-sized}
 use Rattle.powers.proofs.Weight.{weight-mono}
 use native.Mathlib.Nat.{mul-le-mul}
-use Rattle.audit.specs.Inner.{waited-of, waiting}
+use Rattle.audit.specs.Contracts.{waited-of, waiting}
 use Rattle.finite.specs.Finite.{sum}
 use Prim.Native.Nat.{_*_}
 use Rattle.powers.specs.Power.{weight}

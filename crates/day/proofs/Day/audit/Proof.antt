@@ -2,7 +2,7 @@
 use Rattle.campaigns.specs.declared.Head.{Head}
 use Rattle.day.specs.Day.{state-of}
 use mathlib.Core.Path.{ap, _∙_}
-use Rattle.day.specs.Parts.{audited}
+use Rattle.day.specs.Day.{audited}
 use borrow.Author.Needs.{needs}
 use Rattle.day.proofs.Day.audit.Statement.{statement}
 use Rattle.day.proofs.Day.audit.Tie as tie

@@ -1,7 +1,8 @@
 -- Questions 6 to 10 in turn: each return is the first "no", and the sum that question 10 compares cannot overflow.
-use Rattle.day.specs.Calls.{first-no}
+use Rattle.day.specs.Calls.{first-failed}
 use Rattle.campaigns.specs.Phase.{is-filling}
 use Rattle.campaigns.specs.Campaign.{price-fits, budget-fits}
+use Rattle.campaigns.specs.Limits.{max-budget}
 use Rattle.finite.proofs.Tests.{both-right}
 use borrow.Author.Tests.{not-true, not-false, lt-ltb, le-ltb, le-leb, lt-leb, leb-true}
 use lib.Dec.{leb, ltb}
@@ -29,37 +30,37 @@ filling-requires : tie.Need-filling-requires
 filling-requires c κs = search needs
 
 returns : tie.Need-returns
-unfolding first-no
+unfolding first-failed
 returns c = rw (sym (c .before .filling .ensures) ∙ not-true (c .before .filling .result) (c .if1 .taken))
 
 returns-2 : tie.Need-returns-2
-unfolding first-no
+unfolding first-failed
 returns-2 c = rw (fills (c .before .before), le-ltb (c .before .before .before .before .args .head .count) 64 (c .if2 .taken))
 
 price-fits-requires : tie.Need-price-fits-requires
 price-fits-requires c κs = search needs
 
 returns-3 : tie.Need-returns-3
-unfolding first-no
+unfolding first-failed
 returns-3 c = rw (fills (c .before .before .before .before), few (c .before .before), sym (c .before .price-fits .ensures) ∙ not-true (c .before .price-fits .result) (c .if3 .taken))
 
 budget-fits-requires : tie.Need-budget-fits-requires
 budget-fits-requires c κs = search needs
 
 returns-4 : tie.Need-returns-4
-unfolding first-no
+unfolding first-failed
 returns-4 c = rw (fills (c .before .before .before .before .before .before), few (c .before .before .before .before), priced (c .before .before), sym (c .before .budget-fits .ensures) ∙ not-true (c .before .budget-fits .result) (c .if4 .taken))
 
 add-if5 : tie.Need-add-if5
-add-if5 c = let a = c .before .before .before .before .before .before .before .before .before .args .t in omega (arith, c .before .before .before .before .before .before .before .before .before .pre, leb-true (a .budget) 2_000_000_000 (both-right (leb (a .price) (a .budget)) (leb (a .budget) 2_000_000_000) (afforded (c .before))))
+add-if5 c = let a = c .before .before .before .before .before .before .before .before .before .args .t in omega (arith, c .before .before .before .before .before .before .before .before .before .pre, leb-true (a .budget) max-budget (both-right (leb (a .price) (a .budget)) (leb (a .budget) max-budget) (afforded (c .before))))
 
 returns-5 : tie.Need-returns-5
-unfolding first-no
-returns-5 c = rw (fills (c .before .before .before .before .before .before .before .before), few (c .before .before .before .before .before .before), priced (c .before .before .before .before), afforded (c .before .before), lt-leb (c .before .before .before .before .before .before .before .before .before .before .args .budgets + c .before .before .before .before .before .before .before .before .before .before .args .t .budget) 2_000_000_000 (c .if5 .taken))
+unfolding first-failed
+returns-5 c = rw (fills (c .before .before .before .before .before .before .before .before), few (c .before .before .before .before .before .before), priced (c .before .before .before .before), afforded (c .before .before), lt-leb (c .before .before .before .before .before .before .before .before .before .before .args .budgets + c .before .before .before .before .before .before .before .before .before .before .args .t .budget) max-budget (c .if5 .taken))
 
 returns-6 : tie.Need-returns-6
-unfolding first-no
-returns-6 c = rw (fills (c .before .before .before .before .before .before .before .before), few (c .before .before .before .before .before .before), priced (c .before .before .before .before), afforded (c .before .before), le-leb (c .before .before .before .before .before .before .before .before .before .before .args .budgets + c .before .before .before .before .before .before .before .before .before .before .args .t .budget) 2_000_000_000 (c .if5 .left))
+unfolding first-failed
+returns-6 c = rw (fills (c .before .before .before .before .before .before .before .before), few (c .before .before .before .before .before .before), priced (c .before .before .before .before), afforded (c .before .before), le-leb (c .before .before .before .before .before .before .before .before .before .before .args .budgets + c .before .before .before .before .before .before .before .before .before .before .args .t .budget) max-budget (c .if5 .left))
 
 pub add-question-spec : {M : Type 1} → statement M
 add-question-spec =

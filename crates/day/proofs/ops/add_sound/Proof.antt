@@ -5,19 +5,20 @@ use mathlib.Core.Bool.{true, false}
 use mathlib.Core.Path.{_≡_, refl, ap, sym, _∙_}
 use native.Mathlib.Omega.{arith}
 use Rattle.day.specs.declared.Day.{Day}
-use Rattle.day.specs.Day.{state-of}
+use Rattle.day.specs.Day.{state-of, total-budgets}
 use Prim.Native.Nat.{ℕ, _<_, _≤_}
+use Rattle.campaigns.specs.Limits.{max-price, max-budget}
 use lib.Dec.{leb}
 use borrow.Author.Tests.{leb-true, ltb-true}
 use Rattle.finite.proofs.Tests.{both-right}
 use Rattle.day.specs.declared.Answer.the-variants.{Done}
 use Rattle.day.specs.declared.Outcome.{Outcome}
-use Rattle.day.specs.Calls.{first-no, questions}
+use Rattle.day.specs.Calls.{first-failed, questions}
 use Rattle.day.specs.Calls.Call.{add-campaign}
-use Rattle.day.specs.Inner.{add-questions}
+use Rattle.day.specs.Calls.{add-questions}
 use Rattle.day.proofs.State.{sound-facts, joined-is}
 use Rattle.day.proofs.Questions.{Yes, asked-yes, call-yes}
-use Rattle.day.proofs.Steps.{steps-refused, add-asks}
+use Rattle.day.proofs.Steps.{steps-refused, own-asks}
 use borrow.Author.Needs.{needs}
 use Rattle.day.proofs.ops.add_sound.Statement.{statement}
 use Rattle.day.proofs.ops.add_sound.Tie as tie
@@ -25,10 +26,11 @@ use Rattle.day.proofs.ops.add_sound.Tie as tie
 abbrev state : tie.Start → Day
 state s = state-of (s .args .head) (s .args .terms .now) (s .args .counts .now)
 
-asked : (c : tie.After-add-question) → c .add-question .result ≡ first-no (questions (state (c .before .before .before)) (add-campaign (c .before .before .before .args .t)))
+asked : (c : tie.After-add-question) → c .add-question .result ≡ first-failed (questions (state (c .before .before .before)) (add-campaign (c .before .before .before .args .t)))
+unfolding total-budgets
 asked c =
     let a = c .before .before .before .args in
-    c .add-question .ensures ∙ ap (λ (b : ℕ). first-no (add-questions (a .head) (a .t) b)) (c .before .budgeted .ensures .0) ∙ add-asks (a .head) (a .terms .now) (a .counts .now) (a .t) (c .before .before .before .pre .is-sound)
+    c .add-question .ensures ∙ ap (λ (b : ℕ). first-failed (add-questions (a .head) (a .t) b)) (c .before .total-budgets .ensures .0) ∙ own-asks (state (c .before .before .before)) (add-campaign (a .t)) (c .before .before .before .pre .is-sound)
 
 yes : (c : tie.Else1) → Yes (questions (state (c .before .before .before .before)) (add-campaign (c .before .before .before .before .args .t)))
 yes c = asked-yes (state (c .before .before .before .before)) (add-campaign (c .before .before .before .before .args .t)) (c .before .add-question .result) (asked (c .before)) (c .if1 .left)
@@ -36,17 +38,17 @@ yes c = asked-yes (state (c .before .before .before .before)) (add-campaign (c .
 room : (c : tie.Else1) → c .before .before .before .before .args .head .count < 64
 room c = ltb-true (c .before .before .before .before .args .head .count) 64 (yes c .1 .1 .0)
 
-price-narrow : (c : tie.Else1) → c .before .before .before .before .args .t .price ≤ 1_000_000
-price-narrow c = let t = c .before .before .before .before .args .t in leb-true (t .price) 1_000_000 (both-right (leb 1 (t .price)) (leb (t .price) 1_000_000) (yes c .1 .1 .1 .0))
+price-narrow : (c : tie.Else1) → c .before .before .before .before .args .t .price ≤ max-price
+price-narrow c = let t = c .before .before .before .before .args .t in leb-true (t .price) max-price (both-right (leb 1 (t .price)) (leb (t .price) max-price) (yes c .1 .1 .1 .0))
 
-budget-narrow : (c : tie.Else1) → c .before .before .before .before .args .t .budget ≤ 2_000_000_000
-budget-narrow c = let t = c .before .before .before .before .args .t in leb-true (t .budget) 2_000_000_000 (both-right (leb (t .price) (t .budget)) (leb (t .budget) 2_000_000_000) (yes c .1 .1 .1 .1 .0))
+budget-narrow : (c : tie.Else1) → c .before .before .before .before .args .t .budget ≤ max-budget
+budget-narrow c = let t = c .before .before .before .before .args .t in leb-true (t .budget) max-budget (both-right (leb (t .price) (t .budget)) (leb (t .budget) max-budget) (yes c .1 .1 .1 .1 .0))
 
-budgeted-requires : tie.Need-budgeted-requires
-budgeted-requires c κs = sound-facts (state (c .before)) (c .before .pre .is-sound) .few
+total-budgets-requires : tie.Need-total-budgets-requires
+total-budgets-requires c κs = sound-facts (state (c .before)) (c .before .pre .is-sound) .few
 
 add-question-requires : tie.Need-add-question-requires
-add-question-requires c κs = c .budgeted .ensures .1
+add-question-requires c κs = c .total-budgets .ensures .1
 
 refused-requires : tie.Need-refused-requires
 refused-requires c κs = search needs
@@ -89,7 +91,7 @@ pub add-sound-spec : {M : Type 1} → statement M
 add-sound-spec =
     tie.close
     (tie.spec
-    budgeted-requires
+    total-budgets-requires
     add-question-requires
     refused-requires
     returns

@@ -2,18 +2,20 @@
 use borrow.Author.Tests.{not-true, not-false}
 use mathlib.Core.Bool.{true, false}
 use mathlib.Core.Path.{_≡_, refl, ap, sym, _∙_}
-use native.Mathlib.Omega.{arith}
-use Rattle.day.specs.declared.Day.{Day}
-use Rattle.day.specs.Day.{state-of}
-use Rattle.day.proofs.Audits.{plan-part, audit-first, audit-rest, few-of, views-of, plan-of}
+use Prim.Native.Nat.{ℕ}
+use Rattle.campaigns.specs.declared.Campaign.{Campaign}
+use Rattle.campaigns.specs.Campaign.{campaign-at}
+use Rattle.audit.specs.Contracts.{limits}
+use Rattle.audit.proofs.Audits.{audit-outside, plan-of}
+use Rattle.day.specs.Day.{audited}
 use borrow.Author.Needs.{needs}
 use Rattle.day.proofs.ops.audited.Statement.{statement}
 use Rattle.day.proofs.ops.audited.Tie as tie
 
-abbrev state : tie.Start → Day
-state s = state-of (s .args .head) (s .args .terms .now) (s .args .counts .now)
+abbrev came : tie.Start → ℕ → Campaign
+came s = campaign-at (s .args .terms .now) (s .args .counts .now)
 
-limited : (c : tie.Else1) → plan-part (state (c .before .before)) ≡ true
+limited : (c : tie.Else1) → limits (c .before .before .args .head) ≡ true
 limited c = sym (c .before .limits-hold .ensures) ∙ not-false (c .before .limits-hold .result) (c .if1 .left)
 
 limits-hold-requires : tie.Need-limits-hold-requires
@@ -23,16 +25,22 @@ unsound-requires : tie.Need-unsound-requires
 unsound-requires c κs = search needs
 
 returns : tie.Need-returns
-returns c = c .unsound .ensures ∙ sym (audit-first (state (c .before .before .before)) (sym (c .before .before .limits-hold .ensures) ∙ not-true (c .before .before .limits-hold .result) (c .before .if1 .taken)))
+unfolding audited
+returns c =
+    let s = c .before .before .before in
+    let limits-hold = c .before .before .limits-hold in
+    c .unsound .ensures
+    ∙ sym (audit-outside (s .args .head) (came s) (sym (limits-hold .ensures) ∙ not-true (limits-hold .result) (c .before .if1 .taken)))
 
 weights-requires : tie.Need-weights-requires
-weights-requires c κs = plan-of (state (c .before .before .before)) (limited (c .before))
+weights-requires c κs = let s = c .before .before .before in plan-of (s .args .head) (came s) (limited (c .before))
 
-examine-requires : tie.Need-examine-requires
-examine-requires c κs = let s = state (c .before .before .before .before .before) in let e = limited (c .before .before .before) in (c .before .weights .ensures, few-of s e, views-of s e)
+audit-parts-requires : tie.Need-audit-parts-requires
+audit-parts-requires c κs = (c .before .weights .ensures, limited (c .before .before .before))
 
 returns-2 : tie.Need-returns-2
-returns-2 c = c .examine .ensures ∙ sym (audit-rest (state (c .before .before .before .before .before .before)) (limited (c .before .before .before .before)))
+unfolding audited
+returns-2 c = c .audit-parts .ensures
 
 pub audited-spec : {M : Type 1} → statement M
 audited-spec =
@@ -42,5 +50,5 @@ audited-spec =
     unsound-requires
     returns
     weights-requires
-    examine-requires
+    audit-parts-requires
     returns-2)

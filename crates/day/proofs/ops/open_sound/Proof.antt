@@ -9,7 +9,7 @@ use Rattle.campaigns.specs.Phase.{is-closed}
 use Rattle.campaigns.specs.declared.Phase.the-variants.{Filling}
 use Rattle.day.specs.declared.Answer.the-variants.{Done}
 use Rattle.day.specs.declared.Outcome.{Outcome}
-use Rattle.day.specs.Calls.{first-no, questions}
+use Rattle.day.specs.Calls.{first-failed, questions}
 use Rattle.day.specs.Calls.Call.{open-plan}
 use Rattle.day.proofs.Questions.{accepted-is}
 use Rattle.day.proofs.Steps.{steps-refused, planned-is}
@@ -20,12 +20,12 @@ use Rattle.day.proofs.ops.open_sound.Tie as tie
 abbrev state : tie.Start → Day
 state s = state-of (s .args .head) (s .args .terms .now) (s .args .counts .now)
 
-asked-2 : (c : tie.Then1) → 2 ≡ first-no (questions (state (c .before .before)) (open-plan (c .before .before .args .plan)))
-unfolding first-no
+asked-2 : (c : tie.Then1) → 2 ≡ first-failed (questions (state (c .before .before)) (open-plan (c .before .before .args .plan)))
+unfolding first-failed
 asked-2 c = rw (c .before .before .pre .is-sound, sym (c .before .closed .ensures) ∙ not-true (c .before .closed .result) (c .if1 .taken))
 
-asked-plan : (c : tie.After-plan-question) → let s = c .before .before .before in c .plan-question .result ≡ first-no (questions (state s) (open-plan (s .args .plan)))
-unfolding first-no
+asked-plan : (c : tie.After-plan-question) → let s = c .before .before .before in c .plan-question .result ≡ first-failed (questions (state s) (open-plan (s .args .plan)))
+unfolding first-failed
 asked-plan c =
     let p : is-closed (c .before .before .before .args .head .phase) ≡ true = sym (c .before .before .closed .ensures) ∙ not-false (c .before .before .closed .result) (c .before .if1 .left) in
     rw (c .before .before .before .pre .is-sound, p) (c .plan-question .ensures)

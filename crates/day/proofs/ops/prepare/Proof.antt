@@ -4,54 +4,55 @@ use mathlib.Core.Bool.{true, false}
 use mathlib.Core.Path.{_≡_, refl, sym, _∙_}
 use borrow.Author.Needs.{needs}
 use borrow.Author.Tests.{not-true, not-false}
-use Rattle.day.specs.declared.Day.{Day}
-use Rattle.day.specs.Day.{state-of}
+use Prim.Native.Nat.{ℕ}
+use Rattle.campaigns.specs.declared.Campaign.{Campaign}
+use Rattle.campaigns.specs.Campaign.{campaign-at}
+use Rattle.audit.specs.Contracts.{limits}
+use Rattle.day.specs.Day.{sound}
 use Rattle.finite.proofs.Tests.{never}
-use Rattle.day.proofs.Audits.{plan-part, first-part, audit-rest, few-of, views-of, plan-of}
-use Rattle.day.proofs.Questions.{audit-sound}
+use Rattle.audit.proofs.Audits.{outside, audit-sound, plan-of}
 use Rattle.day.proofs.ops.prepare.Statement.{statement}
 use Rattle.day.proofs.ops.prepare.Tie as tie
 
-abbrev state : tie.Start → Day
-state s = state-of (s .args .head) (s .args .terms .now) (s .args .counts .now)
+abbrev came : tie.Start → ℕ → Campaign
+came s = campaign-at (s .args .terms .now) (s .args .counts .now)
 
-within-limits : (c : tie.Else1) → plan-part (state (c .before .before)) ≡ true
+within-limits : (c : tie.Else1) → limits (c .before .before .args .head) ≡ true
 within-limits c = sym (c .before .limits-hold .ensures) ∙ not-false (c .before .limits-hold .result) (c .if1 .left)
 
 limits-hold-requires : tie.Need-limits-hold-requires
 limits-hold-requires c κs = search needs
 
 returns : tie.Need-returns
+unfolding sound
 returns c =
     let s = c .before .before in
     let out = not-true (c .before .limits-hold .result) (c .if1 .taken) in
     record {
       room = s .pre;
-      sound-is = first-part (state s) (sym (c .before .limits-hold .ensures) ∙ out);
+      sound-is = outside (s .args .head) (came s) (sym (c .before .limits-hold .ensures) ∙ out);
       weights-are = λ e. absurd (never false refl e);
     }
 
 weights-requires : tie.Need-weights-requires
-weights-requires c κs = plan-of (state (c .before .before .before)) (within-limits (c .before))
+weights-requires c κs = let s = c .before .before .before in plan-of (s .args .head) (came s) (within-limits (c .before))
 
-examine-requires : tie.Need-examine-requires
-examine-requires c κs =
-    let limited = c .before .before .before in
-    let s = state (limited .before .before) in
-    (c .before .weights .ensures, few-of s (within-limits limited), views-of s (within-limits limited))
+audit-parts-requires : tie.Need-audit-parts-requires
+audit-parts-requires c κs = (c .before .weights .ensures, within-limits (c .before .before .before))
 
 returns-2 : tie.Need-returns-2
+unfolding sound
 returns-2 c =
     let limited = c .before .before .before .before in
     let s = limited .before .before in
-    let a = c .examine in
+    let a = c .audit-parts in
     record {
       room = s .pre;
-      sound-is = sym (audit-sound (state s) (a .result) (a .ensures ∙ sym (audit-rest (state s) (within-limits limited))));
+      sound-is = sym (audit-sound (s .args .head) (came s) (a .result) (a .ensures));
       weights-are = λ e. c .before .before .weights .ensures;
     }
 
 pub prepare-spec : {M : Type 1} → statement M
 prepare-spec =
     tie.close
-    (tie.spec limits-hold-requires returns weights-requires examine-requires returns-2)
+    (tie.spec limits-hold-requires returns weights-requires audit-parts-requires returns-2)

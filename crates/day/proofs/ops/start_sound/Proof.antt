@@ -6,7 +6,7 @@ use native.Mathlib.Omega.{arith}
 use Rattle.day.specs.declared.Day.{Day}
 use Rattle.day.specs.Day.{state-of}
 use Rattle.campaigns.specs.Phase.{is-filling}
-use Rattle.day.specs.Calls.{first-no, questions}
+use Rattle.day.specs.Calls.{first-failed, questions}
 use Rattle.day.specs.Calls.Call.{start-day}
 use Rattle.day.proofs.Questions.{call-yes}
 use Rattle.day.proofs.Steps.{steps-refused}
@@ -17,8 +17,8 @@ use Rattle.day.proofs.ops.start_sound.Tie as tie
 abbrev state : tie.Start → Day
 state s = state-of (s .args .head) (s .args .terms .now) (s .args .counts .now)
 
-asked-6 : (c : tie.Then1) → 6 ≡ first-no (questions (state (c .before .before)) start-day)
-unfolding first-no
+asked-6 : (c : tie.Then1) → 6 ≡ first-failed (questions (state (c .before .before)) start-day)
+unfolding first-failed
 asked-6 c = rw (c .before .before .pre .is-sound, sym (c .before .filling .ensures) ∙ not-true (c .before .filling .result) (c .if1 .taken))
 
 fills : (c : tie.Else1) → is-filling (c .before .before .args .head .phase) ≡ true

@@ -8,7 +8,7 @@ use Rattle.day.specs.Day.{state-of}
 use borrow.Author.Tests.{lt-ltb, le-ltb}
 use Rattle.campaigns.specs.declared.Campaign.{Campaign}
 use Rattle.day.specs.declared.Outcome.{Outcome}
-use Rattle.day.specs.Calls.{first-no, questions, tally-of}
+use Rattle.day.specs.Calls.{first-failed, questions, tally-of}
 use Rattle.day.specs.Calls.Call.{ask-tally}
 use Rattle.day.proofs.State.{sound-facts}
 use Rattle.day.proofs.Questions.{call-yes}
@@ -20,8 +20,8 @@ use Rattle.day.proofs.ops.tally_sound.Tie as tie
 abbrev state : tie.Start → Day
 state s = state-of (s .args .head) (s .args .terms .now) (s .args .counts .now)
 
-asked-15 : (c : tie.Then1) → 15 ≡ first-no (questions (state (c .before .before)) (ask-tally (c .before .before .args .campaign)))
-unfolding first-no
+asked-15 : (c : tie.Then1) → 15 ≡ first-failed (questions (state (c .before .before)) (ask-tally (c .before .before .args .campaign)))
+unfolding first-failed
 asked-15 c = rw (c .before .before .pre .is-sound, le-ltb (c .before .before .args .campaign) (c .before .before .args .head .count) (c .if1 .taken))
 
 abbrev tallied : Day → Campaign → Outcome

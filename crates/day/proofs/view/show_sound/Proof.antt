@@ -7,14 +7,15 @@ use native.Mathlib.Omega.{arith}
 use Rattle.day.specs.declared.Day.{Day}
 use Rattle.day.specs.Day.{state-of}
 use borrow.Author.Tests.{ltb-true}
-use Rattle.choice.specs.Inner.{Ready}
+use Rattle.campaigns.specs.Limits.{max-views}
+use Rattle.choice.specs.Contracts.{Ready}
 use Rattle.day.specs.Day.{campaign}
-use Rattle.day.specs.Calls.{first-no, questions}
+use Rattle.day.specs.Calls.{first-failed, questions}
 use Rattle.day.specs.Calls.Call.{show-view}
 use Rattle.day.proofs.State.{sound-facts}
 use Rattle.day.proofs.Questions.{Yes, asked-yes}
 use Rattle.day.proofs.Shown.{named-ready, accepted-shows}
-use Rattle.day.proofs.Steps.{steps-refused, view-asks}
+use Rattle.day.proofs.Steps.{steps-refused, own-asks}
 use borrow.Author.Needs.{needs}
 use Rattle.day.proofs.view.show_sound.Statement.{statement}
 use Rattle.day.proofs.view.show_sound.Tie as tie
@@ -22,8 +23,8 @@ use Rattle.day.proofs.view.show_sound.Tie as tie
 abbrev state : tie.Start → Day
 state s = state-of (s .args .head) (s .args .terms .now) (s .args .counts .now)
 
-asked : (c : tie.After-view-question) → c .view-question .result ≡ first-no (questions (state (c .before)) (show-view (c .before .args .view)))
-asked c = let a = c .before .args in c .view-question .ensures ∙ view-asks (a .head) (a .terms .now) (a .counts .now) (a .view) (c .before .pre .1 .is-sound)
+asked : (c : tie.After-view-question) → c .view-question .result ≡ first-failed (questions (state (c .before)) (show-view (c .before .args .view)))
+asked c = let a = c .before .args in c .view-question .ensures ∙ own-asks (state (c .before)) (show-view (a .view)) (c .before .pre .1 .is-sound)
 
 yes : (c : tie.Else1) → Yes (questions (state (c .before .before)) (show-view (c .before .before .args .view)))
 yes c = asked-yes (state (c .before .before)) (show-view (c .before .before .args .view)) (c .before .view-question .result) (asked (c .before)) (c .if1 .left)
@@ -43,14 +44,14 @@ returns c = let s = c .before .before .before in steps-refused (s .args .head) (
 play-requires : tie.Need-play-requires
 play-requires c κs = let s = c .before .before .before .before in (s .pre .0, (s .pre .1 .room, ready (c .before .before)))
 
-told-requires : tie.Need-told-requires
-told-requires c κs = search needs
+view-answer-requires : tie.Need-view-answer-requires
+view-answer-requires c κs = search needs
 
 add-t13 : tie.Need-add-t13
-add-t13 c = omega (arith, ltb-true (c .before .before .before .before .before .before .before .args .head .accepted) 4_096 (yes (c .before .before .before .before .before) .1 .1 .0))
+add-t13 c = omega (arith, ltb-true (c .before .before .before .before .before .before .before .args .head .accepted) max-views (yes (c .before .before .before .before .before) .1 .1 .0))
 
 returns-2 : tie.Need-returns-2
-returns-2 c = let s = c .before .before .before .before .before .before .before in accepted-shows (s .args .head) (s .args .terms .now) (s .args .counts .now) (s .args .view) (c .before .before .play .result) (yes (c .before .before .before .before .before)) (c .before .before .play .ensures .0) _ (c .before .told .result) (c .before .before .play .ensures .1) (c .before .told .ensures)
+returns-2 c = let s = c .before .before .before .before .before .before .before in accepted-shows (s .args .head) (s .args .terms .now) (s .args .counts .now) (s .args .view) (c .before .before .play .result) (yes (c .before .before .before .before .before)) (c .before .before .play .ensures .0) _ (c .before .view-answer .result) (c .before .before .play .ensures .1) (c .before .view-answer .ensures)
 
 pub show-sound-spec : {M : Type 1} → statement M
 show-sound-spec =
@@ -60,6 +61,6 @@ show-sound-spec =
     refused-requires
     returns
     play-requires
-    told-requires
+    view-answer-requires
     add-t13
     returns-2)

@@ -1,8 +1,9 @@
 -- Questions 11 to 14 in turn: a member from the count on is one that is not in the plan, and the size of the set is
 -- held to the width.
-use Rattle.day.specs.Calls.{first-no}
+use Rattle.day.specs.Calls.{first-failed, width-holds}
 use Rattle.campaigns.specs.Phase.{is-running}
 use Rattle.sets.proofs.Walk.{within-next, within-not}
+use Rattle.campaigns.specs.Limits.{max-views}
 use Rattle.sets.specs.Set.{size, within}
 use borrow.Author.Tests.{not-true, not-false, lt-ltb, le-ltb}
 use lib.Dec.{leb, ltb}
@@ -16,8 +17,8 @@ use Rattle.day.proofs.view.view_question.Tie as tie
 runs : (c : tie.Else1) → is-running (c .before .before .args .head .phase) ≡ true
 runs c = sym (c .before .running .ensures) ∙ not-false (c .before .running .result) (c .if1 .left)
 
-views : (c : tie.Else2) → ltb (c .before .before .before .before .args .head .accepted) 4_096 ≡ true
-views c = lt-ltb (c .before .before .before .before .args .head .accepted) 4_096 (c .if2 .left)
+views : (c : tie.Else2) → ltb (c .before .before .before .before .args .head .accepted) max-views ≡ true
+views c = lt-ltb (c .before .before .before .before .args .head .accepted) max-views (c .if2 .left)
 
 inside : (c : tie.Else3) → within (c .before .before .before .before .before .before .args .head .count) (c .before .before .before .before .before .before .args .view .set) ≡ true
 inside c = within-next (c .before .before .before .before .before .before .args .view .set) (c .before .before .before .before .before .before .args .head .count) (subst (λ (x : ℕ). 64 ≤ x) (c .before .next-from .ensures) (c .if3 .left))
@@ -29,29 +30,29 @@ running-requires : tie.Need-running-requires
 running-requires c κs = search needs
 
 returns : tie.Need-returns
-unfolding first-no
+unfolding first-failed
 returns c = rw (sym (c .before .running .ensures) ∙ not-true (c .before .running .result) (c .if1 .taken))
 
 returns-2 : tie.Need-returns-2
-unfolding first-no
-returns-2 c = rw (runs (c .before .before), le-ltb (c .before .before .before .before .args .head .accepted) 4_096 (c .if2 .taken))
+unfolding first-failed
+returns-2 c = rw (runs (c .before .before), le-ltb (c .before .before .before .before .args .head .accepted) max-views (c .if2 .taken))
 
 next-from-requires : tie.Need-next-from-requires
 next-from-requires c κs = search needs
 
 returns-3 : tie.Need-returns-3
-unfolding first-no
+unfolding first-failed
 returns-3 c = rw (runs (c .before .before .before .before), views (c .before .before), within-not (c .before .before .before .before .before .before .args .view .set) (c .before .before .before .before .before .before .args .head .count) (subst (λ (x : ℕ). x < 64) (c .before .next-from .ensures) (c .if3 .taken)))
 
 count-requires : tie.Need-count-requires
 count-requires c κs = search needs
 
 returns-4 : tie.Need-returns-4
-unfolding first-no
+unfolding first-failed width-holds
 returns-4 c = let r = c .before .before .count .result in rw (runs (c .before .before .before .before .before .before .before), views (c .before .before .before .before .before), inside (c .before .before .before), sym (counted (c .before)) ∙ not-true (leb 1 r && leb r (c .before .before .before .before .before .before .before .before .before .args .head .plan .width)) (c .if4 .taken))
 
 returns-5 : tie.Need-returns-5
-unfolding first-no
+unfolding first-failed width-holds
 returns-5 c = let r = c .before .before .count .result in rw (runs (c .before .before .before .before .before .before .before), views (c .before .before .before .before .before), inside (c .before .before .before), sym (counted (c .before)) ∙ not-false (leb 1 r && leb r (c .before .before .before .before .before .before .before .before .before .args .head .plan .width)) (c .if4 .left))
 
 pub view-question-spec : {M : Type 1} → statement M

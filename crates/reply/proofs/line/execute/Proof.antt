@@ -8,8 +8,9 @@ use Rattle.day.specs.Day.{state-of}
 use Rattle.lines.specs.declared.Record.{Record}
 use Rattle.day.specs.declared.Outcome.{Outcome}
 use Rattle.day.specs.Calls.Call.{add-campaign, start-day, show-view, close-day}
-use Rattle.day.specs.Parts.{outcome-of, refusing}
-use Rattle.campaigns.specs.Inner.{Weights}
+use Rattle.day.specs.InPlace.{outcome-of}
+use Rattle.day.specs.Contracts.{refusing}
+use Rattle.campaigns.specs.Contracts.{Weights}
 use Rattle.reply.specs.Reply.{request, executed}
 use Rattle.reply.specs.Reply.Request.{fails}
 use Rattle.reply.proofs.Kept.{same-weights, refused-weights}

@@ -1,6 +1,6 @@
 -- The same depth and width are the same plan, whose weights the list has; another plan's are taken anew.
 use Rattle.campaigns.specs.declared.Plan.{Plan}
-use Rattle.campaigns.specs.Inner.{Weights}
+use Rattle.campaigns.specs.Contracts.{Weights}
 use Rattle.finite.proofs.Tests.{both-left, both-right}
 use borrow.Author.Tests.{eqb-true}
 use lib.Dec.{eqb}

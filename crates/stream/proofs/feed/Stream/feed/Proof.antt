@@ -4,7 +4,7 @@ use native.Mathlib.Omega.{arith}
 use lib.ListN.{length}
 use borrow.Author.Needs.{needs}
 use Rattle.campaigns.specs.declared.Head.{Head}
-use Rattle.campaigns.specs.Inner.{Room}
+use Rattle.campaigns.specs.Contracts.{Room}
 use Rattle.day.specs.Day.{state-of}
 use Rattle.batch.specs.Contracts.{position}
 use Rattle.stream.proofs.Streams.{feeds}

@@ -4,10 +4,10 @@ use borrow.Author.Needs.{needs}
 use borrow.Author.Tests.{not-true, not-false}
 use Rattle.day.specs.declared.Step.{Step}
 use Rattle.day.specs.Day.{state-of}
-use Rattle.day.specs.Parts.{asked, outcome-of}
+use Rattle.day.specs.InPlace.{asked, outcome-of}
 use Rattle.day.proofs.Questions.{unsound-refused}
-use Rattle.day.proofs.ops.obey.Statement.{statement}
-use Rattle.day.proofs.ops.obey.Tie as tie
+use Rattle.day.proofs.ops.execute.Statement.{statement}
+use Rattle.day.proofs.ops.execute.Tie as tie
 
 sized-requires : tie.Need-sized-requires
 sized-requires c κs = search needs
@@ -26,22 +26,22 @@ returns c =
     ap (λ (x : Step). outcome-of x (a .terms .now) (a .counts .now)) (c .refused .ensures)
     ∙ unsound-refused (state-of (a .head) (a .terms .now) (a .counts .now)) (asked (a .ask)) (p .ensures .sound-is ∙ not-true (p .result) (c .before .if1 .taken))
 
-obey-sound-requires : tie.Need-obey-sound-requires
-obey-sound-requires c κs =
+execute-sound-requires : tie.Need-execute-sound-requires
+execute-sound-requires c κs =
     let p = c .before .before .before .before .prepare in
     let e = not-false (p .result) (c .before .before .before .if1 .left) in
     (p .ensures .weights-are e, record { room = p .ensures .room; is-sound = p .ensures .sound-is ∙ e })
 
 returns-2 : tie.Need-returns-2
-returns-2 c = c .obey-sound .ensures
+returns-2 c = c .execute-sound .ensures
 
-pub obey-spec : {M : Type 1} → statement M
-obey-spec =
+pub execute-spec : {M : Type 1} → statement M
+execute-spec =
     tie.close
     (tie.spec
     sized-requires
     prepare-requires
     refused-requires
     returns
-    obey-sound-requires
+    execute-sound-requires
     returns-2)

@@ -1,7 +1,7 @@
 -- Each of the six arms is its operation, whose contract is the call that is asked for.
 use borrow.Author.Needs.{needs}
-use Rattle.day.proofs.ops.obey_sound.Statement.{statement}
-use Rattle.day.proofs.ops.obey_sound.Tie as tie
+use Rattle.day.proofs.ops.execute_sound.Statement.{statement}
+use Rattle.day.proofs.ops.execute_sound.Tie as tie
 
 enum-known-ask : tie.Need-enum-known-ask
 enum-known-ask c = search needs
@@ -57,8 +57,8 @@ returns-5 c = rw (c .before .before .before .before .ask4 .given .1) (c .tally-s
 returns-6 : tie.Need-returns-6
 returns-6 c = rw (c .before .before .before .enum-told2 .given .1) (c .close-sound .ensures)
 
-pub obey-sound-spec : {M : Type 1} → statement M
-obey-sound-spec =
+pub execute-sound-spec : {M : Type 1} → statement M
+execute-sound-spec =
     tie.close
     (tie.spec
     enum-known-ask

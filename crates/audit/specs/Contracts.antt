@@ -5,19 +5,21 @@ use lib.Dec.{leb, ltb, eqb}
 use Rattle.finite.specs.Finite.{sum, every}
 use Rattle.powers.specs.Power.{weight, share}
 use Rattle.campaigns.specs.declared.Campaign.{Campaign}
+use Rattle.campaigns.specs.declared.Head.{Head}
 use Rattle.campaigns.specs.declared.Phase.{Phase}
 use Rattle.campaigns.specs.declared.Phase.the-variants.{Filling, Running, Closed}
 use Rattle.campaigns.specs.declared.Plan.{Plan}
-use Rattle.campaigns.specs.Phase.{phase-holds}
-use Rattle.campaigns.specs.Campaign.{spending, price-fits, budget-fits, sound-plan, empty, sound-campaign}
+use Rattle.campaigns.specs.Limits.{max-campaigns, max-price, max-budget, max-views}
+use Rattle.campaigns.specs.Campaign.{spending, price-fits, budget-fits, sound-plan, empty}
 use Rattle.campaigns.specs.View.{full}
 use Rattle.audit.specs.declared.Audit.{Audit}
 use Rattle.audit.specs.declared.sums.Spent.{Spent}
 use Rattle.audit.specs.declared.sums.Sums.{Sums}
+use Rattle.audit.specs.Sound.{not-sound}
 
 -- the first tests of soundness: the plan's, and the limits of campaigns and views
-abbrev pub limits : Plan → (count accepted : ℕ) → Bool
-limits pl n a = sound-plan pl && leb n 64 && leb a 4_096
+abbrev pub limits : Head → Bool
+limits h = sound-plan (h .plan) && leb (h .count) max-campaigns && leb (h .accepted) max-views
 
 -- the tests of soundness on the first n campaigns, by columns
 unfoldable pub priced-columns : ℕ → (ℕ → Campaign) → Bool
@@ -67,7 +69,7 @@ unfoldable pub waited-of : Plan → ℕ → (ℕ → Campaign) → ℕ
 waited-of pl n f = sum n (λ i. f i .price * waiting pl (f i))
 
 pub record Entries-bounded (pl : Plan) (n : ℕ) (f : ℕ → Campaign) : Type 0 where
-  pub price-most : (i : ℕ) → i < n → f i .price ≤ 1_000_000
+  pub price-most : (i : ℕ) → i < n → f i .price ≤ max-price
   pub age-most : (i : ℕ) → i < n → f i .age ≤ pl .depth
 
 -- all of them, where each campaign has paid at most its budget
@@ -95,13 +97,9 @@ abbrev pub columns-hold : Phase → Plan → (accepted n : ℕ) → (ℕ → Cam
 columns-hold p pl a n f = priced-columns n f && ordered-columns (pl .depth) a n f && untouched-columns p n f &&
     empty-from n f
 
--- an audit that fails
-abbrev pub not-sound : Audit
-not-sound = record { sound = false; budgets = 0; takings = 0; claim = 0; full = 0 }
-
 -- the bounds under which the figures fit
 pub record Bounded (s : Sums) : Type 0 where
-  pub takings-bound : s .takings ≤ 2_000_000_000
+  pub takings-bound : s .takings ≤ max-budget
   pub turned-bound : s .turned ≤ 262_144_000_000
   pub waited-bound : s .waited ≤ 274_877_906_944_000_000
 
@@ -109,8 +107,8 @@ pub record Bounded (s : Sums) : Type 0 where
 abbrev pub claim-sum : Plan → Sums → ℕ
 claim-sum pl s = s .turned * share (pl .depth) (pl .width) + s .waited
 
-unfoldable pub settled : Plan → Sums → Audit
-settled pl s =
+unfoldable pub claim-checked : Plan → Sums → Audit
+claim-checked pl s =
     cond (leb (claim-sum pl s) (full pl (s .takings)))
     (record {
       sound = true;
@@ -119,13 +117,3 @@ settled pl s =
       claim = claim-sum pl s;
       full = full pl (s .takings);
     }) not-sound
-
--- the tests between the limits and the claim, on n campaigns f
-abbrev pub tested : Phase → Plan → (accepted n : ℕ) → (ℕ → Campaign) → Bool
-tested p pl a n f =
-    every n (λ i. sound-campaign p pl a (f i)) && empty-from n f && leb (sum n (λ i. f i .budget)) 2_000_000_000 &&
-    phase-holds p a (sum n (λ i. spending (f i)))
-
--- the audit of a record within its limits
-unfoldable pub examined : Phase → Plan → (accepted n : ℕ) → (ℕ → Campaign) → Audit
-examined p pl a n f = cond (tested p pl a n f) (settled pl (sums-of pl n f)) not-sound

@@ -6,8 +6,8 @@ use Prim.Native.Nat.{ℕ, _-_, _*_, _≤_}
 use native.Mathlib.Omega.{arith}
 use borrow.Author.Needs.{needs}
 use mathlib.Core.Path.{_≡_, refl, ap, _∙_}
-use Rattle.day.proofs.ops.budgeted.Statement.{statement}
-use Rattle.day.proofs.ops.budgeted.Tie as tie
+use Rattle.day.proofs.ops.total_budgets.Statement.{statement}
+use Rattle.day.proofs.ops.total_budgets.Tie as tie
 
 abbrev Inv-loop : tie.InvT-loop
 Inv-loop n terms counts all₀ i₀ all i = (i ≤ n) × (all ≡ sum i (λ j. campaign-at terms counts j .budget)) × (all ≤ i * 4_294_967_296)
@@ -49,8 +49,8 @@ loop-again c = let l = c .before .before .before .loop in (omega arith, omega (a
 returns : tie.Need-returns Inv-loop μ-loop
 returns c = let s = c .before .before in let e : c .before .loop .i ≡ s .args .n = omega arith in (c .before .loop .inv .1 ∙ ap (λ (m : ℕ). sum m (budget s)) e, omega (arith, c .before .loop .inv .2))
 
-pub budgeted-spec : {M : Type 1} → statement M
-budgeted-spec =
+pub total-budgets-spec : {M : Type 1} → statement M
+total-budgets-spec =
     tie.close
     (tie.spec
     Inv-loop

@@ -12,7 +12,7 @@ use Rattle.campaigns.specs.Choice.{Choice, role-of}
 use Rattle.campaigns.specs.Choice.Choice.{nobody, plays}
 use Rattle.campaigns.specs.Campaign.{can-pay, score, after, priced, campaign-at}
 use Rattle.campaigns.specs.View.{names, offer, figure, chosen-of}
-use Rattle.campaigns.specs.Inner.{Room}
+use Rattle.campaigns.specs.Contracts.{Room}
 use Rattle.choice.specs.declared.Leader.{Leader}
 
 -- the counts of campaign c at i

@@ -1,7 +1,7 @@
 // The six operations, each of any state whose arrays are lent.
 use crate::Call;
 use crate::Step;
-use crate::ops::obey;
+use crate::ops::execute;
 use campaigns::Head;
 use campaigns::Plan;
 use campaigns::Terms;
@@ -10,7 +10,7 @@ ghost use mathlib.Core.Path.{_≡_};
 ghost use Rattle.day.specs.Day.{state-of};
 ghost use Rattle.day.specs.Calls.{call};
 ghost use Rattle.day.specs.Calls.Call.{open-plan, add-campaign, start-day, show-view, ask-tally, close-day};
-ghost use Rattle.day.specs.Parts.{outcome-of};
+ghost use Rattle.day.specs.InPlace.{outcome-of};
 
 pub fn open<'a>(
     head: Head,
@@ -21,21 +21,21 @@ pub fn open<'a>(
     ensures { λ r. ⌜ outcome-of r (now (terms .exit)) (now (counts .exit))
         ≡ call (state-of head (now (terms .entry)) (now (counts .entry))) (open-plan plan) ⌝ }
 {
-    obey(head, Call::Open(plan), terms, counts)
+    execute(head, Call::Open(plan), terms, counts)
 }
 
 pub fn add<'a>(head: Head, t: Terms, terms: &'a mut [u32; 128], counts: &'a mut [u16; 256]) -> Step
     ensures { λ r. ⌜ outcome-of r (now (terms .exit)) (now (counts .exit))
         ≡ call (state-of head (now (terms .entry)) (now (counts .entry))) (add-campaign t) ⌝ }
 {
-    obey(head, Call::Add(t), terms, counts)
+    execute(head, Call::Add(t), terms, counts)
 }
 
 pub fn start<'a>(head: Head, terms: &'a mut [u32; 128], counts: &'a mut [u16; 256]) -> Step
     ensures { λ r. ⌜ outcome-of r (now (terms .exit)) (now (counts .exit))
         ≡ call (state-of head (now (terms .entry)) (now (counts .entry))) start-day ⌝ }
 {
-    obey(head, Call::Start, terms, counts)
+    execute(head, Call::Start, terms, counts)
 }
 
 pub fn view<'a>(
@@ -47,7 +47,7 @@ pub fn view<'a>(
     ensures { λ r. ⌜ outcome-of r (now (terms .exit)) (now (counts .exit))
         ≡ call (state-of head (now (terms .entry)) (now (counts .entry))) (show-view view) ⌝ }
 {
-    obey(head, Call::Show(view), terms, counts)
+    execute(head, Call::Show(view), terms, counts)
 }
 
 pub fn tally<'a>(
@@ -59,12 +59,12 @@ pub fn tally<'a>(
     ensures { λ r. ⌜ outcome-of r (now (terms .exit)) (now (counts .exit))
         ≡ call (state-of head (now (terms .entry)) (now (counts .entry))) (ask-tally campaign) ⌝ }
 {
-    obey(head, Call::Tally(campaign), terms, counts)
+    execute(head, Call::Tally(campaign), terms, counts)
 }
 
 pub fn close<'a>(head: Head, terms: &'a mut [u32; 128], counts: &'a mut [u16; 256]) -> Step
     ensures { λ r. ⌜ outcome-of r (now (terms .exit)) (now (counts .exit))
         ≡ call (state-of head (now (terms .entry)) (now (counts .entry))) close-day ⌝ }
 {
-    obey(head, Call::Close, terms, counts)
+    execute(head, Call::Close, terms, counts)
 }

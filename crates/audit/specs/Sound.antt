@@ -1,0 +1,45 @@
+-- Soundness: the tests of its sentence in document 01, of a state's head and its entries (f i is entry i); and the audit,
+-- which also gives the figures of a sound state.
+use mathlib.Core.Bool.{Bool, true, false, cond}
+use mathlib.Core.List.{List, [], _∷_}
+use Prim.Native.Nat.{ℕ}
+use lib.Dec.{leb, ltb}
+use Rattle.finite.specs.Finite.{all, every}
+use Rattle.campaigns.specs.declared.Campaign.{Campaign}
+use Rattle.campaigns.specs.declared.Head.{Head}
+use Rattle.campaigns.specs.Limits.{max-campaigns, max-budget, max-views}
+use Rattle.campaigns.specs.Phase.{phase-holds}
+use Rattle.campaigns.specs.Campaign.{sound-plan, empty, sound-campaign}
+use Rattle.campaigns.specs.View.{budgets, takings, claims, full}
+use Rattle.audit.specs.declared.Audit.{Audit}
+
+-- an entry of the record: a sound campaign, or past the last all zero
+abbrev pub sound-entry : Head → (ℕ → Campaign) → ℕ → Bool
+sound-entry h f i = cond (ltb i (h .count)) (sound-campaign (h .phase) (h .plan) (h .accepted) (f i)) (empty (f i))
+
+abbrev pub sound-tests : Head → (ℕ → Campaign) → List Bool
+sound-tests h f =
+    sound-plan (h .plan) ∷ leb (h .count) max-campaigns ∷ leb (h .accepted) max-views ∷ every 64 (sound-entry h f) ∷
+    leb (budgets (h .count) f) max-budget ∷
+    phase-holds (h .phase) (h .accepted) (takings (h .plan) (h .count) f) ∷
+    leb (claims (h .plan) (h .count) f) (full (h .plan) (takings (h .plan) (h .count) f)) ∷ []
+
+unfoldable pub sound-record : Head → (ℕ → Campaign) → Bool
+sound-record h f = all (sound-tests h f)
+
+-- an audit that fails
+abbrev pub not-sound : Audit
+not-sound = record { sound = false; budgets = 0; takings = 0; claim = 0; full = 0 }
+
+-- one that passes: the sum of the budgets, the takings, the total claim and full
+abbrev pub figures : Head → (ℕ → Campaign) → Audit
+figures h f = record {
+  sound = true;
+  budgets = budgets (h .count) f;
+  takings = takings (h .plan) (h .count) f;
+  claim = claims (h .plan) (h .count) f;
+  full = full (h .plan) (takings (h .plan) (h .count) f);
+}
+
+unfoldable pub audit-of : Head → (ℕ → Campaign) → Audit
+audit-of h f = cond (sound-record h f) (figures h f) not-sound
