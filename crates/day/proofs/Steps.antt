@@ -12,7 +12,8 @@ use Rattle.campaigns.specs.declared.Plan.{Plan}
 use Rattle.day.specs.declared.Day.{Day}
 use Rattle.day.specs.declared.Step.{Step}
 use Rattle.day.specs.Day.{state-of, empty-plan, sound}
-use Rattle.day.specs.Calls.{Call, own-questions, questions, first-failed, call}
+use Rattle.questions.specs.Questions.{first-failed}
+use Rattle.day.specs.Calls.{Call, own-questions, questions, call}
 use Rattle.day.specs.InPlace.{outcome-of}
 use Rattle.day.specs.Contracts.{refusing}
 use Rattle.day.proofs.Questions.{refused-is}

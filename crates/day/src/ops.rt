@@ -14,38 +14,19 @@ use campaigns::entry::entry;
 use campaigns::entry::sized;
 use campaigns::entry::wide32;
 use campaigns::weights::weights;
+use questions::add_question;
+use questions::plan_question;
 ghost use mathlib.Core.Path.{_≡_};
 ghost use Prim.Native.Nat.{_≤_};
 ghost use Rattle.finite.specs.Finite.{sum};
 ghost use Rattle.campaigns.specs.Campaign.{campaign-at};
 ghost use Rattle.campaigns.specs.Contracts.{Room, Weights};
 ghost use Rattle.day.specs.Day.{state-of};
-ghost use Rattle.day.specs.Calls.{first-failed, call};
+ghost use Rattle.day.specs.Calls.{call};
 ghost use Rattle.day.specs.Calls.Call.{open-plan, add-campaign, start-day, ask-tally, close-day};
 ghost use Rattle.day.specs.Day.{audited};
 ghost use Rattle.day.specs.InPlace.{outcome-of, asked};
 ghost use Rattle.day.specs.Contracts.{Kept, Ready};
-ghost use Rattle.day.specs.Calls.{plan-questions, add-questions};
-
-// The number of the first of questions 3 to 5 that a plan fails, or 0. The last is looked up in the table, unless
-// `deepest` already tells yes: a constant table is written to the stack at each use.
-fn plan_question(plan: Plan) -> u64
-    ensures { λ r. ⌜ r ≡ first-failed (plan-questions plan) ⌝ }
-{
-    if !plan.depth_fits() {
-        return 3;
-    }
-    if !plan.width_fits() {
-        return 4;
-    }
-    if plan.depth <= powers::deepest(plan.width) {
-        return 0;
-    }
-    if powers::power(plan.width, plan.depth) == 0 {
-        return 5;
-    }
-    0
-}
 
 // Whether the state is sound and, if so, its sums.
 pub fn audited<'a>(head: Head, terms: &'a [u32; 128], counts: &'a [u16; 256]) -> Audit
@@ -102,30 +83,6 @@ fn total_budgets<'a>(n: usize, terms: &'a [u32; 128], counts: &'a [u16; 256]) ->
         all = all + wide32(terms[i + 64]);
     }
     all
-}
-
-// The number of the first of questions 6 to 10 that an adding fails, or 0.
-fn add_question(head: Head, t: Terms, budgets: u64) -> u64
-    requires { ⌜ budgets ≤ 274877906944 ⌝ }
-    ensures { λ r. ⌜ r ≡ first-failed (add-questions head t budgets) ⌝ }
-{
-    let phase = head.phase;
-    if !phase.filling() {
-        return 6;
-    }
-    if Plan::MAX_CAMPAIGNS <= head.count {
-        return 7;
-    }
-    if !t.price_fits() {
-        return 8;
-    }
-    if !t.budget_fits() {
-        return 9;
-    }
-    if Terms::MAX_BUDGET < budgets + t.budget {
-        return 10;
-    }
-    0
 }
 
 // One campaign more, with zero counts.

@@ -1,42 +1,19 @@
-// A view: its questions, the choice, and what it does to the named campaigns.
+// A view of a sound state: its questions, the choice, and what it does to the named campaigns.
 use crate::Answer;
 use crate::Step;
 use campaigns::Head;
-use campaigns::Plan;
 use campaigns::View;
 use choice::Leader;
 use choice::play;
+use questions::view_question;
 ghost use mathlib.Core.Path.{_≡_};
 ghost use Rattle.campaigns.specs.Contracts.{Weights};
 ghost use Rattle.day.specs.Day.{state-of};
-ghost use Rattle.day.specs.Calls.{first-failed, call};
+ghost use Rattle.day.specs.Calls.{call};
 ghost use Rattle.day.specs.Calls.Call.{show-view};
 ghost use Rattle.day.specs.InPlace.{outcome-of};
 ghost use Rattle.day.specs.Contracts.{Kept};
-ghost use Rattle.day.specs.Calls.{view-questions};
 ghost use Rattle.day.specs.Contracts.{answer-of};
-
-// The number of the first of questions 11 to 14 that a view fails, or 0.
-fn view_question(head: Head, view: View) -> u64
-    ensures { λ r. ⌜ r ≡ first-failed (view-questions head view) ⌝ }
-{
-    let phase = head.phase;
-    if !phase.running() {
-        return 11;
-    }
-    if Plan::MAX_VIEWS <= head.accepted {
-        return 12;
-    }
-    let set = view.set;
-    if sets::next_from(set, head.count) < 64 {
-        return 13;
-    }
-    let named = sets::count(set);
-    if !((1 <= named) & (named <= head.plan.width)) {
-        return 14;
-    }
-    0
-}
 
 // Who plays, and what is paid.
 fn view_answer(leader: Leader) -> Answer

@@ -8,7 +8,8 @@ use Rattle.campaigns.specs.Campaign.{whole, claim, sound-plan, priced, counted,
 use Rattle.audit.specs.Sound.{sound-record}
 use Rattle.day.specs.Day.{blank, total-takings, total-claim, total-budgets}
 use Rattle.day.specs.Day.{sound}
-use Rattle.day.specs.Calls.{first-failed, width-holds, call}
+use Rattle.questions.specs.Questions.{first-failed, width-holds}
+use Rattle.day.specs.Calls.{call}
 use Rattle.demands.specs.Transcript.{transcript, final}
 use Rattle.demands.specs.Cases.{All-hold, cases}
 

@@ -5,7 +5,8 @@ use Rattle.campaigns.specs.Choice.{Choice}
 use Rattle.campaigns.specs.Choice.Choice.{nobody, plays}
 use Rattle.day.specs.declared.Day.{Day}
 use Rattle.day.specs.declared.Answer.the-variants.{Refused}
-use Rattle.day.specs.Calls.{number, first-failed, Call, questions, offers, player, view-answer, result, answered, call}
+use Rattle.questions.specs.Questions.{first-failed}
+use Rattle.day.specs.Calls.{number, Call, questions, offers, player, view-answer, result, answered, call}
 use Rattle.day.specs.Calls.Call.{open-plan, add-campaign, start-day, show-view, ask-tally, close-day}
 
 told-number : (x : ℕ → ℕ) (ch : Choice) → number (view-answer x ch) ≡ 0

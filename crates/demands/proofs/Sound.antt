@@ -29,7 +29,8 @@ use Rattle.day.specs.Day.{campaign, state-with, in-phase, no-terms, empty-plan,
 use Rattle.audit.specs.Sound.{sound-entry, sound-tests, sound-record}
 use Rattle.day.specs.Day.{head-of, sound}
 use Rattle.campaigns.specs.Phase.{phase-holds}
-use Rattle.day.specs.Calls.{number, Call, width-holds, questions, result, with-campaign, player, shown, call}
+use Rattle.questions.specs.Questions.{width-holds}
+use Rattle.day.specs.Calls.{number, Call, questions, result, with-campaign, player, shown, call}
 use Rattle.day.specs.Calls.Call.{open-plan, add-campaign, start-day, show-view, ask-tally, close-day}
 use Rattle.day.proofs.Questions.{Yes, call-elim}
 use Rattle.day.proofs.State.{filling-is, Sound, sound-facts, sound-at, held-at, empty-at, campaign-of-state}

@@ -12,7 +12,8 @@ use Rattle.campaigns.specs.View.{able, figure, full}
 use Rattle.day.specs.declared.Day.{Day}
 use Rattle.day.specs.Day.{campaign, total-takings, total-claim}
 use Rattle.day.specs.Day.{sound}
-use Rattle.day.specs.Calls.{number, values, first-failed, Call, questions, player, offers, call}
+use Rattle.questions.specs.Questions.{first-failed}
+use Rattle.day.specs.Calls.{number, values, Call, questions, player, offers, call}
 use Rattle.day.specs.Calls.Call.{open-plan, add-campaign, start-day, show-view, ask-tally, close-day}
 use Rattle.demands.specs.Choice.{Right}
 

@@ -21,7 +21,8 @@ use Rattle.lines.specs.Reading.{slot-at, names-at, numeral-at, digits, is-digit
 use Rattle.writer.specs.Writing.{line}
 use Rattle.audit.specs.Sound.{sound-record}
 use Rattle.day.specs.Day.{blank, total-takings, total-claim, total-budgets, sound}
-use Rattle.day.specs.Calls.{first-failed, width-holds, call}
+use Rattle.questions.specs.Questions.{first-failed, width-holds}
+use Rattle.day.specs.Calls.{call}
 use Rattle.reply.specs.Reply.{reply, reply-text, next, outcome, tallies}
 use Rattle.reply.specs.Session.{Session, after-byte, fed, consumed-count, upto}
 use Rattle.reply.proofs.Sessions.{fed-append}

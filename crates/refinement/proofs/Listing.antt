@@ -17,7 +17,8 @@ use Rattle.campaigns.specs.Campaign.{whole, claim, sound-plan, sound-campaign, 
 use Rattle.audit.specs.Sound.{sound-record}
 use Rattle.day.specs.Day.{no-terms, blank, total-takings, total-claim, total-budgets}
 use Rattle.day.specs.Day.{sound}
-use Rattle.day.specs.Calls.{Call, first-failed, width-holds, call}
+use Rattle.questions.specs.Questions.{first-failed, width-holds}
+use Rattle.day.specs.Calls.{Call, call}
 use Rattle.day.specs.Calls.Call.{open-plan, add-campaign, start-day, show-view, close-day}
 use Rattle.demands.specs.Transcript.{transcript, final}
 use Rattle.floor.specs.History.{continued, history}

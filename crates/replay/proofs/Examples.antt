@@ -11,7 +11,8 @@ use Rattle.audit.specs.Sound.{sound-record}
 use Rattle.day.specs.declared.Day.{Day}
 use Rattle.day.specs.Day.{blank, total-takings, total-claim, total-budgets}
 use Rattle.day.specs.Day.{sound}
-use Rattle.day.specs.Calls.{first-failed, width-holds, Call, call}
+use Rattle.questions.specs.Questions.{first-failed, width-holds}
+use Rattle.day.specs.Calls.{Call, call}
 use Rattle.demands.specs.Transcript.{transcript, final}
 use Rattle.floor.specs.History.{Starts, continued, history}
 use Rattle.floor.specs.History.Starts.{from-blank, from-opening}

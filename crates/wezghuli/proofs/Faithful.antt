@@ -18,8 +18,9 @@ use Rattle.day.specs.declared.Answer.the-variants.{Refused, Done, Played, Nobod
 use Rattle.day.specs.declared.Day.{Day}
 use Rattle.day.specs.declared.Outcome.{Outcome}
 use Rattle.day.specs.Day.{state-of}
-use Rattle.day.specs.Calls.{Call, call, number, answered, result, view-answer, offers, player, Question, question, questions}
-use Rattle.day.specs.Calls.{first-failed}
+use Rattle.questions.specs.Questions.{Question, question}
+use Rattle.day.specs.Calls.{Call, call, number, answered, result, view-answer, offers, player, questions}
+use Rattle.questions.specs.Questions.{first-failed}
 use Rattle.day.specs.Calls.Call.{open-plan, add-campaign, start-day, show-view, ask-tally, close-day}
 use Rattle.day.specs.Day as states
 use Rattle.lines.specs.declared.Record.{Record}

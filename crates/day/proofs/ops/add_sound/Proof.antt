@@ -13,9 +13,10 @@ use borrow.Author.Tests.{leb-true, ltb-true}
 use Rattle.finite.proofs.Tests.{both-right}
 use Rattle.day.specs.declared.Answer.the-variants.{Done}
 use Rattle.day.specs.declared.Outcome.{Outcome}
-use Rattle.day.specs.Calls.{first-failed, questions}
+use Rattle.questions.specs.Questions.{first-failed}
+use Rattle.day.specs.Calls.{questions}
 use Rattle.day.specs.Calls.Call.{add-campaign}
-use Rattle.day.specs.Calls.{add-questions}
+use Rattle.questions.specs.Questions.{add-questions}
 use Rattle.day.proofs.State.{sound-facts, joined-is}
 use Rattle.day.proofs.Questions.{Yes, asked-yes, call-yes}
 use Rattle.day.proofs.Steps.{steps-refused, own-asks}

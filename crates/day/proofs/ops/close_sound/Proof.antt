@@ -11,7 +11,8 @@ use Rattle.audit.specs.declared.Audit.{Audit}
 use Rattle.day.specs.declared.Answer.the-variants.{Closing}
 use Rattle.day.specs.declared.Outcome.{Outcome}
 use Rattle.day.specs.Day.{campaign, in-phase, total-takings, total-claim, sound}
-use Rattle.day.specs.Calls.{first-failed, questions}
+use Rattle.questions.specs.Questions.{first-failed}
+use Rattle.day.specs.Calls.{questions}
 use Rattle.day.specs.Calls.Call.{close-day}
 use Rattle.day.proofs.Questions.{call-yes}
 use Rattle.audit.proofs.Audits.{sound-within, audit-figures}

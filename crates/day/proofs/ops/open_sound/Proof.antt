@@ -9,7 +9,8 @@ use Rattle.campaigns.specs.Phase.{is-closed}
 use Rattle.campaigns.specs.declared.Phase.the-variants.{Filling}
 use Rattle.day.specs.declared.Answer.the-variants.{Done}
 use Rattle.day.specs.declared.Outcome.{Outcome}
-use Rattle.day.specs.Calls.{first-failed, questions}
+use Rattle.questions.specs.Questions.{first-failed}
+use Rattle.day.specs.Calls.{questions}
 use Rattle.day.specs.Calls.Call.{open-plan}
 use Rattle.day.proofs.Questions.{accepted-is}
 use Rattle.day.proofs.Steps.{steps-refused, planned-is}

@@ -6,7 +6,8 @@ use native.Mathlib.Omega.{arith}
 use Rattle.day.specs.declared.Day.{Day}
 use Rattle.day.specs.Day.{state-of}
 use Rattle.campaigns.specs.Phase.{is-filling}
-use Rattle.day.specs.Calls.{first-failed, questions}
+use Rattle.questions.specs.Questions.{first-failed}
+use Rattle.day.specs.Calls.{questions}
 use Rattle.day.specs.Calls.Call.{start-day}
 use Rattle.day.proofs.Questions.{call-yes}
 use Rattle.day.proofs.Steps.{steps-refused}

@@ -8,7 +8,8 @@ use Rattle.day.specs.Day.{state-of}
 use borrow.Author.Tests.{lt-ltb, le-ltb}
 use Rattle.campaigns.specs.declared.Campaign.{Campaign}
 use Rattle.day.specs.declared.Outcome.{Outcome}
-use Rattle.day.specs.Calls.{first-failed, questions, tally-of}
+use Rattle.questions.specs.Questions.{first-failed}
+use Rattle.day.specs.Calls.{questions, tally-of}
 use Rattle.day.specs.Calls.Call.{ask-tally}
 use Rattle.day.proofs.State.{sound-facts}
 use Rattle.day.proofs.Questions.{call-yes}

@@ -1,5 +1,5 @@
 -- Questions 6 to 10 in turn: each return is the first "no", and the sum that question 10 compares cannot overflow.
-use Rattle.day.specs.Calls.{first-failed}
+use Rattle.questions.specs.Questions.{first-failed}
 use Rattle.campaigns.specs.Phase.{is-filling}
 use Rattle.campaigns.specs.Campaign.{price-fits, budget-fits}
 use Rattle.campaigns.specs.Limits.{max-budget}
@@ -11,8 +11,8 @@ use native.Mathlib.Omega.{arith}
 use mathlib.Core.Bool.{true, false}
 use mathlib.Core.Path.{_≡_, sym, _∙_}
 use borrow.Author.Needs.{needs}
-use Rattle.day.proofs.ops.add_question.Statement.{statement}
-use Rattle.day.proofs.ops.add_question.Tie as tie
+use Rattle.questions.proofs.add_question.Statement.{statement}
+use Rattle.questions.proofs.add_question.Tie as tie
 
 fills : (c : tie.Else1) → is-filling (c .before .before .args .head .phase) ≡ true
 fills c = sym (c .before .filling .ensures) ∙ not-false (c .before .filling .result) (c .if1 .left)

@@ -1,6 +1,6 @@
 -- Questions 11 to 14 in turn: a member from the count on is one that is not in the plan, and the size of the set is
 -- held to the width.
-use Rattle.day.specs.Calls.{first-failed, width-holds}
+use Rattle.questions.specs.Questions.{first-failed, width-holds}
 use Rattle.campaigns.specs.Phase.{is-running}
 use Rattle.sets.proofs.Walk.{within-next, within-not}
 use Rattle.campaigns.specs.Limits.{max-views}
@@ -11,8 +11,8 @@ use Prim.Native.Nat.{ℕ, _<_, _≤_}
 use mathlib.Core.Bool.{true, _&&_}
 use mathlib.Core.Path.{_≡_, ap, sym, subst, _∙_}
 use borrow.Author.Needs.{needs}
-use Rattle.day.proofs.view.view_question.Statement.{statement}
-use Rattle.day.proofs.view.view_question.Tie as tie
+use Rattle.questions.proofs.view_question.Statement.{statement}
+use Rattle.questions.proofs.view_question.Tie as tie
 
 runs : (c : tie.Else1) → is-running (c .before .before .args .head .phase) ≡ true
 runs c = sym (c .before .running .ensures) ∙ not-false (c .before .running .result) (c .if1 .left)

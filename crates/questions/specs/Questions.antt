@@ -1,0 +1,47 @@
+-- Questions at the door: the first "no", and the questions that need no more of a state than its head.
+use mathlib.Core.Bool.{Bool, cond, _&&_}
+use mathlib.Core.List.{List, [], _∷_}
+use Prim.Native.Nat.{ℕ, _+_}
+use lib.Dec.{leb, ltb}
+use Rattle.sets.specs.Set.{size, within}
+use Rattle.campaigns.specs.declared.Head.{Head}
+use Rattle.campaigns.specs.declared.Plan.{Plan}
+use Rattle.campaigns.specs.declared.Terms.{Terms}
+use Rattle.campaigns.specs.declared.View.{View}
+use Rattle.campaigns.specs.Limits.{max-campaigns, max-budget, max-views}
+use Rattle.campaigns.specs.Campaign.{depth-fits, width-fits, power-fits, price-fits, budget-fits}
+use Rattle.campaigns.specs.Phase.{is-filling, is-running}
+
+-- a question at the door, and whether the answer to it is yes
+pub record Question : Type 0 where
+  pub asked : ℕ
+  pub yes : Bool
+
+abbrev pub question : ℕ → Bool → Question
+question n b = record { asked = n; yes = b }
+
+-- the number of the first "no", or 0
+unfoldable pub first-failed : List Question → ℕ
+first-failed [] = 0
+first-failed (q ∷ qs) = cond (q .yes) (first-failed qs) (q .asked)
+
+-- questions 3 to 5
+abbrev pub plan-questions : Plan → List Question
+plan-questions pl = question 3 (depth-fits pl) ∷ question 4 (width-fits pl) ∷ question 5 (power-fits pl) ∷ []
+
+-- questions 6 to 10, where the budgets so far sum to b
+abbrev pub add-questions : Head → Terms → (b : ℕ) → List Question
+add-questions h t b =
+    question 6 (is-filling (h .phase)) ∷ question 7 (ltb (h .count) max-campaigns) ∷
+    question 8 (price-fits (t .price)) ∷ question 9 (budget-fits (t .price) (t .budget)) ∷
+    question 10 (leb (b + t .budget) max-budget) ∷ []
+
+-- question 14: are from 1 to d campaigns named
+unfoldable pub width-holds : Head → View → Bool
+width-holds h w = leb 1 (size (w .set)) && leb (size (w .set)) (h .plan .width)
+
+-- questions 11 to 14
+abbrev pub view-questions : Head → View → List Question
+view-questions h w =
+    question 11 (is-running (h .phase)) ∷ question 12 (ltb (h .accepted) max-views) ∷
+    question 13 (within (h .count) (w .set)) ∷ question 14 (width-holds h w) ∷ []

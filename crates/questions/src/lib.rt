@@ -1,0 +1,74 @@
+// Questions 3 to 14 at the door, each list in its order: the number of the first "no", or 0.
+use campaigns::Head;
+use campaigns::Plan;
+use campaigns::Terms;
+use campaigns::View;
+ghost use mathlib.Core.Path.{_≡_};
+ghost use Prim.Native.Nat.{_≤_};
+ghost use Rattle.questions.specs.Questions.{first-failed, plan-questions, add-questions, view-questions};
+
+// The number of the first of questions 3 to 5 that a plan fails, or 0. The last is looked up in the table, unless
+// `deepest` already tells yes: a constant table is written to the stack at each use.
+pub fn plan_question(plan: Plan) -> u64
+    ensures { λ r. ⌜ r ≡ first-failed (plan-questions plan) ⌝ }
+{
+    if !plan.depth_fits() {
+        return 3;
+    }
+    if !plan.width_fits() {
+        return 4;
+    }
+    if plan.depth <= powers::deepest(plan.width) {
+        return 0;
+    }
+    if powers::power(plan.width, plan.depth) == 0 {
+        return 5;
+    }
+    0
+}
+
+// The number of the first of questions 6 to 10 that an adding fails, or 0.
+pub fn add_question(head: Head, t: Terms, budgets: u64) -> u64
+    requires { ⌜ budgets ≤ 274877906944 ⌝ }
+    ensures { λ r. ⌜ r ≡ first-failed (add-questions head t budgets) ⌝ }
+{
+    let phase = head.phase;
+    if !phase.filling() {
+        return 6;
+    }
+    if Plan::MAX_CAMPAIGNS <= head.count {
+        return 7;
+    }
+    if !t.price_fits() {
+        return 8;
+    }
+    if !t.budget_fits() {
+        return 9;
+    }
+    if Terms::MAX_BUDGET < budgets + t.budget {
+        return 10;
+    }
+    0
+}
+
+// The number of the first of questions 11 to 14 that a view fails, or 0.
+pub fn view_question(head: Head, view: View) -> u64
+    ensures { λ r. ⌜ r ≡ first-failed (view-questions head view) ⌝ }
+{
+    let phase = head.phase;
+    if !phase.running() {
+        return 11;
+    }
+    if Plan::MAX_VIEWS <= head.accepted {
+        return 12;
+    }
+    let set = view.set;
+    if sets::next_from(set, head.count) < 64 {
+        return 13;
+    }
+    let named = sets::count(set);
+    if !((1 <= named) & (named <= head.plan.width)) {
+        return 14;
+    }
+    0
+}
