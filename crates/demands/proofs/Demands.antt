@@ -7,19 +7,19 @@ use Rattle.day.specs.declared.Day.{Day}
 use Rattle.day.specs.declared.Outcome.{Outcome}
 use Rattle.day.specs.Calls.{values, Call, view-answer, offers, player, result}
 use Rattle.day.specs.Calls.Call.{open-plan, add-campaign, start-day, show-view, ask-tally, close-day}
-use Rattle.demands.specs.Demands.{shown-values, given, Answers}
+use Rattle.demands.specs.Demands.{view-values, accepted-values, Answers}
 use Rattle.demands.proofs.Refusals.{call-number, refused-unchanged, accepted-result}
 use Rattle.demands.proofs.Sound.{sound-kept}
 
-told-values : (x : ℕ → ℕ) (ch : Choice) → values (view-answer x ch) ≡ shown-values x ch
-told-values x nobody = refl
-told-values x (plays m) = refl
+view-answer-values : (x : ℕ → ℕ) (ch : Choice) → values (view-answer x ch) ≡ view-values x ch
+view-answer-values x nobody = refl
+view-answer-values x (plays m) = refl
 
-result-values : (s : Day) (c : Call) → values (result s c .answer) ≡ given s c
+result-values : (s : Day) (c : Call) → values (result s c .answer) ≡ accepted-values s c
 result-values s (open-plan pl) = refl
 result-values s (add-campaign t) = refl
 result-values s start-day = refl
-result-values s (show-view w) = told-values (offers s w) (player s w)
+result-values s (show-view w) = view-answer-values (offers s w) (player s w)
 result-values s (ask-tally i) = refl
 result-values s close-day = refl
 

@@ -3,7 +3,7 @@ pub mod Potential
 pub mod OnePrice
 pub mod Laws
 pub mod Step
-pub mod Holding
+pub mod States
 pub mod SoundCampaign
 pub mod Sound
 pub mod Refusals

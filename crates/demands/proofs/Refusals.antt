@@ -9,15 +9,15 @@ use Rattle.questions.specs.Questions.{first-failed}
 use Rattle.day.specs.Calls.{number, Call, questions, offers, player, view-answer, result, answered, call}
 use Rattle.day.specs.Calls.Call.{open-plan, add-campaign, start-day, show-view, ask-tally, close-day}
 
-told-number : (x : ℕ → ℕ) (ch : Choice) → number (view-answer x ch) ≡ 0
-told-number x nobody = refl
-told-number x (plays m) = refl
+view-answer-number : (x : ℕ → ℕ) (ch : Choice) → number (view-answer x ch) ≡ 0
+view-answer-number x nobody = refl
+view-answer-number x (plays m) = refl
 
 pub result-number : (s : Day) (c : Call) → number (result s c .answer) ≡ 0
 result-number s (open-plan pl) = refl
 result-number s (add-campaign t) = refl
 result-number s start-day = refl
-result-number s (show-view w) = told-number (offers s w) (player s w)
+result-number s (show-view w) = view-answer-number (offers s w) (player s w)
 result-number s (ask-tally i) = refl
 result-number s close-day = refl
 

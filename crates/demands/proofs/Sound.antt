@@ -36,7 +36,7 @@ use Rattle.day.proofs.Questions.{Yes, call-elim}
 use Rattle.day.proofs.State.{filling-is, Sound, sound-facts, sound-at, held-at, empty-at, campaign-of-state}
 use Rattle.demands.proofs.Laws.{claim-of, claim-fresh}
 use Rattle.demands.proofs.Step.{able-few, takings-step, claims-step}
-use Rattle.demands.proofs.Holding.{sum-holding, joined-old, joined-new, sum-joined, takings-joined}
+use Rattle.demands.proofs.States.{sum-state-with, with-campaign-old, with-campaign-new, sum-with-campaign, takings-with-campaign}
 use Rattle.demands.proofs.SoundCampaign.{campaign-sound, becomes-sound, fresh-sound}
 
 -- all that makes the state that holds n campaigns, f i at entry i, a sound one
@@ -58,25 +58,25 @@ whole-sound s h = all-of (sound-tests (head-of s) (campaign s)) (h .plan-sound, 
     go i l true e = rw e (h .entry i (ltb-true i (s .count) e))
     go i l false e = rw e (h .past i (ltb-false i (s .count) e) l)
 
-sound-holding : (p : Phase) (pl : Plan) (n a : ℕ) (f : ℕ → Campaign) → Whole p pl n a f → sound (state-with p pl n a f) ≡ true
-sound-holding p pl n a f h =
-    let ta : takings pl n (campaign (state-with p pl n a f)) ≡ takings pl n f = sum-holding p pl n a f spending (h .few) in
-    let cl : claims pl n (campaign (state-with p pl n a f)) ≡ claims pl n f = sum-holding p pl n a f (claim-of pl) (h .few) in
+sound-state-with : (p : Phase) (pl : Plan) (n a : ℕ) (f : ℕ → Campaign) → Whole p pl n a f → sound (state-with p pl n a f) ≡ true
+sound-state-with p pl n a f h =
+    let ta : takings pl n (campaign (state-with p pl n a f)) ≡ takings pl n f = sum-state-with p pl n a f spending (h .few) in
+    let cl : claims pl n (campaign (state-with p pl n a f)) ≡ claims pl n f = sum-state-with p pl n a f (claim-of pl) (h .few) in
     whole-sound (state-with p pl n a f) (record {
       plan-sound = h .plan-sound;
       few = h .few;
       views = h .views;
       entry = λ i l. rw (campaign-of-state p pl n a f i (lt-of-lt-of-le l (h .few))) (h .entry i l);
       past = λ i l m. rw (campaign-of-state p pl n a f i m) (h .past i l m);
-      budgets = rw (sum-holding p pl n a f (λ c. c .budget) (h .few)) (h .budgets);
+      budgets = rw (sum-state-with p pl n a f (λ c. c .budget) (h .few)) (h .budgets);
       phased = rw ta (h .phased);
       covered = rw (ta, cl) (h .covered);
     })
 
 -- a plan with no campaigns
-sound-planned : (p : Phase) (pl : Plan) → sound-plan pl ≡ true → phase-holds p 0 0 ≡ true → sound (empty-plan p pl) ≡ true
+sound-empty-plan : (p : Phase) (pl : Plan) → sound-plan pl ≡ true → phase-holds p 0 0 ≡ true → sound (empty-plan p pl) ≡ true
 unfolding empty uncounted
-sound-planned p pl e h = sound-holding p pl 0 0 (λ i. fresh no-terms) (record {
+sound-empty-plan p pl e h = sound-state-with p pl 0 0 (λ i. fresh no-terms) (record {
   plan-sound = e;
   few = omega arith;
   views = omega arith;
@@ -89,7 +89,7 @@ sound-planned p pl e h = sound-holding p pl 0 0 (λ i. fresh no-terms) (record {
 
 pub blank-sound : sound blank ≡ true
 unfolding blank sound-plan
-blank-sound = sound-planned (Closed 0) blank-plan refl refl
+blank-sound = sound-empty-plan (Closed 0) blank-plan refl refl
 
 budget-aged : (b : Bool) (c : Campaign) → aged b c .budget ≡ c .budget
 budget-aged true c = refl
@@ -133,18 +133,18 @@ module _ (s : Day) (h : Sound s) where
         let f : s .phase ≡ Filling = filling-is (s .phase) e6 in
         let room : s .count < 64 = ltb-true (s .count) 64 e7 in
         let next : s .count + 1 ≡ suc (s .count) = omega arith in
-        sound-holding Filling (s .plan) (s .count + 1) (s .accepted) (with-campaign s t) (record {
+        sound-state-with Filling (s .plan) (s .count + 1) (s .accepted) (with-campaign s t) (record {
           plan-sound = h .plan-sound;
           few = omega arith;
           views = h .views;
           entry = λ i l. one-more (λ j. sound-campaign Filling (s .plan) (s .accepted) (with-campaign s t j) ≡ true) (s .count)
-              (λ j m. rw (joined-old s t j (λ e. omega arith), ← f) (sound-at s h j m))
-              (rw (joined-new s t) (fresh-sound Filling (s .plan) (s .accepted) t (sized .deep) e8 e9))
+              (λ j m. rw (with-campaign-old s t j (λ e. omega arith), ← f) (sound-at s h j m))
+              (rw (with-campaign-new s t) (fresh-sound Filling (s .plan) (s .accepted) t (sized .deep) e8 e9))
               i (omega arith);
-          past = λ i l m. rw (joined-old s t i (λ e. omega arith)) (empty-at s h i (omega arith) m);
-          budgets = omega (arith, sum-joined s t (λ c. c .budget), leb-true (sum (s .count) (λ i. campaign s i .budget) + t .budget) max-budget e10);
+          past = λ i l m. rw (with-campaign-old s t i (λ e. omega arith)) (empty-at s h i (omega arith) m);
+          budgets = omega (arith, sum-with-campaign s t (λ c. c .budget), leb-true (sum (s .count) (λ i. campaign s i .budget) + t .budget) max-budget e10);
           phased = subst (λ (p : Phase). phase-holds p (s .accepted) (takings (s .plan) (s .count) (campaign s)) ≡ true) f (h .phased);
-          covered = omega (arith, covered-claims, sum-joined s t (claim-of (s .plan)), claim-fresh (s .plan) sized t, ap (full (s .plan)) (takings-joined s t));
+          covered = omega (arith, covered-claims, sum-with-campaign s t (claim-of (s .plan)), claim-fresh (s .plan) sized t, ap (full (s .plan)) (takings-with-campaign s t));
         })
 
   module _ (w : View) where
@@ -156,7 +156,7 @@ module _ (s : Day) (h : Sound s) where
 
     sound-shown : Yes (questions s (show-view w)) → sound (state-with Running (s .plan) (s .count) (s .accepted + 1) (shown s w)) ≡ true
     unfolding total-budgets
-    sound-shown (e1, (e11, (e12, (e13, (e14, _))))) = sound-holding Running (s .plan) (s .count) (s .accepted + 1) (shown s w) (record {
+    sound-shown (e1, (e11, (e12, (e13, (e14, _))))) = sound-state-with Running (s .plan) (s .count) (s .accepted + 1) (shown s w) (record {
       plan-sound = h .plan-sound;
       few = h .few;
       views = omega (arith, ltb-true (s .accepted) max-views e12);
@@ -170,7 +170,7 @@ module _ (s : Day) (h : Sound s) where
 -- an opening that is accepted gives a sound state
 opened-sound : (s : Day) (pl : Plan) → Yes (questions s (open-plan pl)) → sound (empty-plan Filling pl) ≡ true
 unfolding sound-plan
-opened-sound s pl (e1, (e2, (e3, (e4, (e5, _))))) = sound-planned Filling pl (joint-of (depth-fits pl) (width-fits pl ∷ power-fits pl ∷ []) (e3, (e4, (e5, tt)))) refl
+opened-sound s pl (e1, (e2, (e3, (e4, (e5, _))))) = sound-empty-plan Filling pl (joint-of (depth-fits pl) (width-fits pl ∷ power-fits pl ∷ []) (e3, (e4, (e5, tt)))) refl
 
 -- every call keeps a sound state sound
 pub sound-kept : (s : Day) (c : Call) → sound s ≡ true → sound (call s c .day) ≡ true

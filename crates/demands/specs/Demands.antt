@@ -19,17 +19,17 @@ use Rattle.demands.specs.Choice.{Right}
 
 -- the values of the answer to an accepted call: the player and the price of this one play; the four counts; takings,
 -- claim and full
-abbrev pub shown-values : (ℕ → ℕ) → Choice → List ℕ
-shown-values x nobody = []
-shown-values x (plays m) = m ∷ x m ∷ []
+abbrev pub view-values : (ℕ → ℕ) → Choice → List ℕ
+view-values x nobody = []
+view-values x (plays m) = m ∷ x m ∷ []
 
-abbrev pub given : Day → Call → List ℕ
-given s (open-plan pl) = []
-given s (add-campaign t) = []
-given s start-day = []
-given s (show-view w) = shown-values (offers s w) (player s w)
-given s (ask-tally i) = campaign s i .plays ∷ campaign s i .turns ∷ campaign s i .age ∷ campaign s i .named ∷ []
-given s close-day = total-takings s ∷ total-claim s ∷ full (s .plan) (total-takings s) ∷ []
+abbrev pub accepted-values : Day → Call → List ℕ
+accepted-values s (open-plan pl) = []
+accepted-values s (add-campaign t) = []
+accepted-values s start-day = []
+accepted-values s (show-view w) = view-values (offers s w) (player s w)
+accepted-values s (ask-tally i) = campaign s i .plays ∷ campaign s i .turns ∷ campaign s i .age ∷ campaign s i .named ∷ []
+accepted-values s close-day = total-takings s ∷ total-claim s ∷ full (s .plan) (total-takings s) ∷ []
 
 pub record Answers (s : Day) (c : Call) : Type 0 where
   -- the number of the first question that fails, or 0
@@ -37,7 +37,7 @@ pub record Answers (s : Day) (c : Call) : Type 0 where
   -- a refusal answers its number alone and leaves the state
   pub refusal : (number (call s c .answer) ≡ 0 → ⊥) → (call s c .day ≡ s)
       × (values (call s c .answer) ≡ first-failed (questions s c) ∷ [])
-  pub values-are : number (call s c .answer) ≡ 0 → values (call s c .answer) ≡ given s c
+  pub values-are : number (call s c .answer) ≡ 0 → values (call s c .answer) ≡ accepted-values s c
   pub keeps-sound : sound s ≡ true → sound (call s c .day) ≡ true
 
 -- the player of a view is rule 1's, among the named campaigns that can pay

@@ -26,7 +26,7 @@ use Rattle.day.specs.Calls.{Call}
 use Rattle.day.proofs.State.{Sound, sound-facts, held-at}
 use Rattle.demands.specs.Transcript.{transcript, final}
 use Rattle.demands.proofs.Laws.{claim-of, claim-turns}
-use Rattle.floor.specs.History.{Starts, History, history}
+use Rattle.floor.specs.History.{Starts, History, day-takings, history}
 use Rattle.floor.specs.Allotment.{takings-of, times}
 use Rattle.floor.specs.Floor.{trace, price-of, whole-of, falls-short, unstruck, Allotted, Covered, Floor, Demand-3}
 use Rattle.floor.specs.Due.{due, Dues, At-every-moment}
@@ -76,23 +76,23 @@ module _ (s : Day) (h : History) (r : Reached s h) where
   sized = plan-sized (s .plan) (p .plan-sound)
 
   depth-is : s .plan .depth ≡ h .plan .depth
-  depth-is = ap (λ (pl : Plan). pl .depth) (r .agrees .plan-is)
+  depth-is = ap (λ (pl : Plan). pl .depth) (r .tracks .plan-is)
 
   whole-is : (i : ℕ) → i < s .count → whole (campaign s i) ≡ whole-of h i
   unfolding whole
-  whole-is i l = cc (r .agrees .follows i l .price-is, r .agrees .follows i l .budget-is)
+  whole-is i l = cc (r .tracks .follows i l .price-is, r .tracks .follows i l .budget-is)
 
   -- the turns of campaign i are no fewer than the plays due
   turns-of : (i : ℕ) → i < s .count → due h i ≤ campaign s i .turns
   turns-of i l =
       subst (λ (k : ℕ). min (whole-of h i) (trace h i .named / k) ≤ campaign s i .turns) depth-is
       (subst (λ (x : ℕ). min x (trace h i .named / s .plan .depth) ≤ campaign s i .turns) (whole-is i l)
-      (turns-reach (s .plan) (s .accepted) (trace h i) (campaign s i) (held-at s p i l) (r .agrees .follows i l)))
+      (turns-reach (s .plan) (s .accepted) (trace h i) (campaign s i) (held-at s p i l) (r .tracks .follows i l)))
 
   claim-due : (i : ℕ) → i < s .count → share (s .plan .depth) (s .plan .width) * (price-of h i * due h i) ≤ claim-of (s .plan) (campaign s i)
   claim-due i l =
       le-trans (mul-le-mul-left (share (s .plan .depth) (s .plan .width)) (mul-le-mul-left (price-of h i) (turns-of i l)))
-      (subst (λ (x : ℕ). share (s .plan .depth) (s .plan .width) * (x * campaign s i .turns) ≤ claim-of (s .plan) (campaign s i)) (r .agrees .follows i l .price-is)
+      (subst (λ (x : ℕ). share (s .plan .depth) (s .plan .width) * (x * campaign s i .turns) ≤ claim-of (s .plan) (campaign s i)) (r .tracks .follows i l .price-is)
       (claim-turns (s .plan) sized (campaign s i) (held-at s p i l .young)))
 
   -- the total claim lies between the share of what is due and full
@@ -101,29 +101,29 @@ module _ (s : Day) (h : History) (r : Reached s h) where
   claims-due =
       omega (arith, sum-mul (s .count) (share (s .plan .depth) (s .plan .width)) (λ i. price-of h i * due h i), sum-le (s .count) (λ i. share (s .plan .depth) (s .plan .width) * (price-of h i * due h i)) (λ i. claim-of (s .plan) (campaign s i)) claim-due)
 
-  claims-full : total-claim s ≤ full (s .plan) (h .paid)
-  claims-full = subst (λ (x : ℕ). total-claim s ≤ full (s .plan) x) (r .agrees .paid-is) (p .covered)
+  claims-full : total-claim s ≤ full (s .plan) (day-takings h)
+  claims-full = subst (λ (x : ℕ). total-claim s ≤ full (s .plan) x) (r .tracks .paid-is) (p .covered)
 
   covers : (to : ℕ → ℕ) → Allotted h to → Covered h (takings-of (unstruck h) (h .views) to)
   covers to al =
-      subst (λ (pl : Plan). share (pl .depth) (pl .width) * takings-of (unstruck h) (h .views) to ≤ full pl (h .paid)) (r .agrees .plan-is)
-      (le-trans (mul-le-mul-left (share (s .plan .depth) (s .plan .width)) (subst (λ (n : ℕ). takings-of (unstruck h) (h .views) to ≤ sum n (λ i. price-of h i * due h i)) (r .agrees .many) (due-enough h (omega (arith, sized .deep, depth-is)) to al)))
+      subst (λ (pl : Plan). share (pl .depth) (pl .width) * takings-of (unstruck h) (h .views) to ≤ full pl (day-takings h)) (r .tracks .plan-is)
+      (le-trans (mul-le-mul-left (share (s .plan .depth) (s .plan .width)) (subst (λ (n : ℕ). takings-of (unstruck h) (h .views) to ≤ sum n (λ i. price-of h i * due h i)) (r .tracks .many) (due-enough h (omega (arith, sized .deep, depth-is)) to al)))
       (le-trans claims-due claims-full))
 
   pub floor-of : Floor h s
   floor-of = record {
     floor = λ none to al. subst (λ (x : ℕ). Covered h x) (sum-eq (length (h .views)) (λ j. unstruck h (to j)) (λ j. price-of h (to j)) (λ j l. none-struck h none (to j))) (covers to al);
     struck = covers;
-    shown = r .agrees .paid-is;
-    held = λ x e. eqb-true x (total-takings s) (subst (λ (q : Phase). phase-holds q (s .accepted) (total-takings s) ≡ true) e (p .phased)) ∙ r .agrees .paid-is;
+    takings-is = r .tracks .paid-is;
+    closed-is = λ x e. eqb-true x (total-takings s) (subst (λ (q : Phase). phase-holds q (s .accepted) (total-takings s) ≡ true) e (p .phased)) ∙ r .tracks .paid-is;
   }
 
   pub dues-of : Dues h s
   dues-of = record {
-    named-is = λ i l. r .agrees .follows i (omega (arith, r .agrees .many)) .named-is;
-    turns-enough = λ i l. turns-of i (omega (arith, r .agrees .many));
-    claims-enough = subst (λ (pl : Plan). share (pl .depth) (pl .width) * sum (length (h .terms)) (λ i. price-of h i * due h i) ≤ total-claim s) (r .agrees .plan-is) (rw (r .agrees .many) claims-due);
-    claims-most = subst (λ (pl : Plan). total-claim s ≤ full pl (h .paid)) (r .agrees .plan-is) claims-full;
+    named-is = λ i l. r .tracks .follows i (omega (arith, r .tracks .many)) .named-is;
+    turns-enough = λ i l. turns-of i (omega (arith, r .tracks .many));
+    claims-enough = subst (λ (pl : Plan). share (pl .depth) (pl .width) * sum (length (h .terms)) (λ i. price-of h i * due h i) ≤ total-claim s) (r .tracks .plan-is) (rw (r .tracks .many) claims-due);
+    claims-most = subst (λ (pl : Plan). total-claim s ≤ full pl (day-takings h)) (r .tracks .plan-is) claims-full;
   }
 
 pub demand-3 : Demand-3

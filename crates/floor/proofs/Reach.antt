@@ -34,29 +34,29 @@ use Rattle.day.proofs.Questions.{Yes, call-elim}
 use Rattle.day.proofs.State.{Sound, sound-facts, held-at, campaign-of-state}
 use Rattle.demands.specs.Transcript.{transcript, final}
 use Rattle.demands.proofs.Step.{takings-step}
-use Rattle.demands.proofs.Holding.{sum-holding, joined-old, joined-new, takings-joined}
+use Rattle.demands.proofs.States.{sum-state-with, with-campaign-old, with-campaign-new, takings-with-campaign}
 use Rattle.demands.proofs.Sound.{blank-sound, sound-kept, opening-sound}
 use Rattle.demands.proofs.Refusals.{result-number}
-use Rattle.floor.specs.History.{accepted, Starts, History, opening, paid-in, with-call, entered, continued, history}
+use Rattle.floor.specs.History.{accepted, Starts, History, day-takings, opening, paid-in, with-call, entered, continued, history}
 use Rattle.floor.specs.History.Starts.{from-blank, from-opening}
 use Rattle.floor.specs.Floor.{trace}
 use Rattle.floor.proofs.Trace.{Follows, follows-fresh, follows-view}
 
--- the state s agrees with the day h
-pub record Agrees (s : Day) (h : History) : Type 0 where
+-- the state s holds the day h
+pub record Tracks (s : Day) (h : History) : Type 0 where
   pub plan-is : s .plan ≡ h .plan
   pub many : length (h .terms) ≡ s .count
   pub follows : (i : ℕ) → i < s .count → Follows (s .plan) (trace h i) (campaign s i)
-  pub paid-is : total-takings s ≡ h .paid
+  pub paid-is : total-takings s ≡ day-takings h
   pub unviewed : is-filling (s .phase) ≡ true → h .views ≡ []
 
-agrees-opening : (p : Phase) (pl : Plan) → Agrees (empty-plan p pl) (opening pl)
-unfolding total-takings
-agrees-opening p pl = record { plan-is = refl; many = refl; follows = λ i l. absurd (not-suc-le-zero l); paid-is = sum-zero _; unviewed = λ _. refl }
+tracks-opening : (p : Phase) (pl : Plan) → Tracks (empty-plan p pl) (opening pl)
+unfolding total-takings total
+tracks-opening p pl = record { plan-is = refl; many = refl; follows = λ i l. absurd (not-suc-le-zero l); paid-is = sum-zero _; unviewed = λ _. refl }
 
-agrees-blank : Agrees blank (opening blank-plan)
+tracks-blank : Tracks blank (opening blank-plan)
 unfolding blank
-agrees-blank = agrees-opening (Closed 0) blank-plan
+tracks-blank = tracks-opening (Closed 0) blank-plan
 
 -- a list one longer
 snoc-last : (xs : List Terms) (x : Terms) (n : ℕ) → length xs ≡ n → getD (xs ++ (x ∷ [])) n no-terms ≡ x
@@ -64,16 +64,16 @@ snoc-last xs x n e = subst (λ (m : ℕ). getD (xs ++ (x ∷ [])) m no-terms ≡
 
 -- what the day becomes by an outcome
 abbrev Keeps : History → Call → Outcome → Type 0
-Keeps h c o = Agrees (o .day) (entered h (record { made = c; answer = o .answer }))
+Keeps h c o = Tracks (o .day) (entered h (record { made = c; answer = o .answer }))
 
 refused-not : (q : ℕ) → accepted (Refused (suc q)) ≡ false
 refused-not q = ne-eqb (suc q) 0 (λ z. omega arith)
 
-told-paid : (x : ℕ → ℕ) (ch : Choice) → paid-in (view-answer x ch) ≡ paid x ch
-told-paid x nobody = refl
-told-paid x (plays m) = refl
+view-answer-paid : (x : ℕ → ℕ) (ch : Choice) → paid-in (view-answer x ch) ≡ paid x ch
+view-answer-paid x nobody = refl
+view-answer-paid x (plays m) = refl
 
-module _ (s : Day) (h : History) (e : sound s ≡ true) (k : Agrees s h) where
+module _ (s : Day) (h : History) (e : sound s ≡ true) (k : Tracks s h) where
   p : Sound s
   p = sound-facts s e
 
@@ -81,43 +81,43 @@ module _ (s : Day) (h : History) (e : sound s ≡ true) (k : Agrees s h) where
     more : History
     more = with-call h (add-campaign t) Done
 
-    agrees-add : Agrees (result s (add-campaign t) .day) more
+    tracks-add : Tracks (result s (add-campaign t) .day) more
     unfolding more total-takings total
-    agrees-add =
+    tracks-add =
         let room : s .count < 64 = ltb-true (s .count) 64 (y .1 .1 .0) in
         let few : s .count + 1 ≤ 64 = omega arith in
         record {
           plan-is = k .plan-is;
           many = length-append (h .terms) (t ∷ []) ∙ ap (λ (n : ℕ). n + 1) (k .many);
           follows = λ i l. rw (campaign-of-state Filling (s .plan) (s .count + 1) (s .accepted) (with-campaign s t) i (lt-of-lt-of-le l few)) (one-more (λ j. Follows (s .plan) (trace more j) (with-campaign s t j)) (s .count) old new i (omega arith));
-          paid-is = sum-holding Filling (s .plan) (s .count + 1) (s .accepted) (with-campaign s t) spending few ∙ takings-joined s t ∙ k .paid-is;
+          paid-is = sum-state-with Filling (s .plan) (s .count + 1) (s .accepted) (with-campaign s t) spending few ∙ takings-with-campaign s t ∙ k .paid-is;
           unviewed = λ _. k .unviewed (y .1 .0);
         }
       where
         old : (j : ℕ) → j < s .count → Follows (s .plan) (trace more j) (with-campaign s t j)
-        old j l = rw (List·getD-append (h .terms) (t ∷ []) no-terms j (omega (arith, k .many)), joined-old s t j (λ q. omega arith)) (k .follows j l)
+        old j l = rw (List·getD-append (h .terms) (t ∷ []) no-terms j (omega (arith, k .many)), with-campaign-old s t j (λ q. omega arith)) (k .follows j l)
 
         new : Follows (s .plan) (trace more (s .count)) (with-campaign s t (s .count))
-        new = rw (snoc-last (h .terms) t (s .count) (k .many), joined-new s t, k .unviewed (y .1 .0)) (follows-fresh (s .plan) t)
+        new = rw (snoc-last (h .terms) t (s .count) (k .many), with-campaign-new s t, k .unviewed (y .1 .0)) (follows-fresh (s .plan) t)
 
   module _ (w : View) where
-    agrees-view : (a : Answer) → paid-in a ≡ paid (offers s w) (player s w) → Agrees (result s (show-view w) .day) (with-call h (show-view w) a)
-    unfolding total-takings
-    agrees-view a q = record {
+    tracks-view : (a : Answer) → paid-in a ≡ paid (offers s w) (player s w) → Tracks (result s (show-view w) .day) (with-call h (show-view w) a)
+    unfolding total-takings total
+    tracks-view a q = record {
       plan-is = k .plan-is;
       many = k .many;
       follows = λ i l. rw (campaign-of-state Running (s .plan) (s .count) (s .accepted + 1) (shown s w) i (lt-of-lt-of-le l (p .few)), total-snoc (λ (v : View). one-if (names v i)) (h .views) w)
           (follows-view (s .plan) (trace h i) (campaign s i) (k .follows i l) (held-at s p i l .young) w i (is (player s w) i));
-      paid-is = omega (arith, sum-holding Running (s .plan) (s .count) (s .accepted + 1) (shown s w) spending (p .few), takings-step (s .count) (s .plan) w (campaign s), k .paid-is);
+      paid-is = omega (arith, sum-state-with Running (s .plan) (s .count) (s .accepted + 1) (shown s w) spending (p .few), takings-step (s .count) (s .plan) w (campaign s), k .paid-is, total-snoc paid-in (h .answers) a);
       unviewed = λ z. absurd (never false refl z);
     }
 
-  keeps-result : (c : Call) → Yes (questions s c) → Agrees (result s c .day) (with-call h c (result s c .answer))
+  keeps-result : (c : Call) → Yes (questions s c) → Tracks (result s c .day) (with-call h c (result s c .answer))
   unfolding more total-takings
-  keeps-result (open-plan pl) y = agrees-opening Filling pl
-  keeps-result (add-campaign t) y = agrees-add t y
+  keeps-result (open-plan pl) y = tracks-opening Filling pl
+  keeps-result (add-campaign t) y = tracks-add t y
   keeps-result start-day y = record { plan-is = k .plan-is; many = k .many; follows = k .follows; paid-is = k .paid-is; unviewed = λ z. absurd (never false refl z) }
-  keeps-result (show-view w) y = agrees-view w (view-answer (offers s w) (player s w)) (told-paid (offers s w) (player s w))
+  keeps-result (show-view w) y = tracks-view w (view-answer (offers s w) (player s w)) (view-answer-paid (offers s w) (player s w))
   keeps-result (ask-tally i) y = k
   keeps-result close-day y = record { plan-is = k .plan-is; many = k .many; follows = k .follows; paid-is = k .paid-is; unviewed = λ z. absurd (never false refl z) }
 
@@ -126,22 +126,22 @@ module _ (s : Day) (h : History) (e : sound s ≡ true) (k : Agrees s h) where
 
 pub record Reached (s : Day) (h : History) : Type 0 where
   pub is-sound : sound s ≡ true
-  pub agrees : Agrees s h
+  pub tracks : Tracks s h
 
 reach : (cs : List Call) (s : Day) (h : History) → Reached s h → Reached (final s cs) (continued h (transcript s cs))
 unfolding final transcript continued
 reach [] s h r = r
-reach (c ∷ cs) s h r = reach cs (call s c .day) (entered h (record { made = c; answer = call s c .answer })) (record { is-sound = sound-kept s c (r .is-sound); agrees = keeps s h (r .is-sound) (r .agrees) c })
+reach (c ∷ cs) s h r = reach cs (call s c .day) (entered h (record { made = c; answer = call s c .answer })) (record { is-sound = sound-kept s c (r .is-sound); tracks = keeps s h (r .is-sound) (r .tracks) c })
 
 -- an accepted opening, from any state
 reach-opening : (s : Day) (pl : Plan) → accepted (call s (open-plan pl) .answer) ≡ true → Reached (call s (open-plan pl) .day) (entered (opening blank-plan) (record { made = open-plan pl; answer = call s (open-plan pl) .answer }))
 reach-opening s pl e = record {
   is-sound = opening-sound s pl (eqb-true (number (call s (open-plan pl) .answer)) 0 e);
-  agrees = call-elim (λ (o : Outcome). accepted (o .answer) ≡ true → Keeps (opening blank-plan) (open-plan pl) o) s (open-plan pl) (λ q z. absurd (never (accepted (Refused (suc q))) (refused-not q) z)) (λ y z. agrees-opening Filling pl) e;
+  tracks = call-elim (λ (o : Outcome). accepted (o .answer) ≡ true → Keeps (opening blank-plan) (open-plan pl) o) s (open-plan pl) (λ q z. absurd (never (accepted (Refused (suc q))) (refused-not q) z)) (λ y z. tracks-opening Filling pl) e;
 }
 
 -- what holds at the end of every list
 pub reached : (s : Day) (cs : List Call) → Starts s cs → Reached (final s cs) (history (transcript s cs))
 unfolding final transcript continued
-reached _ _ (from-blank cs) = reach cs blank (opening blank-plan) (record { is-sound = blank-sound; agrees = agrees-blank })
+reached _ _ (from-blank cs) = reach cs blank (opening blank-plan) (record { is-sound = blank-sound; tracks = tracks-blank })
 reached _ _ (from-opening s pl cs e) = reach cs (call s (open-plan pl) .day) (entered (opening blank-plan) (record { made = open-plan pl; answer = call s (open-plan pl) .answer })) (reach-opening s pl e)

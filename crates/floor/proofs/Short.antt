@@ -13,8 +13,8 @@ use Rattle.campaigns.specs.Campaign.{whole, claim, sound-plan, priced, counted,
 use Rattle.audit.specs.Sound.{sound-record}
 use Rattle.day.specs.Day.{blank, total-takings, total-claim, total-budgets}
 use Rattle.day.specs.Day.{sound}
-use Rattle.questions.specs.Questions.{first-failed, width-holds}
-use Rattle.day.specs.Calls.{call}
+use Rattle.day.specs.declared.Answer.the-variants.{Played, Nobody}
+use Rattle.day.specs.Calls.{first-failed, width-holds, call}
 use Rattle.demands.specs.Transcript.{transcript}
 use Rattle.floor.specs.History.{History, continued}
 use Rattle.floor.specs.History.Starts.{from-blank}
@@ -25,7 +25,7 @@ use Rattle.floor.proofs.Tight.{allotted-of}
 
 -- the day, read off its calls
 day : History
-day = record { plan = record { depth = 2; width = 2 }; terms = record { price = 2; budget = 3 } ∷ record { price = 2; budget = 3 } ∷ []; views = record { set = 3 } ∷ record { set = 1 } ∷ []; paid = 2 }
+day = record { plan = record { depth = 2; width = 2 }; terms = record { price = 2; budget = 3 } ∷ record { price = 2; budget = 3 } ∷ []; views = record { set = 3 } ∷ record { set = 1 } ∷ []; answers = Played 0 2 ∷ Nobody ∷ [] }
 
 day-is : short-day ≡ day
 unfolding day transcript continued call first-failed sound sound-record blank sum count every table total within size member width-holds weight share whole claim total-takings total-claim total-budgets sound-plan priced counted uncounted empty sound-campaign best choice

@@ -1,6 +1,6 @@
 -- The floor is met exactly, by computation.
 use mathlib.Core.Path.{_≡_, refl, subst⁻¹}
-use mathlib.Core.Bool.{Bool, true, false, not, _||_}
+use mathlib.Core.Bool.{Bool, true, false, cond, not, _||_}
 use mathlib.Core.List.{List, [], _∷_, map}
 use mathlib.Core.Logic.{_⊎_, inl, inr}
 use Prim.Native.Nat.{ℕ, _*_}
@@ -17,10 +17,10 @@ use Rattle.campaigns.specs.View.{names, full}
 use Rattle.audit.specs.Sound.{sound-record}
 use Rattle.day.specs.Day.{blank, total-takings, total-claim, total-budgets}
 use Rattle.day.specs.Day.{sound}
-use Rattle.questions.specs.Questions.{first-failed, width-holds}
-use Rattle.day.specs.Calls.{call}
+use Rattle.day.specs.declared.Answer.the-variants.{Played, Nobody}
+use Rattle.day.specs.Calls.{first-failed, width-holds, call}
 use Rattle.demands.specs.Transcript.{transcript}
-use Rattle.floor.specs.History.{History, continued, history}
+use Rattle.floor.specs.History.{History, day-takings, continued, history}
 use Rattle.floor.specs.History.Starts.{from-blank}
 use Rattle.floor.specs.Allotment.{times, view-at, takings-of}
 use Rattle.floor.specs.Floor.{price-of, whole-of, falls-short, Allotted}
@@ -29,9 +29,9 @@ use Rattle.floor.specs.Tight.{Met, Exact, exact-days, calls-of, Tight}
 -- the tests that a computed day passes
 abbrev met-tests : History → (ℕ → ℕ) → List Bool
 met-tests h to =
-    every (length (h .terms)) (λ i. not (falls-short h i)) ∷ ltb 0 (h .paid) ∷ every (length (h .views)) (λ j. eqb (to j) 64 || names (view-at (h .views) j) (to j)) ∷
+    every (length (h .terms)) (λ i. not (falls-short h i)) ∷ ltb 0 (day-takings h) ∷ every (length (h .views)) (λ j. eqb (to j) 64 || names (view-at (h .views) j) (to j)) ∷
     every (length (h .terms)) (λ i. leb (times (length (h .views)) to i) (whole-of h i)) ∷
-    eqb (share (h .plan .depth) (h .plan .width) * takings-of (price-of h) (h .views) to) (full (h .plan) (h .paid)) ∷ []
+    eqb (share (h .plan .depth) (h .plan .width) * takings-of (price-of h) (h .views) to) (full (h .plan) (day-takings h)) ∷ []
 
 either : (a b : Bool) → (a || b) ≡ true → (a ≡ true) ⊎ (b ≡ true)
 either true b e = inl refl
@@ -54,7 +54,7 @@ met-of h to e =
     let p = all-parts (met-tests h to) e in
     record {
       none-short = λ i l. not-true (falls-short h i) (every-at (length (h .terms)) (λ i. not (falls-short h i)) (p .0) i l);
-      paying = ltb-true 0 (h .paid) (p .1 .0);
+      paying = ltb-true 0 (day-takings h) (p .1 .0);
       allotted = allotted-of h to (p .1 .1 .0) (p .1 .1 .1 .0);
       equal = eqb-true _ _ (p .1 .1 .1 .1 .0);
     }
@@ -65,7 +65,7 @@ day-of x = record {
   plan = record { depth = x .depth; width = x .width };
   terms = table (x .campaigns) (λ i. record { price = 1; budget = 1 });
   views = map (λ v. record { set = v }) (x .views);
-  paid = x .paid;
+  answers = map (λ m. cond (eqb m 64) Nobody (Played m 1)) (x .players);
 }
 
 abbrev Computed : List Exact → Type 0

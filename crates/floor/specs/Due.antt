@@ -10,7 +10,7 @@ use Rattle.day.specs.Day.{campaign, total-claim}
 use Rattle.campaigns.specs.View.{full}
 use Rattle.day.specs.Calls.{Call}
 use Rattle.demands.specs.Transcript.{transcript, final}
-use Rattle.floor.specs.History.{History, Starts, history}
+use Rattle.floor.specs.History.{History, day-takings, Starts, history}
 use Rattle.floor.specs.Floor.{trace, price-of, whole-of}
 
 -- the smaller of whole plays and named / depth, rounded down
@@ -25,7 +25,7 @@ pub record Dues (h : History) (s : Day) : Type 0 where
   -- the total claim lies between (d^k − (d−1)^k) × the prices of what is due and full
   pub claims-enough : share (h .plan .depth) (h .plan .width) * sum (length (h .terms)) (λ i. price-of h i * due h i) ≤
       total-claim s
-  pub claims-most : total-claim s ≤ full (h .plan) (h .paid)
+  pub claims-most : total-claim s ≤ full (h .plan) (day-takings h)
 
 abbrev pub At-every-moment : Type 0
 At-every-moment = (s : Day) (cs : List Call) → Starts s cs → Dues (history (transcript s cs)) (final s cs)

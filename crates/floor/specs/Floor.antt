@@ -15,7 +15,7 @@ use Rattle.day.specs.declared.Day.{Day}
 use Rattle.day.specs.Day.{no-terms, total-takings}
 use Rattle.day.specs.Calls.{Call}
 use Rattle.demands.specs.Transcript.{transcript, final}
-use Rattle.floor.specs.History.{History, Starts, history}
+use Rattle.floor.specs.History.{History, day-takings, Starts, history}
 use Rattle.floor.specs.Allotment.{Allotment, takings-of}
 
 -- what was handed in about campaign i: its price and budget, and how many of the day's views named it, also after it is
@@ -48,7 +48,7 @@ Allotted h to = Allotment (length (h .terms)) (whole-of h) (h .views) to
 -- (width to the power depth, less (width − 1) to the power depth) × an amount is at most width to the power depth × the
 -- day's takings
 abbrev pub Covered : History → ℕ → Type 0
-Covered h x = share (h .plan .depth) (h .plan .width) * x ≤ full (h .plan) (h .paid)
+Covered h x = share (h .plan .depth) (h .plan .width) * x ≤ full (h .plan) (day-takings h)
 
 -- the day h, at whose end the state is s
 pub record Floor (h : History) (s : Day) : Type 0 where
@@ -58,8 +58,8 @@ pub record Floor (h : History) (s : Day) : Type 0 where
   -- in any case they are without the part of the campaigns that fall short
   pub struck : (to : ℕ → ℕ) → Allotted h to → Covered h (takings-of (unstruck h) (h .views) to)
   -- the takings of the state, and those that its phase holds if it is Closed, are the day's takings
-  pub shown : total-takings s ≡ h .paid
-  pub held : (x : ℕ) → s .phase ≡ Closed x → x ≡ h .paid
+  pub takings-is : total-takings s ≡ day-takings h
+  pub closed-is : (x : ℕ) → s .phase ≡ Closed x → x ≡ day-takings h
 
 abbrev pub Demand-3 : Type 0
 Demand-3 = (s : Day) (cs : List Call) → Starts s cs → Floor (history (transcript s cs)) (final s cs)

@@ -2,8 +2,9 @@
 use mathlib.Core.Path.{_≡_}
 use mathlib.Core.Bool.{Bool, true, cond}
 use mathlib.Core.List.{List, [], _∷_, _++_}
-use Prim.Native.Nat.{ℕ, _+_}
+use Prim.Native.Nat.{ℕ}
 use lib.Dec.{eqb}
+use Rattle.finite.specs.Finite.{total}
 use Rattle.campaigns.specs.declared.Plan.{Plan}
 use Rattle.campaigns.specs.declared.Terms.{Terms}
 use Rattle.campaigns.specs.declared.View.{View}
@@ -26,16 +27,16 @@ pub data Starts : Day → List Call → Type 0 where
       → Starts s (open-plan pl ∷ cs)
 
 -- the day: the last accepted opening with the accepted calls after it. Depth and width are those handed to the opening,
--- price and budget those handed to the accepted adding, a view is the set handed in, and paid is the sum of the prices
--- in the answers.
+-- price and budget those handed to the accepted adding, and a view is the set handed in; beside the views stand the
+-- answers to them.
 pub record History : Type 0 where
   pub plan : Plan
   pub terms : List Terms
   pub views : List View
-  pub paid : ℕ
+  pub answers : List Answer
 
 abbrev pub opening : Plan → History
-opening pl = record { plan = pl; terms = []; views = []; paid = 0 }
+opening pl = record { plan = pl; terms = []; views = []; answers = [] }
 
 -- the price paid in an answer, where nobody counts 0
 abbrev pub paid-in : Answer → ℕ
@@ -46,6 +47,10 @@ paid-in Nobody = 0
 paid-in (Tallied p t a n) = 0
 paid-in (Closing t c f) = 0
 
+-- the day's takings: the sum of the prices paid in the answers to its accepted views
+abbrev pub day-takings : History → ℕ
+day-takings h = total paid-in (h .answers)
+
 -- the day with an accepted call more
 abbrev pub with-call : History → Call → Answer → History
 with-call h (open-plan pl) a = opening pl
@@ -53,14 +58,14 @@ with-call h (add-campaign t) a = record {
   plan = h .plan;
   terms = h .terms ++ (t ∷ []);
   views = h .views;
-  paid = h .paid;
+  answers = h .answers;
 }
 with-call h start-day a = h
 with-call h (show-view w) a = record {
   plan = h .plan;
   terms = h .terms;
   views = h .views ++ (w ∷ []);
-  paid = h .paid + paid-in a;
+  answers = h .answers ++ (a ∷ []);
 }
 with-call h (ask-tally i) a = h
 with-call h close-day a = h

@@ -11,48 +11,61 @@ use Rattle.day.specs.Calls.{Call}
 use Rattle.day.specs.Calls.Call.{start-day}
 use Rattle.demands.specs.Transcript.{transcript}
 use Rattle.demands.specs.Cases.{plan, campaign-of, view}
-use Rattle.floor.specs.History.{Starts, History, history}
+use Rattle.floor.specs.History.{Starts, History, day-takings, history}
 use Rattle.floor.specs.Allotment.{takings-of}
 use Rattle.floor.specs.Floor.{price-of, falls-short, Allotted}
 
 -- no campaign falls short, something is paid, and an allotment makes both sides of the floor equal
 pub record Met (h : History) (to : ℕ → ℕ) : Type 0 where
   pub none-short : (i : ℕ) → i < length (h .terms) → falls-short h i ≡ false
-  pub paying : 0 < h .paid
+  pub paying : 0 < day-takings h
   pub allotted : Allotted h to
-  pub equal : share (h .plan .depth) (h .plan .width) * takings-of (price-of h) (h .views) to ≡ full (h .plan) (h .paid)
+  pub equal : share (h .plan .depth) (h .plan .width) * takings-of (price-of h) (h .views) to ≡ full (h .plan) (day-takings h)
 
--- a day of campaigns of price 1 and one play each, what it pays, and to whom an allotment gives each view
+-- a day of campaigns of price 1 and one play each: its views, who plays each of them, and to whom an allotment gives it;
+-- nobody is 64
 pub record Exact : Type 0 where
   pub depth : ℕ
   pub width : ℕ
   pub campaigns : ℕ
   pub views : List ℕ
-  pub paid : ℕ
+  pub players : List ℕ
   pub to : List ℕ
 
 abbrev pub exact-days : List Exact
 exact-days =
-    record { depth = 1; width = 1; campaigns = 1; views = 1 ∷ []; paid = 1; to = 0 ∷ [] } ∷
+    record {
+      depth = 1;
+      width = 1;
+      campaigns = 1;
+      views = 1 ∷ [];
+      players = 0 ∷ [];
+      to = 0 ∷ [];
+    } ∷
     -- {0, 1} plays 0; {0} plays nobody, and an allotment gives 1 the first view and 0 the second
-    record { depth = 1; width = 2; campaigns = 2; views = 3 ∷ 1 ∷ []; paid = 1; to = 1 ∷ 0 ∷ [] } ∷
+    record {
+      depth = 1;
+      width = 2;
+      campaigns = 2;
+      views = 3 ∷ 1 ∷ [];
+      players = 0 ∷ 64 ∷ [];
+      to = 1 ∷ 0 ∷ [];
+    } ∷
     -- each round sets campaigns of equal age against each other; the last one never plays
     record {
       depth = 2;
       width = 2;
       campaigns = 4;
       views = 3 ∷ 12 ∷ 10 ∷ 1 ∷ 4 ∷ [];
-      paid = 3;
-      to = 1 ∷ 3 ∷ 64 ∷ 0 ∷ 2 ∷
-          [];
+      players = 0 ∷ 2 ∷ 1 ∷ 64 ∷ 64 ∷ [];
+      to = 1 ∷ 3 ∷ 64 ∷ 0 ∷ 2 ∷ [];
     } ∷
     record {
       depth = 3;
       width = 2;
       campaigns = 8;
-      views = 3 ∷ 12 ∷ 48 ∷ 192 ∷ 10 ∷ 160 ∷ 136 ∷ 5 ∷ 5 ∷ 80 ∷ 80 ∷ 34 ∷
-          [];
-      paid = 7;
+      views = 3 ∷ 12 ∷ 48 ∷ 192 ∷ 10 ∷ 160 ∷ 136 ∷ 5 ∷ 5 ∷ 80 ∷ 80 ∷ 34 ∷ [];
+      players = 0 ∷ 2 ∷ 4 ∷ 6 ∷ 1 ∷ 5 ∷ 3 ∷ 64 ∷ 64 ∷ 64 ∷ 64 ∷ 64 ∷ [];
       to = 1 ∷ 3 ∷ 5 ∷ 7 ∷ 64 ∷ 64 ∷ 64 ∷ 0 ∷ 2 ∷ 4 ∷ 6 ∷ 64 ∷ [];
     } ∷
     record {
@@ -60,7 +73,7 @@ exact-days =
       width = 3;
       campaigns = 9;
       views = 7 ∷ 56 ∷ 448 ∷ 146 ∷ 292 ∷ 73 ∷ 73 ∷ 73 ∷ 6 ∷ [];
-      paid = 5;
+      players = 0 ∷ 3 ∷ 6 ∷ 1 ∷ 2 ∷ 64 ∷ 64 ∷ 64 ∷ 64 ∷ [];
       to = 1 ∷ 4 ∷ 8 ∷ 7 ∷ 5 ∷ 0 ∷ 3 ∷ 6 ∷ 2 ∷ [];
     } ∷
     []

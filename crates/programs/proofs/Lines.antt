@@ -28,7 +28,7 @@ use Rattle.day.specs.declared.Answer.the-variants.{Nobody as no-one, Tallied as
 use Rattle.day.specs.declared.Day.{Day}
 use Rattle.day.specs.declared.Outcome.{Outcome}
 use Rattle.day.specs.Day.{blank, blank-plan, campaign, total-takings}
-use Rattle.day.specs.Calls.{Call, player, offers, view-answer as shown-told}
+use Rattle.day.specs.Calls.{Call, player, offers, view-answer}
 use Rattle.day.specs.Calls.Call.{open-plan, add-campaign, start-day, show-view, ask-tally, close-day}
 use Rattle.day.proofs.Questions.{call-elim}
 use Rattle.demands.specs.Transcript.{Exchange, transcript, final}
@@ -36,8 +36,8 @@ use Rattle.floor.specs.History.{History, opening, with-call, entered, continued
 use Rattle.floor.specs.History.Starts.{from-blank}
 use Rattle.floor.specs.Floor.{Floor}
 use Rattle.floor.proofs.Floor.{demand-3}
-use Rattle.refinement.specs.Standing.{Buys-alike}
-use Rattle.refinement.specs.Days.{replies as view-answers, Day-alike}
+use Rattle.refinement.specs.Correspondence.{Buys-alike}
+use Rattle.refinement.specs.Days.{replies as view-answers, Day-agrees}
 use Rattle.refinement.proofs.Days.{days-as-algorithm-4}
 use Rattle.reply.specs.Reply.{Request, request, request-of, executed, outcome, tallies, answer-line, is-closing}
 use Rattle.reply.specs.Reply.{reply-text, reply, next}
@@ -153,8 +153,8 @@ module _ (s : Day) (h : History) where
   refused-adds c q = ap (λ (x : History). x .paid) (refused-entered h c q) ∙ none-more (h .paid)
 
   view-adds : (w : Lift) (ch : Choice)
-      → entered h (record { made = show-view w; answer = shown-told (offers s w) ch }) .paid
-      ≡ h .paid + price-in (record-of (shown-told (offers s w) ch))
+      → entered h (record { made = show-view w; answer = view-answer (offers s w) ch }) .paid
+      ≡ h .paid + price-in (record-of (view-answer (offers s w) ch))
   view-adds w nobody = refl
   view-adds w (plays m) = refl
 
@@ -221,7 +221,7 @@ module _ (s : Day) (t c f : ℕ) where
   call-closes start-day = call-elim Closes s start-day (λ q e. cc) (λ y e. cc)
   call-closes (show-view w) = call-elim Closes s (show-view w) (λ q e. cc) (λ y. go (player s w))
     where
-      go : (ch : Choice) → record-of (shown-told (offers s w) ch) ≡ Closed t c f → t ≡ total-takings s
+      go : (ch : Choice) → record-of (view-answer (offers s w) ch) ≡ Closed t c f → t ≡ total-takings s
       go nobody e = cc
       go (plays m) e = cc
   call-closes (ask-tally i) = call-elim Closes s (ask-tally i) (λ q e. cc) (λ y e. cc)
@@ -246,12 +246,12 @@ floor-is ls =
     (subst⁻¹ (λ (xs : List Exchange). Floor (history xs) (final blank (calls-of ls))) (exchanges-are blank ls)
     (demand-3 blank (calls-of ls) (from-blank (calls-of ls))))
 
-alike-is : (ls : List (List ℕ)) (B : Terms → ℕ) → Buys-alike B → 1 < day-of ls .plan .width
-    → Day-alike B (day-of ls) (view-answers (exchanges blank ls)) (after-lines blank ls)
-alike-is ls B b w =
+agrees-is : (ls : List (List ℕ)) (B : Terms → ℕ) → Buys-alike B → 1 < day-of ls .plan .width
+    → Day-agrees B (day-of ls) (view-answers (exchanges blank ls)) (after-lines blank ls)
+agrees-is ls B b w =
     let e = exchanges-are blank ls in
-    subst⁻¹ (λ (x : Day). Day-alike B (day-of ls) (view-answers (exchanges blank ls)) x) (state-is blank ls)
-    (subst⁻¹ (λ (xs : List Exchange). Day-alike B (history xs) (view-answers xs) (final blank (calls-of ls))) e
+    subst⁻¹ (λ (x : Day). Day-agrees B (day-of ls) (view-answers (exchanges blank ls)) x) (state-is blank ls)
+    (subst⁻¹ (λ (xs : List Exchange). Day-agrees B (history xs) (view-answers xs) (final blank (calls-of ls))) e
     (days-as-algorithm-4 B b blank (calls-of ls) (from-blank (calls-of ls))
     (subst (λ (xs : List Exchange). 1 < history xs .plan .width) e w)))
 
@@ -263,8 +263,8 @@ lines-keep-the-demands ls =
       exchanges-are = exchanges-are blank ls;
       paid-is = p;
       floor = floor-is ls;
-      closing-is = λ l t c f e. line-closes (after-lines blank ls) t c f l e ∙ floor-is ls .shown ∙ p;
-      alike = alike-is ls;
+      closing-is = λ l t c f e. line-closes (after-lines blank ls) t c f l e ∙ floor-is ls .takings-is ∙ p;
+      agrees = agrees-is ls;
     }
 
 -- A last line.

@@ -19,8 +19,8 @@ use Rattle.day.specs.Calls.{Call}
 use Rattle.demands.specs.Transcript.{Exchange, transcript, final}
 use Rattle.floor.specs.History.{History, history}
 use Rattle.floor.specs.Floor.{Floor}
-use Rattle.refinement.specs.Standing.{Buys-alike}
-use Rattle.refinement.specs.Days.{replies as view-answers, Day-alike}
+use Rattle.refinement.specs.Correspondence.{Buys-alike}
+use Rattle.refinement.specs.Days.{replies as view-answers, Day-agrees}
 use Rattle.reply.specs.Reply.{Request, request-of, outcome, reply, next}
 use Rattle.reply.specs.Reply.Request.{makes, fails}
 use Rattle.reply.specs.Session.{upto}
@@ -125,8 +125,8 @@ pub record Of-lines (ls : List (List ℕ)) : Type 0 where
   pub closing-is : (l : List ℕ) (t c f : ℕ) → reading (first-line (reply (after-lines blank ls) l)) ≡ Got (Closed t c f)
       → t ≡ sum-paid ls
   -- at widths above 1 the views got Algorithm 4's answers
-  pub alike : (B : Terms → ℕ) → Buys-alike B → 1 < day-of ls .plan .width
-      → Day-alike B (day-of ls) (view-answers (exchanges blank ls)) (after-lines blank ls)
+  pub agrees : (B : Terms → ℕ) → Buys-alike B → 1 < day-of ls .plan .width
+      → Day-agrees B (day-of ls) (view-answers (exchanges blank ls)) (after-lines blank ls)
 
 abbrev pub Lines-keep-the-demands : Type 0
 Lines-keep-the-demands = (ls : List (List ℕ)) → Of-lines ls

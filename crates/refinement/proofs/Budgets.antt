@@ -2,7 +2,7 @@
 use mathlib.Core.Path.{_≡_, refl, sym, _∙_}
 use Prim.Native.Nat.{ℕ, zero, suc, _*_, _/_}
 use native.Mathlib.Nat.{div-zero, mul-div-cancel-left, zero-lt-suc}
-use Rattle.refinement.specs.Standing.{Buys-alike, spendable}
+use Rattle.refinement.specs.Correspondence.{Buys-alike, spendable}
 
 pub budget-buys : Buys-alike (λ t. t .budget)
 budget-buys t = refl

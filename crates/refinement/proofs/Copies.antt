@@ -11,7 +11,7 @@ use Rattle.powers.specs.Power.{weight, share}
 use Rattle.powers.proofs.Weight.{slope, weight-zero, share-weight, weight-slope, weight-up, weight-next, weight-most}
 use Rattle.refinement.specs.Fraction.{Fraction, integer, _⊗_, _≈_}
 use Rattle.refinement.specs.Algorithm4.{Instance, Variables, C, part, quantity, displaces, grown}
-use Rattle.refinement.specs.Standing.{copy, compared-quantity, Scores-order}
+use Rattle.refinement.specs.Correspondence.{copy, compared-quantity, Scores-order}
 
 pub ltb-scale : (p x y : ℕ) → 0 < p → ltb (x * p) (y * p) ≡ ltb x y
 ltb-scale p x y pos = go (ltb x y) refl
@@ -109,8 +109,8 @@ module _ (I : Instance) (i : ℕ) (deep : 0 < I .k) (wide : 1 < I .d) (bid : 0 <
       eq-of-mul-eq-mul-right (C I .denominator) (C-positive I deep wide) (q .numerator * I .B i) (I .b i * q .denominator) (omega (arith, v .value, ap (λ x. I .b i * q .denominator * x) h))
 
   -- nothing yet
-  pub starts : Value I i (weight (I .k) (I .d) 0) (integer 0)
-  starts = record { value = omega (arith, ap (λ x. I .b i * x) (C-numerator I)); positive = omega arith }
+  pub value-zero : Value I i (weight (I .k) (I .d) 0) (integer 0)
+  value-zero = record { value = omega (arith, ap (λ x. I .b i * x) (C-numerator I)); positive = omega arith }
 
   -- the paper's own form of it
   pub value-copy : (q : Fraction) (a : ℕ) → a < I .k → Value I i (weight (I .k) (I .d) a) q → q ≈ copy I i a

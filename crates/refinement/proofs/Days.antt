@@ -29,16 +29,16 @@ use Rattle.day.specs.Calls.Call.{open-plan, add-campaign, start-day, show-view,
 use Rattle.day.proofs.Questions.{Yes, call-elim}
 use Rattle.day.proofs.State.{sound-facts, campaign-of-state}
 use Rattle.demands.specs.Transcript.{transcript, final}
-use Rattle.demands.proofs.Holding.{joined-old, joined-new}
+use Rattle.demands.proofs.States.{with-campaign-old, with-campaign-new}
 use Rattle.demands.proofs.Refusals.{result-number}
 use Rattle.floor.specs.History.{accepted, Starts, History, opening, with-call, entered, continued, history}
 use Rattle.floor.specs.History.Starts.{from-blank, from-opening}
 use Rattle.refinement.specs.Algorithm4.{Instance, Neighbors, Variables, feasible-neighbor, line-1, line-2, line-4, lines-3-to-11, matches-from, algorithm-4, matches}
-use Rattle.refinement.specs.Standing.{Buys-alike, slots, Posed}
-use Rattle.refinement.specs.Days.{replied, replies-from, replies, with-answer, terms-of, instance-of, Day-alike, Days-as-Algorithm-4}
+use Rattle.refinement.specs.Correspondence.{Buys-alike, slots, Valid}
+use Rattle.refinement.specs.Days.{replied, replies-from, replies, with-answer, terms-of, instance-of, Day-agrees, Days-as-Algorithm-4}
 use Rattle.campaigns.proofs.Choices.{Fits, best-fits}
-use Rattle.refinement.proofs.Slots.{Follows}
-use Rattle.refinement.proofs.Simulation.{Proper, proper, follows-fresh, follows-stands, same-choice, same-step}
+use Rattle.refinement.proofs.Slots.{Simulates}
+use Rattle.refinement.proofs.Simulation.{Proper, proper, simulates-fresh, simulates-represents, same-choice, same-step}
 
 -- one slot more
 line-2-snoc : (I : Instance) (Ns : List Neighbors) (N : Neighbors) (j : ℕ) (v : Variables) → line-2 I j (Ns ++ (N ∷ [])) v ≡ lines-3-to-11 I (length Ns + j) N (line-2 I j Ns v)
@@ -56,9 +56,9 @@ matches-snoc I (M ∷ Ns) N j v =
     (matches-snoc I Ns N (suc j) (lines-3-to-11 I j M v) ∙ ap (λ m. matches-from I (suc j) Ns (lines-3-to-11 I j M v) ++ (line-4 I m N (line-2 I (suc j) Ns (lines-3-to-11 I j M v)) ∷ [])) (omega arith))
 
 -- the answer to a match, with the prices that the matched one's candidates have on both sides
-told-eq : (n : ℕ) (able : ℕ → Bool) (x y : ℕ → ℕ) → ((i : ℕ) → i < n → x i ≡ y i) → (m : Choice) → Fits n able m → view-answer x m ≡ view-answer y m
-told-eq n able x y e nobody f = refl
-told-eq n able x y e (plays m) f = rw (e m (f .0))
+view-answer-eq : (n : ℕ) (able : ℕ → Bool) (x y : ℕ → ℕ) → ((i : ℕ) → i < n → x i ≡ y i) → (m : Choice) → Fits n able m → view-answer x m ≡ view-answer y m
+view-answer-eq n able x y e nobody f = refl
+view-answer-eq n able x y e (plays m) f = rw (e m (f .0))
 
 -- what holds of the terms of a list and of one more
 snoc-all : (P : ℕ → Terms → Type 0) (ts : List Terms) (t : Terms) → ((i : ℕ) → i < length ts → P i (getD ts i no-terms)) → P (length ts) t
@@ -69,13 +69,13 @@ snoc-all P ts t old new i l =
 
 module _ (B : Terms → ℕ) (buys : Buys-alike B) where
   abbrev pub Beside : History → Day → Type 0
-  Beside h s = (i : ℕ) → i < length (h .terms) → Follows (instance-of B h) (length (h .views)) (algorithm-4 (instance-of B h) (slots (h .views))) i (campaign s i)
+  Beside h s = (i : ℕ) → i < length (h .terms) → Simulates (instance-of B h) (length (h .views)) (algorithm-4 (instance-of B h) (slots (h .views))) i (campaign s i)
 
   abbrev pub Answered : History → List Answer → Type 0
   Answered h rs = rs ≡ map (view-answer (λ i. terms-of h i .price)) (matches (instance-of B h) (slots (h .views)))
 
   -- the state s holds the day h, whose views were answered rs
-  pub record Kept (s : Day) (h : History) (rs : List Answer) : Type 0 where
+  pub record Alongside (s : Day) (h : History) (rs : List Answer) : Type 0 where
     pub plan-is : s .plan ≡ h .plan
     pub many : length (h .terms) ≡ s .count
     pub deep : 1 ≤ h .plan .depth
@@ -86,9 +86,9 @@ module _ (B : Terms → ℕ) (buys : Buys-alike B) where
     pub beside : 1 < h .plan .width → Beside h s
     pub answered : 1 < h .plan .width → Answered h rs
 
-  kept-opening : (p : Phase) (pl : Plan) → 1 ≤ pl .depth → Kept (empty-plan p pl) (opening pl) []
+  alongside-opening : (p : Phase) (pl : Plan) → 1 ≤ pl .depth → Alongside (empty-plan p pl) (opening pl) []
   unfolding matches-from
-  kept-opening p pl deep = record {
+  alongside-opening p pl deep = record {
     plan-is = refl;
     many = refl;
     deep = deep;
@@ -100,15 +100,15 @@ module _ (B : Terms → ℕ) (buys : Buys-alike B) where
     answered = λ _. refl;
   }
 
-  posed-of : (s : Day) (h : History) (rs : List Answer) → Kept s h rs → 1 < h .plan .width → Posed (h .plan) (length (h .terms)) (terms-of h)
-  posed-of s h rs k wide = record { deep = k .deep; wide = wide; priced = k .priced; funded = k .funded }
+  valid-of : (s : Day) (h : History) (rs : List Answer) → Alongside s h rs → 1 < h .plan .width → Valid (h .plan) (length (h .terms)) (terms-of h)
+  valid-of s h rs k wide = record { deep = k .deep; wide = wide; priced = k .priced; funded = k .funded }
 
   -- before the first view
-  beside-fresh : (s : Day) (h : History) → Posed (h .plan) (length (h .terms)) (terms-of h) → h .views ≡ [] → ((i : ℕ) → i < length (h .terms) → campaign s i ≡ fresh (terms-of h i)) → Beside h s
+  beside-fresh : (s : Day) (h : History) → Valid (h .plan) (length (h .terms)) (terms-of h) → h .views ≡ [] → ((i : ℕ) → i < length (h .terms) → campaign s i ≡ fresh (terms-of h i)) → Beside h s
   unfolding line-2
-  beside-fresh s h posed none same i l = rw (none, same i l) (follows-fresh B buys (h .plan) (length (h .terms)) (terms-of h) posed i l)
+  beside-fresh s h valid none same i l = rw (none, same i l) (simulates-fresh B buys (h .plan) (length (h .terms)) (terms-of h) valid i l)
 
-  module _ (s : Day) (h : History) (rs : List Answer) (k : Kept s h rs) where
+  module _ (s : Day) (h : History) (rs : List Answer) (k : Alongside s h rs) where
     module _ (t : Terms) (y : Yes (questions s (add-campaign t))) where
       more : History
       more = with-call h (add-campaign t) (result s (add-campaign t) .answer)
@@ -126,12 +126,12 @@ module _ (B : Terms → ℕ) (buys : Buys-alike B) where
       more-fresh =
           let room : s .count < 64 = ltb-true (s .count) 64 (y .1 .1 .0) in
           snoc-all (λ i u. campaign (result s (add-campaign t) .day) i ≡ fresh u) (h .terms) t
-          (λ i l. campaign-of-state Filling (s .plan) (s .count + 1) (s .accepted) (with-campaign s t) i (omega (arith, k .many)) ∙ joined-old s t i (λ e. omega (arith, k .many)) ∙ k .unplayed (y .1 .0) i l)
-          (campaign-of-state Filling (s .plan) (s .count + 1) (s .accepted) (with-campaign s t) (length (h .terms)) (omega (arith, k .many)) ∙ ap (with-campaign s t) (k .many) ∙ joined-new s t)
+          (λ i l. campaign-of-state Filling (s .plan) (s .count + 1) (s .accepted) (with-campaign s t) i (omega (arith, k .many)) ∙ with-campaign-old s t i (λ e. omega (arith, k .many)) ∙ k .unplayed (y .1 .0) i l)
+          (campaign-of-state Filling (s .plan) (s .count + 1) (s .accepted) (with-campaign s t) (length (h .terms)) (omega (arith, k .many)) ∙ ap (with-campaign s t) (k .many) ∙ with-campaign-new s t)
 
-      kept-add : Kept (result s (add-campaign t) .day) more rs
+      alongside-add : Alongside (result s (add-campaign t) .day) more rs
       unfolding more matches-from
-      kept-add = record {
+      alongside-add = record {
         plan-is = k .plan-is;
         many = length-append (h .terms) (t ∷ []) ∙ ap (λ n. n + 1) (k .many);
         deep = k .deep;
@@ -159,25 +159,25 @@ module _ (B : Terms → ℕ) (buys : Buys-alike B) where
       module _ (wide : 1 < h .plan .width) where
         ok : Proper I
         unfolding I
-        ok = proper B buys (h .plan) (length (h .terms)) (terms-of h) (posed-of s h rs k wide)
+        ok = proper B buys (h .plan) (length (h .terms)) (terms-of h) (valid-of s h rs k wide)
 
         played : line-4 I (length (h .views)) (names w) so-far ≡ player s w
         unfolding I so-far ok
         played = same-choice I ok (length (h .views)) w so-far (campaign s) (k .beside wide) ∙ ap₂ (λ n pl. chosen-of n pl w (campaign s)) (k .many) (sym (k .plan-is))
 
-        view-follows : (i : ℕ) → i < length (h .terms) → Follows I (suc (length (h .views))) (lines-3-to-11 I (length (h .views)) (names w) so-far) i (shown s w i)
+        view-simulates : (i : ℕ) → i < length (h .terms) → Simulates I (suc (length (h .views))) (lines-3-to-11 I (length (h .views)) (names w) so-far) i (shown s w i)
         unfolding I so-far ok
-        view-follows i l = rw (k .plan-is, ← k .many) (same-step I ok (length (h .views)) w so-far (campaign s) (k .beside wide) i l)
+        view-simulates i l = rw (k .plan-is, ← k .many) (same-step I ok (length (h .views)) w so-far (campaign s) (k .beside wide) i l)
 
-        view-told : view-answer (offers s w) (player s w) ≡ view-answer (λ i. terms-of h i .price) (line-4 I (length (h .views)) (names w) so-far)
+        same-answer : view-answer (offers s w) (player s w) ≡ view-answer (λ i. terms-of h i .price) (line-4 I (length (h .views)) (names w) so-far)
         unfolding I so-far line-4
-        view-told =
+        same-answer =
             ap (view-answer (offers s w)) (sym played)
-            ∙ told-eq (length (h .terms)) (feasible-neighbor I so-far (length (h .views)) (names w)) (offers s w) (λ i. terms-of h i .price) (λ i l. k .beside wide i l .accounts .bid) (line-4 I (length (h .views)) (names w) so-far) (best-fits _ _ _)
+            ∙ view-answer-eq (length (h .terms)) (feasible-neighbor I so-far (length (h .views)) (names w)) (offers s w) (λ i. terms-of h i .price) (λ i l. k .beside wide i l .accounts .bid) (line-4 I (length (h .views)) (names w) so-far) (best-fits _ _ _)
 
-      kept-view : Kept (result s (show-view w) .day) (with-call h (show-view w) (result s (show-view w) .answer)) (with-answer rs (show-view w) (result s (show-view w) .answer))
+      alongside-view : Alongside (result s (show-view w) .day) (with-call h (show-view w) (result s (show-view w) .answer)) (with-answer rs (show-view w) (result s (show-view w) .answer))
       unfolding I so-far
-      kept-view = record {
+      alongside-view = record {
         plan-is = k .plan-is;
         many = k .many;
         deep = k .deep;
@@ -194,14 +194,14 @@ module _ (B : Terms → ℕ) (buys : Buys-alike B) where
               slots-many,
               campaign-of-state Running (s .plan) (s .count) (s .accepted + 1) (shown s w) i (omega (arith, sound-facts s (y .0) .few, k .many)),
             )
-            (view-follows wide i l);
+            (view-simulates wide i l);
         answered = λ wide.
-            rw (slots-snoc, matches-snoc I (slots (h .views)) (names w) 0 line-1, slots-many, map-append, k .answered wide, view-told wide);
+            rw (slots-snoc, matches-snoc I (slots (h .views)) (names w) 0 line-1, slots-many, map-append, k .answered wide, same-answer wide);
       }
 
     -- a phase that is not Filling
-    kept-phase : (p : Phase) → is-filling p ≡ false → Kept (in-phase s p) h rs
-    kept-phase p e = record {
+    alongside-phase : (p : Phase) → is-filling p ≡ false → Alongside (in-phase s p) h rs
+    alongside-phase p e = record {
       plan-is = k .plan-is;
       many = k .many;
       deep = k .deep;
@@ -213,49 +213,49 @@ module _ (B : Terms → ℕ) (buys : Buys-alike B) where
       answered = k .answered;
     }
 
-    kept-result : (c : Call) → Yes (questions s c) → Kept (result s c .day) (with-call h c (result s c .answer)) (with-answer rs c (result s c .answer))
+    alongside-result : (c : Call) → Yes (questions s c) → Alongside (result s c .day) (with-call h c (result s c .answer)) (with-answer rs c (result s c .answer))
     unfolding more
-    kept-result (open-plan pl) y = kept-opening Filling pl (leb-true 1 (pl .depth) (both-left _ _ (y .1 .1 .0)))
-    kept-result (add-campaign t) y = kept-add t y
-    kept-result start-day y = kept-phase Running refl
-    kept-result (show-view w) y = kept-view w y
-    kept-result (ask-tally i) y = k
-    kept-result close-day y = kept-phase (Closed (total-takings s)) refl
+    alongside-result (open-plan pl) y = alongside-opening Filling pl (leb-true 1 (pl .depth) (both-left _ _ (y .1 .1 .0)))
+    alongside-result (add-campaign t) y = alongside-add t y
+    alongside-result start-day y = alongside-phase Running refl
+    alongside-result (show-view w) y = alongside-view w y
+    alongside-result (ask-tally i) y = k
+    alongside-result close-day y = alongside-phase (Closed (total-takings s)) refl
 
-    kept-call : (c : Call) → Kept (call s c .day) (entered h (record { made = c; answer = call s c .answer })) (replied rs (record { made = c; answer = call s c .answer }))
-    kept-call c =
-        call-elim (λ o. Kept (o .day) (entered h (record { made = c; answer = o .answer })) (replied rs (record { made = c; answer = o .answer }))) s c (λ q. rw (ne-eqb (suc q) 0 (λ z. omega arith)) k)
-        (λ y. rw (eq-eqb (number (result s c .answer)) 0 (result-number s c)) (kept-result c y))
+    alongside-call : (c : Call) → Alongside (call s c .day) (entered h (record { made = c; answer = call s c .answer })) (replied rs (record { made = c; answer = call s c .answer }))
+    alongside-call c =
+        call-elim (λ o. Alongside (o .day) (entered h (record { made = c; answer = o .answer })) (replied rs (record { made = c; answer = o .answer }))) s c (λ q. rw (ne-eqb (suc q) 0 (λ z. omega arith)) k)
+        (λ y. rw (eq-eqb (number (result s c .answer)) 0 (result-number s c)) (alongside-result c y))
 
-  kept-calls : (cs : List Call) (s : Day) (h : History) (rs : List Answer) → Kept s h rs → Kept (final s cs) (continued h (transcript s cs)) (replies-from rs (transcript s cs))
+  alongside-calls : (cs : List Call) (s : Day) (h : History) (rs : List Answer) → Alongside s h rs → Alongside (final s cs) (continued h (transcript s cs)) (replies-from rs (transcript s cs))
   unfolding final transcript continued replies-from
-  kept-calls [] s h rs k = k
-  kept-calls (c ∷ cs) s h rs k =
-      kept-calls cs (call s c .day) (entered h (record { made = c; answer = call s c .answer })) (replied rs (record { made = c; answer = call s c .answer })) (kept-call s h rs k c)
+  alongside-calls [] s h rs k = k
+  alongside-calls (c ∷ cs) s h rs k =
+      alongside-calls cs (call s c .day) (entered h (record { made = c; answer = call s c .answer })) (replied rs (record { made = c; answer = call s c .answer })) (alongside-call s h rs k c)
 
-  kept-blank : Kept blank (opening blank-plan) []
+  alongside-blank : Alongside blank (opening blank-plan) []
   unfolding blank
-  kept-blank = kept-opening (Closed 0) blank-plan (omega arith)
+  alongside-blank = alongside-opening (Closed 0) blank-plan (omega arith)
 
   -- an accepted opening, from any state
-  kept-from : (s : Day) (pl : Plan) → accepted (call s (open-plan pl) .answer) ≡ true
-      → Kept (call s (open-plan pl) .day) (entered (opening blank-plan) (record { made = open-plan pl; answer = call s (open-plan pl) .answer })) (replied [] (record { made = open-plan pl; answer = call s (open-plan pl) .answer }))
-  kept-from s pl e =
-      call-elim (λ o. accepted (o .answer) ≡ true → Kept (o .day) (entered (opening blank-plan) (record { made = open-plan pl; answer = o .answer })) (replied [] (record { made = open-plan pl; answer = o .answer }))) s (open-plan pl)
-      (λ q z. absurd (omega (arith, eqb-true (suc q) 0 z))) (λ y z. kept-opening Filling pl (leb-true 1 (pl .depth) (both-left _ _ (y .1 .1 .0)))) e
+  alongside-from : (s : Day) (pl : Plan) → accepted (call s (open-plan pl) .answer) ≡ true
+      → Alongside (call s (open-plan pl) .day) (entered (opening blank-plan) (record { made = open-plan pl; answer = call s (open-plan pl) .answer })) (replied [] (record { made = open-plan pl; answer = call s (open-plan pl) .answer }))
+  alongside-from s pl e =
+      call-elim (λ o. accepted (o .answer) ≡ true → Alongside (o .day) (entered (opening blank-plan) (record { made = open-plan pl; answer = o .answer })) (replied [] (record { made = open-plan pl; answer = o .answer }))) s (open-plan pl)
+      (λ q z. absurd (omega (arith, eqb-true (suc q) 0 z))) (λ y z. alongside-opening Filling pl (leb-true 1 (pl .depth) (both-left _ _ (y .1 .1 .0)))) e
 
-  kept : (s : Day) (cs : List Call) → Starts s cs → Kept (final s cs) (history (transcript s cs)) (replies (transcript s cs))
+  alongside : (s : Day) (cs : List Call) → Starts s cs → Alongside (final s cs) (history (transcript s cs)) (replies (transcript s cs))
   unfolding final transcript continued replies-from
-  kept _ _ (from-blank cs) = kept-calls cs blank (opening blank-plan) [] kept-blank
-  kept _ _ (from-opening s pl cs e) =
-      kept-calls cs (call s (open-plan pl) .day) (entered (opening blank-plan) (record { made = open-plan pl; answer = call s (open-plan pl) .answer })) (replied [] (record { made = open-plan pl; answer = call s (open-plan pl) .answer })) (kept-from s pl e)
+  alongside _ _ (from-blank cs) = alongside-calls cs blank (opening blank-plan) [] alongside-blank
+  alongside _ _ (from-opening s pl cs e) =
+      alongside-calls cs (call s (open-plan pl) .day) (entered (opening blank-plan) (record { made = open-plan pl; answer = call s (open-plan pl) .answer })) (replied [] (record { made = open-plan pl; answer = call s (open-plan pl) .answer })) (alongside-from s pl e)
 
-  alike-of : (s : Day) (h : History) (rs : List Answer) → Kept s h rs → 1 < h .plan .width → Day-alike B h rs s
-  alike-of s h rs k wide = record {
+  agrees-of : (s : Day) (h : History) (rs : List Answer) → Alongside s h rs → 1 < h .plan .width → Day-agrees B h rs s
+  agrees-of s h rs k wide = record {
     same-answers = k .answered wide;
     same-tallies = λ i l.
-        follows-stands (instance-of B h) (proper B buys (h .plan) (length (h .terms)) (terms-of h) (posed-of s h rs k wide)) (length (h .views)) (algorithm-4 (instance-of B h) (slots (h .views))) i (campaign s i) l (k .beside wide i l);
+        simulates-represents (instance-of B h) (proper B buys (h .plan) (length (h .terms)) (terms-of h) (valid-of s h rs k wide)) (length (h .views)) (algorithm-4 (instance-of B h) (slots (h .views))) i (campaign s i) l (k .beside wide i l);
   }
 
 pub days-as-algorithm-4 : Days-as-Algorithm-4
-days-as-algorithm-4 B buys s cs st wide = alike-of B buys (final s cs) (history (transcript s cs)) (replies (transcript s cs)) (kept B buys s cs st) wide
+days-as-algorithm-4 B buys s cs st wide = agrees-of B buys (final s cs) (history (transcript s cs)) (replies (transcript s cs)) (alongside B buys s cs st) wide

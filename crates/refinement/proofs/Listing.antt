@@ -25,8 +25,8 @@ use Rattle.floor.specs.History.{continued, history}
 use Rattle.floor.specs.History.Starts.{from-blank}
 use Rattle.refinement.specs.Fraction.{integer, equal}
 use Rattle.refinement.specs.Algorithm4.{Instance, C, feasible, line-2, line-4, lines-3-to-11, algorithm-4, matches-from, matches}
-use Rattle.refinement.specs.Standing.{spendable, instance, slots}
-use Rattle.refinement.specs.Days.{replies-from, replies, Day-alike}
+use Rattle.refinement.specs.Correspondence.{spendable, instance, slots}
+use Rattle.refinement.specs.Days.{replies-from, replies, Day-agrees}
 use Rattle.refinement.proofs.Budgets.{budget-buys, spendable-buys}
 use Rattle.refinement.proofs.Days.{days-as-algorithm-4}
 
@@ -66,8 +66,8 @@ pub listing-width : history (transcript blank calls) .plan ≡ plan
 unfolding continued transcript call first-failed sound sound-record sound-plan sound-campaign priced counted uncounted empty total-takings total-claim total-budgets blank width-holds size within choice best whole claim weight share member sum count every table
 listing-width = refl
 
-pub listing-alike : Day-alike (λ t. t .budget) (history (transcript blank calls)) (replies (transcript blank calls)) (final blank calls)
-listing-alike = days-as-algorithm-4 (λ t. t .budget) budget-buys blank calls (from-blank calls) (rw listing-width (omega arith))
+pub listing-agrees : Day-agrees (λ t. t .budget) (history (transcript blank calls)) (replies (transcript blank calls)) (final blank calls)
+listing-agrees = days-as-algorithm-4 (λ t. t .budget) budget-buys blank calls (from-blank calls) (rw listing-width (omega arith))
 
 -- The same with 3 and 2 cents left over, which no play can spend: budgets 13 and 8.
 abbrev cents : List Terms
@@ -88,5 +88,5 @@ pub cents-width : history (transcript blank cents-calls) .plan ≡ plan
 unfolding continued transcript call first-failed sound sound-record sound-plan sound-campaign priced counted uncounted empty total-takings total-claim total-budgets blank width-holds size within choice best whole claim weight share member sum count every table
 cents-width = refl
 
-pub cents-alike : Day-alike spendable (history (transcript blank cents-calls)) (replies (transcript blank cents-calls)) (final blank cents-calls)
-cents-alike = days-as-algorithm-4 spendable spendable-buys blank cents-calls (from-blank cents-calls) (rw cents-width (omega arith))
+pub cents-agrees : Day-agrees spendable (history (transcript blank cents-calls)) (replies (transcript blank cents-calls)) (final blank cents-calls)
+cents-agrees = days-as-algorithm-4 spendable spendable-buys blank cents-calls (from-blank cents-calls) (rw cents-width (omega arith))

@@ -23,11 +23,11 @@ use Rattle.demands.specs.Choice.{Right}
 use Rattle.demands.proofs.Choice.{choice-right}
 use Rattle.refinement.specs.Fraction.{less}
 use Rattle.refinement.specs.Algorithm4.{Instance, Neighbors, Variables, feasible-neighbor, quantity, displaces, line-1, line-2, line-3, line-4, lines-9-to-11, lines-3-to-11, matches-from, algorithm-4}
-use Rattle.refinement.specs.Standing.{Buys-alike, instance, slots, Stands, Maximizes, Next, choices, campaigns-after, Posed, Alike, As-Algorithm-4}
+use Rattle.refinement.specs.Correspondence.{Buys-alike, instance, slots, Represents, Maximizes, Next, choices, campaigns-after, Valid, Agrees, As-Algorithm-4}
 use Rattle.campaigns.proofs.Choices.{best-fits}
 use Rattle.refinement.proofs.Choices.{best-eq}
-use Rattle.refinement.proofs.Copies.{starts, value-copy, copy-full, one-age, one-turns, displaced, value-quantity}
-use Rattle.refinement.proofs.Slots.{Follows, unfinished, able-alike, after-slot}
+use Rattle.refinement.proofs.Copies.{value-zero, value-copy, copy-full, one-age, one-turns, displaced, value-quantity}
+use Rattle.refinement.proofs.Slots.{Simulates, unfinished, able-alike, after-slot}
 
 -- line 4's words pick out one match at most
 one-maximizes : (I : Instance) (j : ℕ) (N : Neighbors) (v : Variables) (a b : Choice) → Maximizes I j N v a → Maximizes I j N v b → a ≡ b
@@ -53,14 +53,14 @@ plan-of I = record { depth = I .k; width = I .d }
 
 module _ (I : Instance) (ok : Proper I) where
   abbrev pub All : ℕ → Variables → (ℕ → Campaign) → Type 0
-  All j v f = (i : ℕ) → i < I .n → Follows I j v i (f i)
+  All j v f = (i : ℕ) → i < I .n → Simulates I j v i (f i)
 
-  pub follows-stands : (j : ℕ) (v : Variables) (i : ℕ) (c : Campaign) → i < I .n → Follows I j v i c → Stands I j v i c
-  follows-stands j v i c l h = record {
-    age-stands = value-copy I i (ok .deep) (ok .wide) (ok .bids i l) (ok .budgets i l) (v .zᶜ i) (c .age) (h .young) (h .current);
-    turns-stand = h .accounts .finished;
-    plays-stand = h .accounts .matched;
-    quantity-stands = value-quantity I (ok .deep) (ok .wide) v i (c .age) (omega (arith, h .young)) (h .current);
+  pub simulates-represents : (j : ℕ) (v : Variables) (i : ℕ) (c : Campaign) → i < I .n → Simulates I j v i c → Represents I j v i c
+  simulates-represents j v i c l h = record {
+    age-is = value-copy I i (ok .deep) (ok .wide) (ok .bids i l) (ok .budgets i l) (v .zᶜ i) (c .age) (h .young) (h .current);
+    turns-are = h .accounts .finished;
+    plays-are = h .accounts .matched;
+    quantity-is = value-quantity I (ok .deep) (ok .wide) v i (c .age) (omega (arith, h .young)) (h .current);
   }
 
   module _ (j : ℕ) (w : View) (v : Variables) (f : ℕ → Campaign) (h : All j v f) where
@@ -98,7 +98,7 @@ module _ (I : Instance) (ok : Proper I) where
     pub same-step : All (suc j) (lines-3-to-11 I j (names w) v) (viewed (I .n) (plan-of I) w f)
     unfolding lines-3-to-11 line-4
     same-step i l =
-        subst (λ m. Follows I (suc j) (lines-9-to-11 I (names w) (line-3 I j (names w) (line-4 I j (names w) v) v)) i (after (I .k) (role-of (names w i) (can-pay (f i)) (is m i)) (f i))) same-choice
+        subst (λ m. Simulates I (suc j) (lines-9-to-11 I (names w) (line-3 I j (names w) (line-4 I j (names w) v) v)) i (after (I .k) (role-of (names w i) (can-pay (f i)) (is m i)) (f i))) same-choice
         (after-slot I (ok .deep) (ok .wide) i (ok .bids i l) (ok .budgets i l) j (names w) v (f i) (h i l) (line-4 I j (names w) v) (best-fits (I .n) _ _) l)
 
   pub run-choices : (ws : List View) (j : ℕ) (v : Variables) (f : ℕ → Campaign) → All j v f → matches-from I j (slots ws) v ≡ choices (I .n) (plan-of I) ws f
@@ -106,30 +106,30 @@ module _ (I : Instance) (ok : Proper I) where
   run-choices [] j v f h = refl
   run-choices (w ∷ ws) j v f h = ap₂ _∷_ (same-choice j w v f h) (run-choices ws (suc j) (lines-3-to-11 I j (names w) v) (viewed (I .n) (plan-of I) w f) (same-step j w v f h))
 
-  pub run-follows : (ws : List View) (j : ℕ) (v : Variables) (f : ℕ → Campaign) → All j v f → All (length ws + j) (line-2 I j (slots ws) v) (campaigns-after (I .n) (plan-of I) ws f)
+  pub run-simulates : (ws : List View) (j : ℕ) (v : Variables) (f : ℕ → Campaign) → All j v f → All (length ws + j) (line-2 I j (slots ws) v) (campaigns-after (I .n) (plan-of I) ws f)
   unfolding line-2 campaigns-after
-  run-follows [] j v f h = let e : j ≡ 0 + j = omega arith in subst (λ m. All m v f) e h
-  run-follows (w ∷ ws) j v f h =
+  run-simulates [] j v f h = let e : j ≡ 0 + j = omega arith in subst (λ m. All m v f) e h
+  run-simulates (w ∷ ws) j v f h =
       let e : length ws + suc j ≡ suc (length ws) + j = omega arith in
       subst (λ m. All m (line-2 I (suc j) (slots ws) (lines-3-to-11 I j (names w) v)) (campaigns-after (I .n) (plan-of I) ws (viewed (I .n) (plan-of I) w f))) e
-      (run-follows ws (suc j) (lines-3-to-11 I j (names w) v) (viewed (I .n) (plan-of I) w f) (same-step j w v f h))
+      (run-simulates ws (suc j) (lines-3-to-11 I j (names w) v) (viewed (I .n) (plan-of I) w f) (same-step j w v f h))
 
 -- the paper's instance for terms that are taken
-module _ (B : Terms → ℕ) (buys : Buys-alike B) (pl : Plan) (n : ℕ) (t : ℕ → Terms) (posed : Posed pl n t) where
+module _ (B : Terms → ℕ) (buys : Buys-alike B) (pl : Plan) (n : ℕ) (t : ℕ → Terms) (valid : Valid pl n t) where
   whole-play : (i : ℕ) → i < n → 0 < t i .budget / t i .price
-  whole-play i l = le-div-iff-mul-le (posed .priced i l) .1 (omega (arith, posed .funded i l))
+  whole-play i l = le-div-iff-mul-le (valid .priced i l) .1 (omega (arith, valid .funded i l))
 
   pub proper : Proper (instance B pl n t)
   proper = record {
-    deep = posed .deep;
-    wide = posed .wide;
-    bids = posed .priced;
+    deep = valid .deep;
+    wide = valid .wide;
+    bids = valid .priced;
     budgets = λ i l. pos-of-div-pos (t i .price) (omega (arith, whole-play i l, buys (t i)));
   }
 
-  pub follows-fresh : All (instance B pl n t) proper 0 line-1 (λ i. fresh (t i))
+  pub simulates-fresh : All (instance B pl n t) proper 0 line-1 (λ i. fresh (t i))
   unfolding whole
-  follows-fresh i l = record {
+  simulates-fresh i l = record {
     accounts = record {
       bid = refl;
       copies = sym (buys (t i));
@@ -137,25 +137,25 @@ module _ (B : Terms → ℕ) (buys : Buys-alike B) (pl : Plan) (n : ℕ) (t : �
       matched = sum-zero _;
       later = λ j h. refl;
     };
-    young = posed .deep;
-    current = starts (instance B pl n t) i (posed .deep) (posed .wide) (proper .bids i l) (proper .budgets i l);
+    young = valid .deep;
+    current = value-zero (instance B pl n t) i (valid .deep) (valid .wide) (proper .bids i l) (proper .budgets i l);
   }
 
-  pub alike : (ws : List View) → Alike (instance B pl n t) pl t ws
-  alike ws =
+  pub agrees : (ws : List View) → Agrees (instance B pl n t) pl t ws
+  agrees ws =
       let I : Instance = instance B pl n t in
       let h : All I proper (length ws) (algorithm-4 I (slots ws)) (campaigns-after n pl ws (λ i. fresh (t i))) =
-      subst (λ j. All I proper j (algorithm-4 I (slots ws)) (campaigns-after n pl ws (λ i. fresh (t i)))) (omega arith) (run-follows I proper ws 0 line-1 (λ i. fresh (t i)) follows-fresh) in
+      subst (λ j. All I proper j (algorithm-4 I (slots ws)) (campaigns-after n pl ws (λ i. fresh (t i)))) (omega arith) (run-simulates I proper ws 0 line-1 (λ i. fresh (t i)) simulates-fresh) in
       record {
-        same-choices = run-choices I proper ws 0 line-1 (λ i. fresh (t i)) follows-fresh;
-        legible = λ i l. record {
-          one-age = one-age I i (posed .deep) (posed .wide) (proper .bids i l) (proper .budgets i l);
-          one-turns = one-turns I i (posed .deep) (posed .wide) (proper .bids i l) (proper .budgets i l);
-          full = copy-full I i (posed .deep) (posed .wide) (proper .bids i l) (proper .budgets i l);
+        same-choices = run-choices I proper ws 0 line-1 (λ i. fresh (t i)) simulates-fresh;
+        injective = λ i l. record {
+          one-age = one-age I i (valid .deep) (valid .wide) (proper .bids i l) (proper .budgets i l);
+          one-turns = one-turns I i (valid .deep) (valid .wide) (proper .bids i l) (proper .budgets i l);
+          full = copy-full I i (valid .deep) (valid .wide) (proper .bids i l) (proper .budgets i l);
         };
-        same-counts = λ i l. follows-stands I proper (length ws) (algorithm-4 I (slots ws)) i (campaigns-after n pl ws (λ i′. fresh (t i′)) i) l (h i l);
+        same-counts = λ i l. simulates-represents I proper (length ws) (algorithm-4 I (slots ws)) i (campaigns-after n pl ws (λ i′. fresh (t i′)) i) l (h i l);
         next = λ w. next-slot I proper (length ws) w (algorithm-4 I (slots ws)) (campaigns-after n pl ws (λ i. fresh (t i))) h;
       }
 
 pub as-algorithm-4 : As-Algorithm-4
-as-algorithm-4 B buys pl n t posed ws = alike B buys pl n t posed ws
+as-algorithm-4 B buys pl n t valid ws = agrees B buys pl n t valid ws

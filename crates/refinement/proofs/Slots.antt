@@ -19,7 +19,7 @@ use Rattle.campaigns.specs.Campaign.{whole, can-pay, named-again, after, aged}
 use Rattle.refinement.specs.Fraction.{Fraction, integer, _⊗_, lesser, _≈_}
 use Rattle.refinement.specs.Algorithm4.{Instance, Neighbors, Variables, C, part, feasible, feasible-neighbor, grown, line-3, line-5, line-6, line-9, lines-9-to-11}
 use Rattle.campaigns.proofs.Choices.{Fits}
-use Rattle.refinement.proofs.Copies.{C-sum, Value, raised, below-part, reaches-part, starts, weight-below}
+use Rattle.refinement.proofs.Copies.{C-sum, Value, raised, below-part, reaches-part, value-zero, weight-below}
 
 -- the same bid and the same number of whole plays; z_i holds the finished copies; x_{i,j} marks p slots before j, and none from j on
 pub record Accounts (I : Instance) (j i : ℕ) (c : Campaign) (p : ℕ) (z : Fraction) (x : ℕ → ℕ) : Type 0 where
@@ -30,7 +30,7 @@ pub record Accounts (I : Instance) (j i : ℕ) (c : Campaign) (p : ℕ) (z : Fra
   pub later : (j′ : ℕ) → j ≤ j′ → x j′ ≡ 0
 
 -- and z_i^c is what the age makes it
-pub record Follows (I : Instance) (j : ℕ) (v : Variables) (i : ℕ) (c : Campaign) : Type 0 where
+pub record Simulates (I : Instance) (j : ℕ) (v : Variables) (i : ℕ) (c : Campaign) : Type 0 where
   pub accounts : Accounts I j i c (c .plays) (v .z i) (v .x i)
   pub young : c .age < I .k
   pub current : Value I i (weight (I .k) (I .d) (c .age)) (v .zᶜ i)
@@ -90,7 +90,7 @@ module _ (I : Instance) (deep : 0 < I .k) (wide : 1 < I .d) (i : ℕ) (bid-posit
 
   -- lines 9 to 11 leave it
   kept : (j : ℕ) (N : Neighbors) (v : Variables) (c : Campaign) → Accounts I j i c (c .plays) (v .z i) (v .x i) → c .age < I .k → Value I i (weight (I .k) (I .d) (c .age)) (v .zᶜ i)
-      → Follows I j (lines-9-to-11 I N v) i c
+      → Simulates I j (lines-9-to-11 I N v) i c
   kept j N v c a young q =
       let e : line-9 I N v i ≡ false = unfinished N v (c .age) young q in
       record {
@@ -101,7 +101,7 @@ module _ (I : Instance) (deep : 0 < I .k) (wide : 1 < I .d) (i : ℕ) (bid-posit
 
   -- and close one that is finished
   done : (j : ℕ) (N : Neighbors) (v : Variables) (c : Campaign) (p : ℕ) → Accounts I j i c p (v .z i) (v .x i) → N i ≡ true
-      → 0 < v .zᶜ i .denominator → v .zᶜ i .numerator * I .B i ≡ I .b i * v .zᶜ i .denominator → Follows I j (lines-9-to-11 I N v) i (named-again c p (c .turns + 1) 0)
+      → 0 < v .zᶜ i .denominator → v .zᶜ i .numerator * I .B i ≡ I .b i * v .zᶜ i .denominator → Simulates I j (lines-9-to-11 I N v) i (named-again c p (c .turns + 1) 0)
   unfolding whole
   done j N v c p a named positive cross =
       let e : line-9 I N v i ≡ true = rw (named, eq-eqb (v .zᶜ i .numerator * I .B i) (I .b i * v .zᶜ i .denominator) cross) in
@@ -118,14 +118,14 @@ module _ (I : Instance) (deep : 0 < I .k) (wide : 1 < I .d) (i : ℕ) (bid-posit
           later = a .later;
         };
         young = deep;
-        current = rw e (starts I i deep wide bid-positive budget-positive);
+        current = rw e (value-zero I i deep wide bid-positive budget-positive);
       }
 
   -- can it pay, as the two sides ask it
   pays-alike : (j : ℕ) (v : Variables) (c : Campaign) (z : Fraction) → Accounts I (suc j) i c (c .plays) z (v .x i) → feasible I v j i ≡ can-pay c
   pays-alike j v c z a = feasible-is I j v i (c .plays) bid-positive (a .matched) ∙ ap (λ n. ltb (c .plays) n) (sym (a .copies))
 
-  module _ (j : ℕ) (N : Neighbors) (v : Variables) (c : Campaign) (f : Follows I j v i c) where
+  module _ (j : ℕ) (N : Neighbors) (v : Variables) (c : Campaign) (f : Simulates I j v i c) where
     untouched : Accounts I (suc j) i c (c .plays) (v .z i) (v .x i)
     untouched = passed-by I j i c (c .plays) (v .z i) (v .x i) (v .x i) (λ j′. refl) (f .accounts)
 
@@ -133,10 +133,10 @@ module _ (I : Instance) (deep : 0 < I .k) (wide : 1 < I .d) (i : ℕ) (bid-posit
     able-alike = ap (λ t. N i && t) (pays-alike j v c (v .z i) untouched)
 
     -- nobody is matched
-    after-nobody : (N i && can-pay c) ≡ false → Follows I (suc j) (lines-9-to-11 I N v) i (after (I .k) (role-of (N i) (can-pay c) false) c)
+    after-nobody : (N i && can-pay c) ≡ false → Simulates I (suc j) (lines-9-to-11 I N v) i (after (I .k) (role-of (N i) (can-pay c) false) c)
     after-nobody e = go (N i) (can-pay c) e
       where
-        go : (t u : Bool) → (t && u) ≡ false → Follows I (suc j) (lines-9-to-11 I N v) i (after (I .k) (role-of t u false) c)
+        go : (t u : Bool) → (t && u) ≡ false → Simulates I (suc j) (lines-9-to-11 I N v) i (after (I .k) (role-of t u false) c)
         go false u q = kept (suc j) N v c untouched (f .young) (f .current)
         go true false q = kept (suc j) N v (named-again c (c .plays) (c .turns) (c .age)) (recounted I (suc j) i c (c .plays) (c .plays) (c .age) (v .z i) (v .x i) untouched) (f .young) (f .current)
         go true true q = absurd (never true q refl)
@@ -147,7 +147,7 @@ module _ (I : Instance) (deep : 0 < I .k) (wide : 1 < I .d) (i : ℕ) (bid-posit
         marked-by I j i c (c .plays) (v .z i) (v .x i) (line-5 j i v .x i) (rw (eq-eqb i i refl, eq-eqb j j refl))
         (λ j′ h. rw (eq-eqb i i refl, ne-eqb j′ j h)) (f .accounts)
 
-    after-own : N i ≡ true → can-pay c ≡ true → Follows I (suc j) (lines-9-to-11 I N (line-3 I j N (plays i) v)) i (after (I .k) (role-of (N i) (can-pay c) (eqb i i)) c)
+    after-own : N i ≡ true → can-pay c ≡ true → Simulates I (suc j) (lines-9-to-11 I N (line-3 I j N (plays i) v)) i (after (I .k) (role-of (N i) (can-pay c) (eqb i i)) c)
     after-own named able =
         let mid : Variables = line-3 I j N (plays i) v in
         let e : mid .zᶜ i ≡ part I i = rw (eq-eqb i i refl, and-false) in
@@ -170,7 +170,7 @@ module _ (I : Instance) (deep : 0 < I .k) (wide : 1 < I .d) (i : ℕ) (bid-posit
       up-value = raised I i deep wide bid-positive budget-positive (v .zᶜ i) (c .age) (f .young) (f .current)
 
       after-passed : (t : Bool) → eqb (c .age + 1) (I .k) ≡ t → N i ≡ true → line-3 I j N (plays m) v .zᶜ i ≡ lesser (part I i) up
-          → Follows I (suc j) (lines-9-to-11 I N (line-3 I j N (plays m) v)) i (aged t c)
+          → Simulates I (suc j) (lines-9-to-11 I N (line-3 I j N (plays m) v)) i (aged t c)
       after-passed true e named q =
           let top : weight (I .k) (I .d) (c .age + 1) ≡ C I .denominator + C I .numerator = ap (weight (I .k) (I .d)) (eqb-true (c .age + 1) (I .k) e) ∙ weight-top (I .k) (I .d) ∙ sym (C-sum I) in
           let full : up .numerator * I .B i ≡ I .b i * up .denominator = reaches-part I i deep wide bid-positive budget-positive up (weight (I .k) (I .d) (c .age + 1)) up-value top in
@@ -183,11 +183,11 @@ module _ (I : Instance) (deep : 0 < I .k) (wide : 1 < I .d) (i : ℕ) (bid-posit
           kept (suc j) N (line-3 I j N (plays m) v) (named-again c (c .plays) (c .turns) (c .age + 1)) (recounted I (suc j) i c (c .plays) (c .plays) (c .age + 1) (v .z i) (line-5 j m v .x i) row)
           young (rw r up-value)
 
-      after-other : Follows I (suc j) (lines-9-to-11 I N (line-3 I j N (plays m) v)) i (after (I .k) (role-of (N i) (can-pay c) (eqb i m)) c)
+      after-other : Simulates I (suc j) (lines-9-to-11 I N (line-3 I j N (plays m) v)) i (after (I .k) (role-of (N i) (can-pay c) (eqb i m)) c)
       after-other = rw other (go (N i) refl (can-pay c) mid-copy)
         where
           go : (t : Bool) → N i ≡ t → (u : Bool) → line-3 I j N (plays m) v .zᶜ i ≡ cond (t && u) (lesser (part I i) up) (v .zᶜ i)
-              → Follows I (suc j) (lines-9-to-11 I N (line-3 I j N (plays m) v)) i (after (I .k) (role-of t u false) c)
+              → Simulates I (suc j) (lines-9-to-11 I N (line-3 I j N (plays m) v)) i (after (I .k) (role-of t u false) c)
           go false e u q = kept (suc j) N (line-3 I j N (plays m) v) c row (f .young) (rw q (f .current))
           go true e false q =
               kept (suc j) N (line-3 I j N (plays m) v) (named-again c (c .plays) (c .turns) (c .age)) (recounted I (suc j) i c (c .plays) (c .plays) (c .age) (v .z i) (line-5 j m v .x i) row)
@@ -195,14 +195,14 @@ module _ (I : Instance) (deep : 0 < I .k) (wide : 1 < I .d) (i : ℕ) (bid-posit
           go true e true q = after-passed (eqb (c .age + 1) (I .k)) refl e q
 
     -- whomever line 4 matches among the feasible neighbors
-    pub after-slot : (m : Choice) → Fits (I .n) (feasible-neighbor I v j N) m → i < I .n → Follows I (suc j) (lines-9-to-11 I N (line-3 I j N m v)) i (after (I .k) (role-of (N i) (can-pay c) (is m i)) c)
+    pub after-slot : (m : Choice) → Fits (I .n) (feasible-neighbor I v j N) m → i < I .n → Simulates I (suc j) (lines-9-to-11 I N (line-3 I j N m v)) i (after (I .k) (role-of (N i) (can-pay c) (is m i)) c)
     after-slot nobody none l = after-nobody (sym able-alike ∙ none i l)
     after-slot (plays m) one l = go (eqb i m) refl
       where
-        go : (t : Bool) → eqb i m ≡ t → Follows I (suc j) (lines-9-to-11 I N (line-3 I j N (plays m) v)) i (after (I .k) (role-of (N i) (can-pay c) (eqb i m)) c)
+        go : (t : Bool) → eqb i m ≡ t → Simulates I (suc j) (lines-9-to-11 I N (line-3 I j N (plays m) v)) i (after (I .k) (role-of (N i) (can-pay c) (eqb i m)) c)
         go true e =
             let q : i ≡ m = eqb-true i m e in
             let both : (N i && can-pay c) ≡ true = sym able-alike ∙ ap (feasible-neighbor I v j N) q ∙ one .1 in
-            subst (λ r. Follows I (suc j) (lines-9-to-11 I N (line-3 I j N (plays r) v)) i (after (I .k) (role-of (N i) (can-pay c) (eqb i r)) c)) q
+            subst (λ r. Simulates I (suc j) (lines-9-to-11 I N (line-3 I j N (plays r) v)) i (after (I .k) (role-of (N i) (can-pay c) (eqb i r)) c)) q
             (after-own (both-left (N i) (can-pay c) both) (both-right (N i) (can-pay c) both))
         go false e = after-other m e

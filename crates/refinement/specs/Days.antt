@@ -14,7 +14,7 @@ use Rattle.day.specs.Calls.Call.{open-plan, add-campaign, start-day, show-view,
 use Rattle.demands.specs.Transcript.{Exchange, transcript, final}
 use Rattle.floor.specs.History.{accepted, Starts, History, history}
 use Rattle.refinement.specs.Algorithm4.{Instance, algorithm-4, matches}
-use Rattle.refinement.specs.Standing.{Buys-alike, instance, slots, Stands}
+use Rattle.refinement.specs.Correspondence.{Buys-alike, instance, slots, Represents}
 
 -- the answers to the day's views: an accepted opening begins a day, and an accepted view adds its answer
 abbrev pub with-answer : List Answer → Call → Answer → List Answer
@@ -44,12 +44,12 @@ instance-of B h = instance B (h .plan) (length (h .terms)) (terms-of h)
 
 -- the day h, whose views were answered rs, and at whose end the state is s: each view got the answer that Algorithm 4
 -- gives, with the price of the one matched, and the tallies stand for its variables
-pub record Day-alike (B : Terms → ℕ) (h : History) (rs : List Answer) (s : Day) : Type 0 where
+pub record Day-agrees (B : Terms → ℕ) (h : History) (rs : List Answer) (s : Day) : Type 0 where
   pub same-answers : rs ≡ map (view-answer (λ i. terms-of h i .price)) (matches (instance-of B h) (slots (h .views)))
   pub same-tallies : (i : ℕ) → i < length (h .terms)
-      → Stands (instance-of B h) (length (h .views)) (algorithm-4 (instance-of B h) (slots (h .views))) i (campaign s i)
+      → Represents (instance-of B h) (length (h .views)) (algorithm-4 (instance-of B h) (slots (h .views))) i (campaign s i)
 
 abbrev pub Days-as-Algorithm-4 : Type 0
 Days-as-Algorithm-4 = (B : Terms → ℕ) → Buys-alike B → (s : Day) (cs : List Call) → Starts s cs
     → 1 < history (transcript s cs) .plan .width
-    → Day-alike B (history (transcript s cs)) (replies (transcript s cs)) (final s cs)
+    → Day-agrees B (history (transcript s cs)) (replies (transcript s cs)) (final s cs)

@@ -1,4 +1,4 @@
 pub mod Fraction
 pub mod Algorithm4
-pub mod Standing
+pub mod Correspondence
 pub mod Days

@@ -23,7 +23,7 @@ example : (s : Day) (words : List ℕ) (calls : List Call) (paid : ℕ) → deco
 example s words calls paid e st p =
     let here : Starts s (decode words) = subst⁻¹ (Starts s) e st in
     let sum-is : history (transcript s (decode words)) .paid ≡ paid = ap (λ (cs : List Call). history (transcript s cs) .paid) e ∙ p in
-    record { encodes = e; starts = here; pays = λ r q. (q .paid-is ∙ sum-is, q .demand-3 here .shown ∙ sum-is) }
+    record { encodes = e; starts = here; pays = λ r q. (q .paid-is ∙ sum-is, q .demand-3 here .takings-is ∙ sum-is) }
 
 pub examples : Examples
 unfolding call-in decode transcript final continued call first-failed sound sound-record blank sum count every table within size member width-holds weight share whole claim total-takings total-claim total-budgets sound-plan priced counted uncounted empty sound-campaign best choice

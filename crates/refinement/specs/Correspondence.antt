@@ -55,15 +55,15 @@ Scores-order I =
 
 -- a campaign's counts stand for the variables of advertiser i before slot j: its age is the degree of the current copy;
 -- each of its turns is a finished copy, which has added b_i/B_i to z_i; its plays are the slots matched to i
-pub record Stands (I : Instance) (j : ℕ) (v : Variables) (i : ℕ) (c : Campaign) : Type 0 where
-  pub age-stands : v .zᶜ i ≈ copy I i (c .age)
-  pub turns-stand : v .z i ≈ integer (c .turns) ⊗ part I i
-  pub plays-stand : sum j (v .x i) ≡ c .plays
-  pub quantity-stands : quantity I v i ≈ compared-quantity I i (c .age)
+pub record Represents (I : Instance) (j : ℕ) (v : Variables) (i : ℕ) (c : Campaign) : Type 0 where
+  pub age-is : v .zᶜ i ≈ copy I i (c .age)
+  pub turns-are : v .z i ≈ integer (c .turns) ⊗ part I i
+  pub plays-are : sum j (v .x i) ≡ c .plays
+  pub quantity-is : quantity I v i ≈ compared-quantity I i (c .age)
 
 -- no two ages and no two turns stand for one value, and "by our choice of C, after at most k i-edges, z_i^c = b_i/B_i"
 -- (the same proof)
-pub record Legible (I : Instance) (i : ℕ) : Type 0 where
+pub record Injective (I : Instance) (i : ℕ) : Type 0 where
   pub one-age : (a a′ : ℕ) → copy I i a ≈ copy I i a′ → a ≡ a′
   pub one-turns : (t t′ : ℕ) → integer t ⊗ part I i ≈ integer t′ ⊗ part I i → t ≡ t′
   pub full : copy I i (I .k) ≈ part I i
@@ -94,7 +94,7 @@ campaigns-after n pl [] f = f
 campaigns-after n pl (w ∷ ws) f = campaigns-after n pl ws (viewed n pl w f)
 
 -- a plan of width above 1, and terms that are taken (questions 3, 8 and 9)
-pub record Posed (pl : Plan) (n : ℕ) (t : ℕ → Terms) : Type 0 where
+pub record Valid (pl : Plan) (n : ℕ) (t : ℕ → Terms) : Type 0 where
   pub deep : 1 ≤ pl .depth
   pub wide : 1 < pl .width
   pub priced : (i : ℕ) → i < n → 1 ≤ t i .price
@@ -102,13 +102,13 @@ pub record Posed (pl : Plan) (n : ℕ) (t : ℕ → Terms) : Type 0 where
 
 -- from fresh campaigns and through the views ws: the matches are our choices, and our counts stand for the variables,
 -- and tell them
-pub record Alike (I : Instance) (pl : Plan) (t : ℕ → Terms) (ws : List View) : Type 0 where
+pub record Agrees (I : Instance) (pl : Plan) (t : ℕ → Terms) (ws : List View) : Type 0 where
   pub same-choices : matches I (slots ws) ≡ choices (I .n) pl ws (λ i. fresh (t i))
-  pub legible : (i : ℕ) → i < I .n → Legible I i
-  pub same-counts : (i : ℕ) → i < I .n → Stands I (length ws) (algorithm-4 I (slots ws)) i
+  pub injective : (i : ℕ) → i < I .n → Injective I i
+  pub same-counts : (i : ℕ) → i < I .n → Represents I (length ws) (algorithm-4 I (slots ws)) i
       (campaigns-after (I .n) pl ws (λ i′. fresh (t i′)) i)
   pub next : (w : View) → Next I (length ws) (names w) (algorithm-4 I (slots ws))
 
 abbrev pub As-Algorithm-4 : Type 0
-As-Algorithm-4 = (B : Terms → ℕ) → Buys-alike B → (pl : Plan) (n : ℕ) (t : ℕ → Terms) → Posed pl n t → (ws : List View)
-    → Alike (instance B pl n t) pl t ws
+As-Algorithm-4 = (B : Terms → ℕ) → Buys-alike B → (pl : Plan) (n : ℕ) (t : ℕ → Terms) → Valid pl n t → (ws : List View)
+    → Agrees (instance B pl n t) pl t ws
