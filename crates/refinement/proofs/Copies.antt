@@ -77,6 +77,13 @@ copy-cross : (n m b B S u w p e y : ℕ) → n * (B * S) + b * u * m ≡ b * w *
 copy-cross n m b B S u w p e y q r s =
     omega (arith, ap (λ x. x * e) q, ap (λ x. x * (b * m)) r, ap (λ x. x * (u * (b * m))) s)
 
+-- and back
+copy-back : (n m b B S u w p e y : ℕ) → 0 < e → n * ((S * B) * (e * 1)) ≡ ((u * b) * y) * m → w * e ≡ p * u → y + e ≡ p
+    → n * (B * S) + b * u * m ≡ b * w * m
+copy-back n m b B S u w p e y pos q r s =
+    eq-of-mul-eq-mul-right e pos (n * (B * S) + b * u * m) (b * w * m)
+    (omega (arith, q, ap (λ x. x * (b * m)) r, ap (λ x. x * (u * (b * m))) s))
+
 -- p/e − 1 = p′/e′ − 1 only where p/e = p′/e′
 same-ratio : (c p e y p′ e′ y′ : ℕ) → 0 < c → y + e ≡ p → y′ + e′ ≡ p′ → c * (y * e′) ≡ c * (y′ * e) → p * e′ ≡ p′ * e
 same-ratio c p e y p′ e′ y′ pos q q′ r = omega (arith, eq-of-mul-eq-mul-left c pos (y * e′) (y′ * e) r, ap (λ x. x * e′) q, ap (λ x. x * e) q′)
@@ -112,25 +119,37 @@ module _ (I : Instance) (i : ℕ) (deep : 0 < I .k) (wide : 1 < I .d) (bid : 0 <
   pub value-zero : Value I i (weight (I .k) (I .d) 0) (integer 0)
   value-zero = record { value = omega (arith, ap (λ x. I .b i * x) (C-numerator I)); positive = omega arith }
 
+  pub copy-proper : (a : ℕ) → 0 < copy I i a .denominator
+  copy-proper a =
+      mul-pos (mul-pos (C-positive I deep wide) budget) (omega (arith, one-le-pow a (I .d - 1) (omega arith)))
+
   -- the paper's own form of it
   pub value-copy : (q : Fraction) (a : ℕ) → a < I .k → Value I i (weight (I .k) (I .d) a) q → q ≈ copy I i a
   value-copy q a h v =
-      let e : 0 < (I .d - 1) ^ a * 1 = omega (arith, one-le-pow a (I .d - 1) (omega arith)) in
       record {
         left = v .positive;
-        right = mul-pos (mul-pos (C-positive I deep wide) budget) e;
+        right = copy-proper a;
         cross = copy-cross (q .numerator) (q .denominator) (I .b i) (I .B i) (C I .denominator) (C I .numerator) (weight (I .k) (I .d) a) (I .d ^ a) ((I .d - 1) ^ a) (I .d ^ a * 1 - 1 * (I .d - 1) ^ a)
             (v .value) (weight-split I deep wide a (omega arith)) (omega (arith, pow-le-pow-left {n = I .d - 1} {m = I .d} (omega arith) a));
       }
 
+  pub copy-value : (q : Fraction) (a : ℕ) → a ≤ I .k → q ≈ copy I i a → Value I i (weight (I .k) (I .d) a) q
+  copy-value q a h c = record {
+    value =
+        copy-back (q .numerator) (q .denominator) (I .b i) (I .B i) (C I .denominator) (C I .numerator)
+        (weight (I .k) (I .d) a) (I .d ^ a) ((I .d - 1) ^ a) (I .d ^ a * 1 - 1 * (I .d - 1) ^ a)
+        (one-le-pow a (I .d - 1) (omega arith)) (c .cross) (weight-split I deep wide a h)
+        (omega (arith, pow-le-pow-left {n = I .d - 1} {m = I .d} (omega arith) a));
+    positive = c .left;
+  }
+
   -- "by our choice of C, after at most k i-edges, z_i^c = b_i/B_i" (the proof of Theorem 5.1)
   pub copy-full : copy I i (I .k) ≈ part I i
   copy-full =
-      let e : 0 < (I .d - 1) ^ I .k * 1 = omega (arith, one-le-pow (I .k) (I .d - 1) (omega arith)) in
       let y : I .d ^ I .k * 1 - 1 * (I .d - 1) ^ I .k ≡ C I .denominator = omega (arith, C-sum I, C-numerator I, weight-zero (I .k) (I .d)) in
       let u : C I .numerator ≡ (I .d - 1) ^ I .k = C-numerator I ∙ weight-zero (I .k) (I .d) in
       record {
-        left = mul-pos (mul-pos (C-positive I deep wide) budget) e;
+        left = copy-proper (I .k);
         right = budget;
         cross = rw (y, u) (omega arith);
       }

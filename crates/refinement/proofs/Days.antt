@@ -1,6 +1,6 @@
 -- Every list of calls keeps its day beside Algorithm 4.
-use mathlib.Core.Path.{_≡_, refl, ap, ap₂, sym, subst, _∙_}
-use mathlib.Core.Bool.{Bool, true, false}
+use mathlib.Core.Path.{_≡_, refl, ap, sym, subst, _∙_}
+use mathlib.Core.Bool.{true, false}
 use mathlib.Core.List.{List, [], _∷_, _++_, map, map-append}
 use Prim.Native.Nat.{ℕ, suc, _+_, _≤_, _<_}
 use native.Mathlib.Nat.{not-suc-le-zero}
@@ -9,21 +9,17 @@ use native.Mathlib.Omega.{arith}
 use lib.ListN.{getD, length, length-append, length-map, List·getD-append}
 use lib.Seq.{getD-append-seam}
 use borrow.Author.Tests.{eqb-true, eq-eqb, ne-eqb, ltb-true, leb-true}
-use Rattle.finite.proofs.Tests.{never, both-left, one-more, all-parts}
-use Rattle.day.specs.declared.Answer.{Answer}
+use Rattle.finite.proofs.Tests.{never, both-left, one-more}
 use Rattle.day.specs.declared.Day.{Day}
 use Rattle.campaigns.specs.declared.Phase.{Phase}
 use Rattle.campaigns.specs.declared.Phase.the-variants.{Filling, Running, Closed}
 use Rattle.campaigns.specs.declared.Plan.{Plan}
 use Rattle.campaigns.specs.declared.Terms.{Terms}
 use Rattle.campaigns.specs.declared.View.{View}
-use Rattle.campaigns.specs.Choice.{Choice}
-use Rattle.campaigns.specs.Choice.Choice.{nobody, plays}
 use Rattle.campaigns.specs.Campaign.{fresh}
-use Rattle.campaigns.specs.View.{names, chosen-of}
+use Rattle.campaigns.specs.View.{names}
 use Rattle.day.specs.Day.{campaign, in-phase, empty-plan, no-terms, blank-plan, blank, total-takings}
 use Rattle.campaigns.specs.Phase.{is-filling}
-use Rattle.day.specs.Day.{sound}
 use Rattle.day.specs.Calls.{number, Call, questions, with-campaign, player, offers, shown, view-answer, result, call}
 use Rattle.day.specs.Calls.Call.{open-plan, add-campaign, start-day, show-view, ask-tally, close-day}
 use Rattle.day.proofs.Questions.{Yes, call-elim}
@@ -33,12 +29,12 @@ use Rattle.demands.proofs.States.{with-campaign-old, with-campaign-new}
 use Rattle.demands.proofs.Refusals.{result-number}
 use Rattle.floor.specs.History.{accepted, Starts, History, opening, with-call, entered, continued, history}
 use Rattle.floor.specs.History.Starts.{from-blank, from-opening}
-use Rattle.refinement.specs.Algorithm4.{Instance, Neighbors, Variables, feasible-neighbor, line-1, line-2, line-4, lines-3-to-11, matches-from, algorithm-4, matches}
+use Rattle.refinement.specs.Algorithm4.{Instance, Neighbors, Variables, line-1, line-2, line-4, lines-3-to-11, matches-from, algorithm-4, matches}
 use Rattle.refinement.specs.Correspondence.{Buys-alike, slots, Valid}
-use Rattle.refinement.specs.Days.{replied, replies-from, replies, with-answer, terms-of, instance-of, Day-agrees, Days-as-Algorithm-4}
-use Rattle.campaigns.proofs.Choices.{Fits, best-fits}
+use Rattle.refinement.specs.Days.{terms-of, instance-of, Day-agrees, Days-as-Algorithm-4}
 use Rattle.refinement.proofs.Slots.{Simulates}
-use Rattle.refinement.proofs.Simulation.{Proper, proper, simulates-fresh, simulates-represents, same-choice, same-step}
+use Rattle.refinement.proofs.Simulation.{Proper, proper, simulates-fresh, simulates-represents}
+use Rattle.refinement.proofs.Slot.{same-view, same-answer}
 
 -- one slot more
 line-2-snoc : (I : Instance) (Ns : List Neighbors) (N : Neighbors) (j : ℕ) (v : Variables) → line-2 I j (Ns ++ (N ∷ [])) v ≡ lines-3-to-11 I (length Ns + j) N (line-2 I j Ns v)
@@ -55,11 +51,6 @@ matches-snoc I (M ∷ Ns) N j v =
     ap (λ ms. line-4 I j M v ∷ ms)
     (matches-snoc I Ns N (suc j) (lines-3-to-11 I j M v) ∙ ap (λ m. matches-from I (suc j) Ns (lines-3-to-11 I j M v) ++ (line-4 I m N (line-2 I (suc j) Ns (lines-3-to-11 I j M v)) ∷ [])) (omega arith))
 
--- the answer to a match, with the prices that the matched one's candidates have on both sides
-view-answer-eq : (n : ℕ) (able : ℕ → Bool) (x y : ℕ → ℕ) → ((i : ℕ) → i < n → x i ≡ y i) → (m : Choice) → Fits n able m → view-answer x m ≡ view-answer y m
-view-answer-eq n able x y e nobody f = refl
-view-answer-eq n able x y e (plays m) f = rw (e m (f .0))
-
 -- what holds of the terms of a list and of one more
 snoc-all : (P : ℕ → Terms → Type 0) (ts : List Terms) (t : Terms) → ((i : ℕ) → i < length ts → P i (getD ts i no-terms)) → P (length ts) t
     → (i : ℕ) → i < length (ts ++ (t ∷ [])) → P i (getD (ts ++ (t ∷ [])) i no-terms)
@@ -71,11 +62,11 @@ module _ (B : Terms → ℕ) (buys : Buys-alike B) where
   abbrev pub Beside : History → Day → Type 0
   Beside h s = (i : ℕ) → i < length (h .terms) → Simulates (instance-of B h) (length (h .views)) (algorithm-4 (instance-of B h) (slots (h .views))) i (campaign s i)
 
-  abbrev pub Answered : History → List Answer → Type 0
-  Answered h rs = rs ≡ map (view-answer (λ i. terms-of h i .price)) (matches (instance-of B h) (slots (h .views)))
+  abbrev pub Answered : History → Type 0
+  Answered h = h .answers ≡ map (view-answer (λ i. terms-of h i .price)) (matches (instance-of B h) (slots (h .views)))
 
-  -- the state s holds the day h, whose views were answered rs
-  pub record Alongside (s : Day) (h : History) (rs : List Answer) : Type 0 where
+  -- the state s holds the day h, and Algorithm 4 runs beside it
+  pub record Alongside (s : Day) (h : History) : Type 0 where
     pub plan-is : s .plan ≡ h .plan
     pub many : length (h .terms) ≡ s .count
     pub deep : 1 ≤ h .plan .depth
@@ -84,9 +75,9 @@ module _ (B : Terms → ℕ) (buys : Buys-alike B) where
     pub unviewed : is-filling (s .phase) ≡ true → h .views ≡ []
     pub unplayed : is-filling (s .phase) ≡ true → (i : ℕ) → i < length (h .terms) → campaign s i ≡ fresh (terms-of h i)
     pub beside : 1 < h .plan .width → Beside h s
-    pub answered : 1 < h .plan .width → Answered h rs
+    pub answered : 1 < h .plan .width → Answered h
 
-  alongside-opening : (p : Phase) (pl : Plan) → 1 ≤ pl .depth → Alongside (empty-plan p pl) (opening pl) []
+  alongside-opening : (p : Phase) (pl : Plan) → 1 ≤ pl .depth → Alongside (empty-plan p pl) (opening pl)
   unfolding matches-from
   alongside-opening p pl deep = record {
     plan-is = refl;
@@ -100,15 +91,15 @@ module _ (B : Terms → ℕ) (buys : Buys-alike B) where
     answered = λ _. refl;
   }
 
-  valid-of : (s : Day) (h : History) (rs : List Answer) → Alongside s h rs → 1 < h .plan .width → Valid (h .plan) (length (h .terms)) (terms-of h)
-  valid-of s h rs k wide = record { deep = k .deep; wide = wide; priced = k .priced; funded = k .funded }
+  valid-of : (s : Day) (h : History) → Alongside s h → 1 < h .plan .width → Valid (h .plan) (length (h .terms)) (terms-of h)
+  valid-of s h k wide = record { deep = k .deep; wide = wide; priced = k .priced; funded = k .funded }
 
   -- before the first view
   beside-fresh : (s : Day) (h : History) → Valid (h .plan) (length (h .terms)) (terms-of h) → h .views ≡ [] → ((i : ℕ) → i < length (h .terms) → campaign s i ≡ fresh (terms-of h i)) → Beside h s
   unfolding line-2
   beside-fresh s h valid none same i l = rw (none, same i l) (simulates-fresh B buys (h .plan) (length (h .terms)) (terms-of h) valid i l)
 
-  module _ (s : Day) (h : History) (rs : List Answer) (k : Alongside s h rs) where
+  module _ (s : Day) (h : History) (k : Alongside s h) where
     module _ (t : Terms) (y : Yes (questions s (add-campaign t))) where
       more : History
       more = with-call h (add-campaign t) (result s (add-campaign t) .answer)
@@ -129,7 +120,7 @@ module _ (B : Terms → ℕ) (buys : Buys-alike B) where
           (λ i l. campaign-of-state Filling (s .plan) (s .count + 1) (s .accepted) (with-campaign s t) i (omega (arith, k .many)) ∙ with-campaign-old s t i (λ e. omega (arith, k .many)) ∙ k .unplayed (y .1 .0) i l)
           (campaign-of-state Filling (s .plan) (s .count + 1) (s .accepted) (with-campaign s t) (length (h .terms)) (omega (arith, k .many)) ∙ ap (with-campaign s t) (k .many) ∙ with-campaign-new s t)
 
-      alongside-add : Alongside (result s (add-campaign t) .day) more rs
+      alongside-add : Alongside (result s (add-campaign t) .day) more
       unfolding more matches-from
       alongside-add = record {
         plan-is = k .plan-is;
@@ -159,23 +150,20 @@ module _ (B : Terms → ℕ) (buys : Buys-alike B) where
       module _ (wide : 1 < h .plan .width) where
         ok : Proper I
         unfolding I
-        ok = proper B buys (h .plan) (length (h .terms)) (terms-of h) (valid-of s h rs k wide)
+        ok = proper B buys (h .plan) (length (h .terms)) (terms-of h) (valid-of s h k wide)
 
-        played : line-4 I (length (h .views)) (names w) so-far ≡ player s w
+        view-simulates : (i : ℕ) → i < length (h .terms)
+            → Simulates I (suc (length (h .views))) (lines-3-to-11 I (length (h .views)) (names w) so-far) i (shown s w i)
         unfolding I so-far ok
-        played = same-choice I ok (length (h .views)) w so-far (campaign s) (k .beside wide) ∙ ap₂ (λ n pl. chosen-of n pl w (campaign s)) (k .many) (sym (k .plan-is))
+        view-simulates i l =
+            same-view I ok (length (h .views)) so-far s (sym (k .plan-is)) (k .many) (k .beside wide) w i l
 
-        view-simulates : (i : ℕ) → i < length (h .terms) → Simulates I (suc (length (h .views))) (lines-3-to-11 I (length (h .views)) (names w) so-far) i (shown s w i)
+        answers-as : view-answer (offers s w) (player s w)
+            ≡ view-answer (λ i. terms-of h i .price) (line-4 I (length (h .views)) (names w) so-far)
         unfolding I so-far ok
-        view-simulates i l = rw (k .plan-is, ← k .many) (same-step I ok (length (h .views)) w so-far (campaign s) (k .beside wide) i l)
+        answers-as = same-answer I ok (length (h .views)) so-far s (sym (k .plan-is)) (k .many) (k .beside wide) w
 
-        same-answer : view-answer (offers s w) (player s w) ≡ view-answer (λ i. terms-of h i .price) (line-4 I (length (h .views)) (names w) so-far)
-        unfolding I so-far line-4
-        same-answer =
-            ap (view-answer (offers s w)) (sym played)
-            ∙ view-answer-eq (length (h .terms)) (feasible-neighbor I so-far (length (h .views)) (names w)) (offers s w) (λ i. terms-of h i .price) (λ i l. k .beside wide i l .accounts .bid) (line-4 I (length (h .views)) (names w) so-far) (best-fits _ _ _)
-
-      alongside-view : Alongside (result s (show-view w) .day) (with-call h (show-view w) (result s (show-view w) .answer)) (with-answer rs (show-view w) (result s (show-view w) .answer))
+      alongside-view : Alongside (result s (show-view w) .day) (with-call h (show-view w) (result s (show-view w) .answer))
       unfolding I so-far
       alongside-view = record {
         plan-is = k .plan-is;
@@ -196,11 +184,11 @@ module _ (B : Terms → ℕ) (buys : Buys-alike B) where
             )
             (view-simulates wide i l);
         answered = λ wide.
-            rw (slots-snoc, matches-snoc I (slots (h .views)) (names w) 0 line-1, slots-many, map-append, k .answered wide, same-answer wide);
+            rw (slots-snoc, matches-snoc I (slots (h .views)) (names w) 0 line-1, slots-many, map-append, k .answered wide, answers-as wide);
       }
 
     -- a phase that is not Filling
-    alongside-phase : (p : Phase) → is-filling p ≡ false → Alongside (in-phase s p) h rs
+    alongside-phase : (p : Phase) → is-filling p ≡ false → Alongside (in-phase s p) h
     alongside-phase p e = record {
       plan-is = k .plan-is;
       many = k .many;
@@ -213,7 +201,7 @@ module _ (B : Terms → ℕ) (buys : Buys-alike B) where
       answered = k .answered;
     }
 
-    alongside-result : (c : Call) → Yes (questions s c) → Alongside (result s c .day) (with-call h c (result s c .answer)) (with-answer rs c (result s c .answer))
+    alongside-result : (c : Call) → Yes (questions s c) → Alongside (result s c .day) (with-call h c (result s c .answer))
     unfolding more
     alongside-result (open-plan pl) y = alongside-opening Filling pl (leb-true 1 (pl .depth) (both-left _ _ (y .1 .1 .0)))
     alongside-result (add-campaign t) y = alongside-add t y
@@ -222,40 +210,40 @@ module _ (B : Terms → ℕ) (buys : Buys-alike B) where
     alongside-result (ask-tally i) y = k
     alongside-result close-day y = alongside-phase (Closed (total-takings s)) refl
 
-    alongside-call : (c : Call) → Alongside (call s c .day) (entered h (record { made = c; answer = call s c .answer })) (replied rs (record { made = c; answer = call s c .answer }))
+    alongside-call : (c : Call) → Alongside (call s c .day) (entered h (record { made = c; answer = call s c .answer }))
     alongside-call c =
-        call-elim (λ o. Alongside (o .day) (entered h (record { made = c; answer = o .answer })) (replied rs (record { made = c; answer = o .answer }))) s c (λ q. rw (ne-eqb (suc q) 0 (λ z. omega arith)) k)
+        call-elim (λ o. Alongside (o .day) (entered h (record { made = c; answer = o .answer }))) s c (λ q. rw (ne-eqb (suc q) 0 (λ z. omega arith)) k)
         (λ y. rw (eq-eqb (number (result s c .answer)) 0 (result-number s c)) (alongside-result c y))
 
-  alongside-calls : (cs : List Call) (s : Day) (h : History) (rs : List Answer) → Alongside s h rs → Alongside (final s cs) (continued h (transcript s cs)) (replies-from rs (transcript s cs))
-  unfolding final transcript continued replies-from
-  alongside-calls [] s h rs k = k
-  alongside-calls (c ∷ cs) s h rs k =
-      alongside-calls cs (call s c .day) (entered h (record { made = c; answer = call s c .answer })) (replied rs (record { made = c; answer = call s c .answer })) (alongside-call s h rs k c)
+  alongside-calls : (cs : List Call) (s : Day) (h : History) → Alongside s h → Alongside (final s cs) (continued h (transcript s cs))
+  unfolding final transcript continued
+  alongside-calls [] s h k = k
+  alongside-calls (c ∷ cs) s h k =
+      alongside-calls cs (call s c .day) (entered h (record { made = c; answer = call s c .answer })) (alongside-call s h k c)
 
-  alongside-blank : Alongside blank (opening blank-plan) []
+  alongside-blank : Alongside blank (opening blank-plan)
   unfolding blank
   alongside-blank = alongside-opening (Closed 0) blank-plan (omega arith)
 
   -- an accepted opening, from any state
   alongside-from : (s : Day) (pl : Plan) → accepted (call s (open-plan pl) .answer) ≡ true
-      → Alongside (call s (open-plan pl) .day) (entered (opening blank-plan) (record { made = open-plan pl; answer = call s (open-plan pl) .answer })) (replied [] (record { made = open-plan pl; answer = call s (open-plan pl) .answer }))
+      → Alongside (call s (open-plan pl) .day) (entered (opening blank-plan) (record { made = open-plan pl; answer = call s (open-plan pl) .answer }))
   alongside-from s pl e =
-      call-elim (λ o. accepted (o .answer) ≡ true → Alongside (o .day) (entered (opening blank-plan) (record { made = open-plan pl; answer = o .answer })) (replied [] (record { made = open-plan pl; answer = o .answer }))) s (open-plan pl)
+      call-elim (λ o. accepted (o .answer) ≡ true → Alongside (o .day) (entered (opening blank-plan) (record { made = open-plan pl; answer = o .answer }))) s (open-plan pl)
       (λ q z. absurd (omega (arith, eqb-true (suc q) 0 z))) (λ y z. alongside-opening Filling pl (leb-true 1 (pl .depth) (both-left _ _ (y .1 .1 .0)))) e
 
-  alongside : (s : Day) (cs : List Call) → Starts s cs → Alongside (final s cs) (history (transcript s cs)) (replies (transcript s cs))
-  unfolding final transcript continued replies-from
-  alongside _ _ (from-blank cs) = alongside-calls cs blank (opening blank-plan) [] alongside-blank
+  alongside : (s : Day) (cs : List Call) → Starts s cs → Alongside (final s cs) (history (transcript s cs))
+  unfolding final transcript continued
+  alongside _ _ (from-blank cs) = alongside-calls cs blank (opening blank-plan) alongside-blank
   alongside _ _ (from-opening s pl cs e) =
-      alongside-calls cs (call s (open-plan pl) .day) (entered (opening blank-plan) (record { made = open-plan pl; answer = call s (open-plan pl) .answer })) (replied [] (record { made = open-plan pl; answer = call s (open-plan pl) .answer })) (alongside-from s pl e)
+      alongside-calls cs (call s (open-plan pl) .day) (entered (opening blank-plan) (record { made = open-plan pl; answer = call s (open-plan pl) .answer })) (alongside-from s pl e)
 
-  agrees-of : (s : Day) (h : History) (rs : List Answer) → Alongside s h rs → 1 < h .plan .width → Day-agrees B h rs s
-  agrees-of s h rs k wide = record {
+  agrees-of : (s : Day) (h : History) → Alongside s h → 1 < h .plan .width → Day-agrees B h s
+  agrees-of s h k wide = record {
     same-answers = k .answered wide;
     same-tallies = λ i l.
-        simulates-represents (instance-of B h) (proper B buys (h .plan) (length (h .terms)) (terms-of h) (valid-of s h rs k wide)) (length (h .views)) (algorithm-4 (instance-of B h) (slots (h .views))) i (campaign s i) l (k .beside wide i l);
+        simulates-represents (instance-of B h) (proper B buys (h .plan) (length (h .terms)) (terms-of h) (valid-of s h k wide)) (length (h .views)) (algorithm-4 (instance-of B h) (slots (h .views))) i (campaign s i) l (k .beside wide i l);
   }
 
 pub days-as-algorithm-4 : Days-as-Algorithm-4
-days-as-algorithm-4 B buys s cs st wide = agrees-of B buys (final s cs) (history (transcript s cs)) (replies (transcript s cs)) (alongside B buys s cs st) wide
+days-as-algorithm-4 B buys s cs st wide = agrees-of B buys (final s cs) (history (transcript s cs)) (alongside B buys s cs st) wide

@@ -2,3 +2,4 @@ pub mod Fraction
 pub mod Algorithm4
 pub mod Correspondence
 pub mod Days
+pub mod Slot

@@ -2,7 +2,7 @@
 use mathlib.Core.Path.{_≡_, refl, ap, _∙_, subst⁻¹}
 use mathlib.Core.List.{List}
 use Prim.Native.Nat.{ℕ}
-use Rattle.finite.specs.Finite.{sum, count, every, table}
+use Rattle.finite.specs.Finite.{sum, count, every, table, total}
 use Rattle.sets.specs.Set.{member, size, within}
 use Rattle.powers.specs.Power.{weight, share}
 use Rattle.campaigns.specs.Choice.{best, choice}
@@ -14,17 +14,17 @@ use Rattle.day.specs.Day.{sound}
 use Rattle.questions.specs.Questions.{first-failed, width-holds}
 use Rattle.day.specs.Calls.{Call, call}
 use Rattle.demands.specs.Transcript.{transcript, final}
-use Rattle.floor.specs.History.{Starts, continued, history}
+use Rattle.floor.specs.History.{Starts, day-takings, continued, history}
 use Rattle.floor.specs.History.Starts.{from-blank, from-opening}
 use Rattle.replay.specs.Replay.{call-in, decode}
 use Rattle.replay.specs.Examples.{Example, Examples, listing, listed, next-day}
 
-example : (s : Day) (words : List ℕ) (calls : List Call) (paid : ℕ) → decode words ≡ calls → Starts s calls → history (transcript s calls) .paid ≡ paid → Example s words calls paid
+example : (s : Day) (words : List ℕ) (calls : List Call) (paid : ℕ) → decode words ≡ calls → Starts s calls → day-takings (history (transcript s calls)) ≡ paid → Example s words calls paid
 example s words calls paid e st p =
     let here : Starts s (decode words) = subst⁻¹ (Starts s) e st in
-    let sum-is : history (transcript s (decode words)) .paid ≡ paid = ap (λ (cs : List Call). history (transcript s cs) .paid) e ∙ p in
+    let sum-is : day-takings (history (transcript s (decode words))) ≡ paid = ap (λ (cs : List Call). day-takings (history (transcript s cs))) e ∙ p in
     record { encodes = e; starts = here; pays = λ r q. (q .paid-is ∙ sum-is, q .demand-3 here .takings-is ∙ sum-is) }
 
 pub examples : Examples
-unfolding call-in decode transcript final continued call first-failed sound sound-record blank sum count every table within size member width-holds weight share whole claim total-takings total-claim total-budgets sound-plan priced counted uncounted empty sound-campaign best choice
+unfolding call-in decode transcript final continued call first-failed sound sound-record blank sum count every table total within size member width-holds weight share whole claim total-takings total-claim total-budgets sound-plan priced counted uncounted empty sound-campaign best choice
 examples = (example blank listing listed 16 refl (from-blank listed) refl, example (final blank listed) next-day _ 2 refl (from-opening (final blank listed) _ _ refl) refl)

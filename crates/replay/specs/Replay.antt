@@ -7,7 +7,7 @@ use Rattle.day.specs.declared.Day.{Day}
 use Rattle.day.specs.Calls.{Call}
 use Rattle.day.specs.Calls.Call.{open-plan, add-campaign, start-day, show-view, ask-tally, close-day}
 use Rattle.demands.specs.Transcript.{transcript, final}
-use Rattle.floor.specs.History.{Starts, history}
+use Rattle.floor.specs.History.{Starts, day-takings, history}
 use Rattle.floor.specs.Floor.{Floor}
 use Rattle.replay.specs.declared.Replayed.{Replayed}
 
@@ -46,6 +46,6 @@ pub record Replays (s : Day) (words : List ℕ) (r : Replayed) : Type 0 where
   -- the state at the end of the calls
   pub ran : r .day ≡ final s (decode words)
   -- the day's takings: the sum of the prices paid in the answers to its accepted views
-  pub paid-is : r .paid ≡ history (transcript s (decode words)) .paid
+  pub paid-is : r .paid ≡ day-takings (history (transcript s (decode words)))
   -- demand 3 of these calls
   pub demand-3 : Starts s (decode words) → Floor (history (transcript s (decode words))) (r .day)

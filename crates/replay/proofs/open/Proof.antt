@@ -17,7 +17,10 @@ keep-requires c κs = search needs
 returns : tie.Need-returns
 returns c =
     let a = c .before .before .before .before .args in
-    c .keep .ensures ∙ opened (a .day) (a .paid) (a .plan) (c .before .before .before .«open» .result) (c .before .before .before .«open» .ensures) (sym (c .before .before .number .ensures) ∙ c .before .if1 .taken)
+    let o = c .before .before .before .«open» in
+    rw (c .keep .ensures)
+    (opened (a .day) (a .paid) (a .plan) (o .result) (o .ensures)
+    (sym (c .before .before .number .ensures) ∙ c .before .if1 .taken))
 
 keep-requires-2 : tie.Need-keep-requires-2
 keep-requires-2 c κs = search needs
@@ -25,7 +28,10 @@ keep-requires-2 c κs = search needs
 returns-2 : tie.Need-returns-2
 returns-2 c =
     let a = c .before .before .before .before .args in
-    c .keep2 .ensures ∙ not-opened (a .day) (a .paid) (a .plan) (c .before .before .before .«open» .result) (c .before .before .before .«open» .ensures) (λ z. c .before .if1 .left (c .before .before .number .ensures ∙ z))
+    let o = c .before .before .before .«open» in
+    rw (c .keep2 .ensures)
+    (not-opened (a .day) (a .paid) (a .plan) (o .result) (o .ensures)
+    (λ z. c .before .if1 .left (c .before .before .number .ensures ∙ z)))
 
 pub open-spec : {M : Type 1} → statement M
 open-spec =

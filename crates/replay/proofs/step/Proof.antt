@@ -1,10 +1,9 @@
 -- Each kind is its call; a kind past the six is none.
-use mathlib.Core.Path.{ap, sym, _∙_}
+use mathlib.Core.Path.{refl}
 use native.Mathlib.Omega.{arith}
-use Rattle.day.specs.declared.Outcome.{Outcome}
+use Rattle.day.specs.Calls.Call.{add-campaign, start-day, ask-tally, close-day}
 use Rattle.replay.specs.Replay.{call-in}
-use Rattle.replay.specs.Contracts.{at, after-all}
-use Rattle.replay.proofs.Steps.{no-call}
+use Rattle.replay.proofs.Steps.{unpaid, no-call, no-calls}
 use borrow.Author.Needs.{needs}
 use Rattle.replay.proofs.step.Statement.{statement}
 use Rattle.replay.proofs.step.Tie as tie
@@ -40,34 +39,49 @@ keep-requires-4 : tie.Need-keep-requires-4
 keep-requires-4 c κs = search needs
 
 returns : tie.Need-returns
-unfolding call-in after-all
+unfolding call-in
 returns c = rw (c .before .match .keys1) (c .«open» .ensures)
 
 returns-2 : tie.Need-returns-2
-unfolding call-in after-all
-returns-2 c = rw (c .before .before .match .keys2) (c .keep .ensures ∙ ap (λ (o : Outcome). at (o .day) (c .before .before .before .args .paid)) (c .before .add .ensures))
+unfolding call-in
+returns-2 c =
+    let a = c .before .before .before .args in
+    rw (c .before .before .match .keys2)
+    (rw (c .keep .ensures)
+    (unpaid (a .day) (a .paid) (add-campaign (record { price = a .a; budget = a .b })) (c .before .add .result) (c .before .add .ensures) (λ h x. refl)))
 
 returns-3 : tie.Need-returns-3
-unfolding call-in after-all
-returns-3 c = rw (c .before .before .match .keys3) (c .keep2 .ensures ∙ ap (λ (o : Outcome). at (o .day) (c .before .before .before .args .paid)) (c .before .start .ensures))
+unfolding call-in
+returns-3 c =
+    let a = c .before .before .before .args in
+    rw (c .before .before .match .keys3)
+    (rw (c .keep2 .ensures)
+    (unpaid (a .day) (a .paid) (start-day) (c .before .start .result) (c .before .start .ensures) (λ h x. refl)))
 
 returns-4 : tie.Need-returns-4
-unfolding call-in after-all
+unfolding call-in
 returns-4 c = rw (c .before .match .keys4) (c .view .ensures)
 
 returns-5 : tie.Need-returns-5
-unfolding call-in after-all
-returns-5 c = rw (c .before .before .match .keys5) (c .keep3 .ensures ∙ ap (λ (o : Outcome). at (o .day) (c .before .before .before .args .paid)) (c .before .tally .ensures))
+unfolding call-in
+returns-5 c =
+    let a = c .before .before .before .args in
+    rw (c .before .before .match .keys5)
+    (rw (c .keep3 .ensures)
+    (unpaid (a .day) (a .paid) (ask-tally (a .a)) (c .before .tally .result) (c .before .tally .ensures) (λ h x. refl)))
 
 returns-6 : tie.Need-returns-6
-unfolding call-in after-all
-returns-6 c = rw (c .before .before .match .keys6) (c .keep4 .ensures ∙ ap (λ (o : Outcome). at (o .day) (c .before .before .before .args .paid)) (c .before .close .ensures))
+unfolding call-in
+returns-6 c =
+    let a = c .before .before .before .args in
+    rw (c .before .before .match .keys6)
+    (rw (c .keep4 .ensures)
+    (unpaid (a .day) (a .paid) (close-day) (c .before .close .result) (c .before .close .ensures) (λ h x. refl)))
 
 returns-7 : tie.Need-returns-7
-unfolding after-all
 returns-7 c =
     let a = c .before .args in
-    sym (ap (after-all (at (a .day) (a .paid))) (no-call (a .kind) (a .a) (a .b) (omega arith)))
+    rw (no-call (a .kind) (a .a) (a .b) (omega arith)) (no-calls (a .day) (a .paid))
 
 pub step-spec : {M : Type 1} → statement M
 step-spec =

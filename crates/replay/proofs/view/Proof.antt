@@ -1,13 +1,11 @@
 -- A view: what is paid is added, and fits since the takings so far are bounded by the accepted views.
 use mathlib.Core.Path.{_≡_, ap, _∙_}
-use Prim.Native.Nat.{ℕ, _+_}
 use native.Mathlib.Omega.{arith}
 use Rattle.day.specs.declared.Outcome.{Outcome}
 use Rattle.day.specs.Calls.{call}
 use Rattle.day.specs.Calls.Call.{show-view}
 use Rattle.floor.specs.History.{paid-in}
-use Rattle.replay.specs.Contracts.{at}
-use Rattle.replay.proofs.Steps.{view-fits}
+use Rattle.replay.proofs.Steps.{view-fits, viewed-once}
 use borrow.Author.Needs.{needs}
 use Rattle.replay.proofs.view.Statement.{statement}
 use Rattle.replay.proofs.view.Tie as tie
@@ -22,18 +20,19 @@ add-keep : tie.Need-add-keep
 add-keep c =
     let s = c .before .before .args .day in
     let w = c .before .before .args .view in
-    let e : c .paid-in .result ≡ paid-in (call s (show-view w) .answer) = c .paid-in .ensures ∙ ap (λ (o : Outcome). paid-in (o .answer)) (c .before .view .ensures) in
-    omega (arith, view-fits s (c .before .before .args .paid) (c .before .before .pre) w (omega arith))
+    let e : c .paid-in .result ≡ paid-in (call s (show-view w) .answer) =
+    c .paid-in .ensures ∙ ap (λ (o : Outcome). paid-in (o .answer)) (c .before .view .ensures) in
+    omega (arith, view-fits s (c .before .before .args .paid) w (c .before .before .pre) (omega arith))
 
 keep-requires : tie.Need-keep-requires
 keep-requires c κs = search needs
 
 returns : tie.Need-returns
 returns c =
-    let p = c .before .before .before .args .paid in
-    c .keep .ensures
-    ∙ ap (λ (x : ℕ). at (c .before .before .view .result .day) (p + x)) (c .before .paid-in .ensures)
-    ∙ ap (λ (o : Outcome). at (o .day) (p + paid-in (o .answer))) (c .before .before .view .ensures)
+    let a = c .before .before .before .args in
+    let o = c .before .before .view .result in
+    rw (c .keep .ensures, c .before .paid-in .ensures)
+    (viewed-once (a .day) (a .paid) (a .view) o (c .before .before .view .ensures))
 
 pub view-spec : {M : Type 1} → statement M
 view-spec = tie.close (tie.spec view-requires paid-in-requires add-keep keep-requires returns)
