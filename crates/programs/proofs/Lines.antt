@@ -9,6 +9,8 @@ use native.Mathlib.Omega.{arith}
 use lib.Dec.{eqb}
 use lib.ListN.{getD, take}
 use borrow.Author.Tests.{eqb-true, ne-eqb}
+use Rattle.finite.specs.Finite.{total}
+use Rattle.finite.proofs.Tables.{total-snoc}
 use Rattle.lines.specs.declared.Record.{Record}
 use Rattle.lines.specs.declared.Record.the-variants.{Plan, Campaign, Start, View, Close, Done, Play, Nobody, Refused}
 use Rattle.lines.specs.declared.Record.the-variants.{Closed, Tally}
@@ -32,12 +34,12 @@ use Rattle.day.specs.Calls.{Call, player, offers, view-answer}
 use Rattle.day.specs.Calls.Call.{open-plan, add-campaign, start-day, show-view, ask-tally, close-day}
 use Rattle.day.proofs.Questions.{call-elim}
 use Rattle.demands.specs.Transcript.{Exchange, transcript, final}
-use Rattle.floor.specs.History.{History, opening, with-call, entered, continued, history}
+use Rattle.floor.specs.History.{History, paid-in, day-takings, opening, with-call, entered, continued, history}
 use Rattle.floor.specs.History.Starts.{from-blank}
 use Rattle.floor.specs.Floor.{Floor}
 use Rattle.floor.proofs.Floor.{demand-3}
 use Rattle.refinement.specs.Correspondence.{Buys-alike}
-use Rattle.refinement.specs.Days.{replies as view-answers, Day-agrees}
+use Rattle.refinement.specs.Days.{Day-agrees}
 use Rattle.refinement.proofs.Days.{days-as-algorithm-4}
 use Rattle.reply.specs.Reply.{Request, request, request-of, executed, outcome, tallies, answer-line, is-closing}
 use Rattle.reply.specs.Reply.{reply-text, reply, next}
@@ -146,50 +148,53 @@ summed p l a = cond (of-reading is-plan false l && is-ok (record-of a)) 0 (p + p
 
 module _ (s : Day) (h : History) where
   abbrev Adds : Record → Call → Outcome → Type 0
-  Adds r c o = entered h (record { made = c; answer = o .answer }) .paid ≡ summed (h .paid) (Got r) (o .answer)
+  Adds r c o =
+      day-takings (entered h (record { made = c; answer = o .answer })) ≡ summed (day-takings h) (Got r) (o .answer)
 
   -- of a refusal
-  refused-adds : (c : Call) (q : ℕ) → entered h (record { made = c; answer = refusing (suc q) }) .paid ≡ h .paid + 0
-  refused-adds c q = ap (λ (x : History). x .paid) (refused-entered h c q) ∙ none-more (h .paid)
+  refused-adds : (c : Call) (q : ℕ)
+      → day-takings (entered h (record { made = c; answer = refusing (suc q) })) ≡ day-takings h + 0
+  refused-adds c q = ap day-takings (refused-entered h c q) ∙ none-more (day-takings h)
 
   view-adds : (w : Lift) (ch : Choice)
-      → entered h (record { made = show-view w; answer = view-answer (offers s w) ch }) .paid
-      ≡ h .paid + price-in (record-of (view-answer (offers s w) ch))
-  view-adds w nobody = refl
-  view-adds w (plays m) = refl
+      → day-takings (entered h (record { made = show-view w; answer = view-answer (offers s w) ch }))
+      ≡ day-takings h + price-in (record-of (view-answer (offers s w) ch))
+  view-adds w nobody = total-snoc paid-in (h .answers) no-one
+  view-adds w (plays m) = total-snoc paid-in (h .answers) (played m (offers s w m))
 
   record-adds : (r : Record)
-      → stepped h (request r) (executed s (request r) .answer) .paid
-      ≡ summed (h .paid) (Got r) (executed s (request r) .answer)
+      → day-takings (stepped h (request r) (executed s (request r) .answer))
+      ≡ summed (day-takings h) (Got r) (executed s (request r) .answer)
+  unfolding total
   record-adds (Plan k d) =
       let c = open-plan (record { depth = k; width = d }) in
       call-elim (Adds (Plan k d) c) s c (λ q. refused-adds c q) (λ y. refl)
   record-adds (Campaign p b) =
       let c = add-campaign (record { price = p; budget = b }) in
-      call-elim (Adds (Campaign p b) c) s c (λ q. refused-adds c q) (λ y. none-more (h .paid))
+      call-elim (Adds (Campaign p b) c) s c (λ q. refused-adds c q) (λ y. none-more (day-takings h))
   record-adds Start =
-      call-elim (Adds Start start-day) s start-day (λ q. refused-adds start-day q) (λ y. none-more (h .paid))
+      call-elim (Adds Start start-day) s start-day (λ q. refused-adds start-day q) (λ y. none-more (day-takings h))
   record-adds (View v) =
       call-elim (Adds (View v) (show-view (record { set = v }))) s (show-view (record { set = v }))
       (λ q. refused-adds (show-view (record { set = v })) q)
       (λ y. view-adds (record { set = v }) (player s (record { set = v })))
   record-adds Close =
-      call-elim (Adds Close close-day) s close-day (λ q. refused-adds close-day q) (λ y. none-more (h .paid))
-  record-adds Done = none-more (h .paid)
-  record-adds (Play i p) = none-more (h .paid)
-  record-adds Nobody = none-more (h .paid)
-  record-adds (Refused q) = none-more (h .paid)
-  record-adds (Closed t c f) = none-more (h .paid)
-  record-adds (Tally i p t a n) = none-more (h .paid)
+      call-elim (Adds Close close-day) s close-day (λ q. refused-adds close-day q) (λ y. none-more (day-takings h))
+  record-adds Done = none-more (day-takings h)
+  record-adds (Play i p) = none-more (day-takings h)
+  record-adds Nobody = none-more (day-takings h)
+  record-adds (Refused q) = none-more (day-takings h)
+  record-adds (Closed t c f) = none-more (day-takings h)
+  record-adds (Tally i p t a n) = none-more (day-takings h)
 
   reading-adds : (l : Reading)
-      → stepped h (request-of l) (executed s (request-of l) .answer) .paid
-      ≡ summed (h .paid) l (executed s (request-of l) .answer)
+      → day-takings (stepped h (request-of l) (executed s (request-of l) .answer))
+      ≡ summed (day-takings h) l (executed s (request-of l) .answer)
   reading-adds (Got r) = record-adds r
-  reading-adds (Refusal q) = none-more (h .paid)
+  reading-adds (Refusal q) = none-more (day-takings h)
 
   line-adds : (l : List ℕ)
-      → stepped h (request-of (reading l)) (outcome s l .answer) .paid ≡ sum-after (h .paid) l (reply s l)
+      → day-takings (stepped h (request-of (reading l)) (outcome s l .answer)) ≡ sum-after (day-takings h) l (reply s l)
   unfolding outcome
   line-adds l =
       reading-adds (reading l)
@@ -198,15 +203,15 @@ module _ (s : Day) (h : History) where
       -- the sum where the first line of the answer reads as x
       after : Reading → ℕ
       after x =
-          cond (of-reading is-plan false (reading l) && of-reading is-ok false x) 0 (h .paid + of-reading price-in 0 x)
+          cond (of-reading is-plan false (reading l) && of-reading is-ok false x) 0 (day-takings h + of-reading price-in 0 x)
 
-paid-is : (s : Day) (h : History) (ls : List (List ℕ)) → continued h (exchanges s ls) .paid ≡ sum-over (h .paid) s ls
+paid-is : (s : Day) (h : History) (ls : List (List ℕ)) → day-takings (continued h (exchanges s ls)) ≡ sum-over (day-takings h) s ls
 unfolding continued exchanges sum-over
 paid-is s h [] = refl
 paid-is s h (l ∷ ls) =
     let r = request-of (reading l) in
     let a = outcome s l .answer in
-    ap (λ (x : History). x .paid) (continued-step h r a (exchanges (next s l) ls))
+    ap day-takings (continued-step h r a (exchanges (next s l) ls))
     ∙ paid-is (next s l) (stepped h r a) ls
     ∙ ap (λ (p : ℕ). sum-over p (next s l) ls) (line-adds s h l)
 
@@ -247,17 +252,18 @@ floor-is ls =
     (demand-3 blank (calls-of ls) (from-blank (calls-of ls))))
 
 agrees-is : (ls : List (List ℕ)) (B : Terms → ℕ) → Buys-alike B → 1 < day-of ls .plan .width
-    → Day-agrees B (day-of ls) (view-answers (exchanges blank ls)) (after-lines blank ls)
+    → Day-agrees B (day-of ls) (after-lines blank ls)
 agrees-is ls B b w =
     let e = exchanges-are blank ls in
-    subst⁻¹ (λ (x : Day). Day-agrees B (day-of ls) (view-answers (exchanges blank ls)) x) (state-is blank ls)
-    (subst⁻¹ (λ (xs : List Exchange). Day-agrees B (history xs) (view-answers xs) (final blank (calls-of ls))) e
+    subst⁻¹ (λ (x : Day). Day-agrees B (day-of ls) x) (state-is blank ls)
+    (subst⁻¹ (λ (xs : List Exchange). Day-agrees B (history xs) (final blank (calls-of ls))) e
     (days-as-algorithm-4 B b blank (calls-of ls) (from-blank (calls-of ls))
     (subst (λ (xs : List Exchange). 1 < history xs .plan .width) e w)))
 
 pub lines-keep-the-demands : Lines-keep-the-demands
+unfolding total
 lines-keep-the-demands ls =
-    let p : day-of ls .paid ≡ sum-paid ls = paid-is blank (opening blank-plan) ls in
+    let p : day-takings (day-of ls) ≡ sum-paid ls = paid-is blank (opening blank-plan) ls in
     record {
       state-is = state-is blank ls;
       exchanges-are = exchanges-are blank ls;

@@ -17,10 +17,10 @@ use Rattle.day.specs.declared.Day.{Day}
 use Rattle.day.specs.Day.{blank}
 use Rattle.day.specs.Calls.{Call}
 use Rattle.demands.specs.Transcript.{Exchange, transcript, final}
-use Rattle.floor.specs.History.{History, history}
+use Rattle.floor.specs.History.{History, day-takings, history}
 use Rattle.floor.specs.Floor.{Floor}
 use Rattle.refinement.specs.Correspondence.{Buys-alike}
-use Rattle.refinement.specs.Days.{replies as view-answers, Day-agrees}
+use Rattle.refinement.specs.Days.{Day-agrees}
 use Rattle.reply.specs.Reply.{Request, request-of, outcome, reply, next}
 use Rattle.reply.specs.Reply.Request.{makes, fails}
 use Rattle.reply.specs.Session.{upto}
@@ -118,7 +118,7 @@ pub record Of-lines (ls : List (List ℕ)) : Type 0 where
   pub state-is : after-lines blank ls ≡ final blank (calls-of ls)
   pub exchanges-are : exchanges blank ls ≡ transcript blank (calls-of ls)
   -- the day's takings are the sum of the prices in the lines that were answered
-  pub paid-is : day-of ls .paid ≡ sum-paid ls
+  pub paid-is : day-takings (day-of ls) ≡ sum-paid ls
   -- demand 3
   pub floor : Floor (day-of ls) (after-lines blank ls)
   -- a line more that is answered (closed (takings T) ..): T is that sum
@@ -126,7 +126,7 @@ pub record Of-lines (ls : List (List ℕ)) : Type 0 where
       → t ≡ sum-paid ls
   -- at widths above 1 the views got Algorithm 4's answers
   pub agrees : (B : Terms → ℕ) → Buys-alike B → 1 < day-of ls .plan .width
-      → Day-agrees B (day-of ls) (view-answers (exchanges blank ls)) (after-lines blank ls)
+      → Day-agrees B (day-of ls) (after-lines blank ls)
 
 abbrev pub Lines-keep-the-demands : Type 0
 Lines-keep-the-demands = (ls : List (List ℕ)) → Of-lines ls
