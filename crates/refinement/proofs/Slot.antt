@@ -27,7 +27,8 @@ use Rattle.day.specs.declared.Answer.the-variants.{Played}
 use Rattle.day.specs.declared.Day.{Day}
 use Rattle.day.specs.declared.Outcome.{Outcome}
 use Rattle.day.specs.Day.{campaign, sound}
-use Rattle.day.specs.Calls.{number, player, offers, shown, view-answer, result, first-failed, width-holds, call}
+use Rattle.questions.specs.Questions.{first-failed, width-holds}
+use Rattle.day.specs.Calls.{number, player, offers, shown, view-answer, result, call}
 use Rattle.day.specs.Calls.Call.{show-view}
 use Rattle.day.proofs.State.{Sound, sound-facts, held-at, campaign-of-state}
 use Rattle.demands.proofs.Refusals.{accepted-result}
