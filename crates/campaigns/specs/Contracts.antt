@@ -12,13 +12,13 @@ use Rattle.campaigns.specs.declared.Plan.{Plan}
 use Rattle.campaigns.specs.Campaign.{sound-plan}
 
 -- the numbers of a campaign are no wider than the arrays
-pub record Narrow (c : Campaign) : Type 0 where
-  pub price-narrow : c .price < 4_294_967_296
-  pub budget-narrow : c .budget < 4_294_967_296
-  pub plays-narrow : c .plays < 65_536
-  pub turns-narrow : c .turns < 65_536
-  pub age-narrow : c .age < 65_536
-  pub named-narrow : c .named < 65_536
+pub record Fits-arrays (c : Campaign) : Type 0 where
+  pub price-u32 : c .price < 4_294_967_296
+  pub budget-u32 : c .budget < 4_294_967_296
+  pub plays-u16 : c .plays < 65_536
+  pub turns-u16 : c .turns < 65_536
+  pub age-u16 : c .age < 65_536
+  pub named-u16 : c .named < 65_536
 
 -- lent arrays have the entries that their types say
 pub record Room (terms counts : List ℕ) : Type 0 where

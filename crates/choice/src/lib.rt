@@ -9,45 +9,45 @@ ghost use mathlib.Core.Path.{_≡_};
 ghost use mathlib.Core.Bool.{true};
 ghost use Prim.Native.Nat.{_≤_, _<_};
 ghost use Rattle.campaigns.specs.Campaign.{priced, campaign-at};
-ghost use Rattle.campaigns.specs.Contracts.{Narrow, Room, Weights};
-ghost use Rattle.choice.specs.Contracts.{no-leader, challenged, leader-of, put, Counts, Ready, remade};
+ghost use Rattle.campaigns.specs.Contracts.{Fits-arrays, Room, Weights};
+ghost use Rattle.choice.specs.Contracts.{no-candidate, compared, candidate-of, put, Counts, Ready, after-view};
 
-// The campaign that leads a choice, what it would pay, and its score. A score of 0 can lead, so that nobody is told
-// apart by `found`.
-pub struct Leader {
+// The best candidate so far: a campaign, what it would pay, and its score. A score of 0 can be the best, so that nobody
+// is told apart by `found`.
+pub struct Candidate {
     pub found: bool,
     pub campaign: u64,
     pub paid: u64,
     pub score: u64,
 }
 
-// The leader after campaign `at` was tried, which leads if it can pay and nobody leads yet or its score is greater:
-// equal scores stay with the one that was tried before.
-fn challenge(leader: Leader, at: u64, c: Campaign, plan: Plan, weights: &[u64; 33]) -> Leader
+// The better of `best` and campaign `at`, which is better if it can pay and there is no candidate yet or its score is
+// greater: equal scores stay with the one that was tried before. The view has no say in it beyond the name.
+fn compare(best: Candidate, at: u64, c: Campaign, plan: Plan, weights: &[u64; 33]) -> Candidate
     requires { ⌜ Weights plan (now weights) ⌝ }
-    requires { ⌜ Narrow c ⌝ }
+    requires { ⌜ Fits-arrays c ⌝ }
     requires { ⌜ priced c ≡ true ⌝ }
     requires { ⌜ c .age ≤ plan .depth ⌝ }
-    ensures { λ r. ⌜ r ≡ challenged plan leader at c ⌝ }
+    ensures { λ r. ⌜ ((w : View) → r ≡ compared plan w best at c) ⌝ }
 {
     if !c.can_pay() {
-        return leader;
+        return best;
     }
     let score = c.price * weigh(c.age, plan, weights);
-    if !leader.found | (leader.score < score) {
-        return Leader {
+    if !best.found | (best.score < score) {
+        return Candidate {
             found: true,
             campaign: at,
             paid: c.price,
             score: score,
         };
     }
-    leader
+    best
 }
 
 // Campaign i's counts into the array; all others stay.
 fn store(i: usize, c: Campaign, counts: &mut [u16; 256])
-    requires { ⌜ (i < 64) × Narrow c ⌝ }
+    requires { ⌜ (i < 64) × Fits-arrays c ⌝ }
     ensures { λ _. ⌜ now (counts .exit) ≡ put (now (counts .entry)) i c ⌝ }
 {
     counts[i] = c.plays as u16;
@@ -56,24 +56,24 @@ fn store(i: usize, c: Campaign, counts: &mut [u16; 256])
     counts[i + 192] = c.named as u16;
 }
 
-// One walk over the named campaigns: each may lead the choice, and each is marked as one that is passed over, since who
-// plays is known at the end alone. `rest` is the set from `from` on, moved down.
+// One walk over the named campaigns: each is compared with the best so far, and each is marked as one that is passed
+// over, since who plays is known at the end alone. `rest` is the set from `from` on, moved down.
 fn walk<'a>(
     view: View,
     plan: Plan,
     weights: &'a [u64; 33],
     terms: &'a [u32; 128],
     counts: &'a mut [u16; 256],
-) -> Leader
+) -> Candidate
     requires { ⌜ Weights plan (now weights) ⌝ }
     requires { ⌜ Room (now terms) (now counts) ⌝ }
     requires { ⌜ Ready plan view (campaign-at (now terms) (now counts)) ⌝ }
-    ensures { λ r. ⌜ r ≡ leader-of plan view (campaign-at (now (terms .entry)) (now (counts .entry))) 64 ⌝ }
-    ensures { λ _. ⌜ Counts (remade (plan .depth) view no-leader
+    ensures { λ r. ⌜ r ≡ candidate-of plan view (campaign-at (now (terms .entry)) (now (counts .entry))) 64 ⌝ }
+    ensures { λ _. ⌜ Counts (after-view plan view no-candidate
         (campaign-at (now (terms .entry)) (now (counts .entry)))) (now (terms .entry)) (now (counts .exit)) ⌝ }
 {
     let depth = plan.depth;
-    let mut leader = Leader {
+    let mut best = Candidate {
         found: false,
         campaign: 64,
         paid: 0,
@@ -86,13 +86,13 @@ fn walk<'a>(
         let i = from + skip;
         let at = i as usize;
         let c = entry(at, terms, counts);
-        leader = challenge(leader, i, c, plan, weights);
+        best = compare(best, i, c, plan, weights);
         let passed = c.passed_over(depth);
         store(at, passed, counts);
         rest = rest >> skip >> 1;
         from = i + 1;
     }
-    leader
+    best
 }
 
 // Who plays a view, and what the view makes of the counts of the campaigns that it names, stored where they stand.
@@ -102,20 +102,20 @@ pub fn play<'a>(
     weights: &'a [u64; 33],
     terms: &'a [u32; 128],
     counts: &'a mut [u16; 256],
-) -> Leader
+) -> Candidate
     requires { ⌜ Weights plan (now weights) ⌝ }
     requires { ⌜ Room (now terms) (now counts) ⌝ }
     requires { ⌜ Ready plan view (campaign-at (now terms) (now counts)) ⌝ }
-    ensures { λ r. ⌜ r ≡ leader-of plan view (campaign-at (now (terms .entry)) (now (counts .entry))) 64 ⌝ }
-    ensures { λ r. ⌜ Counts (remade (plan .depth) view r (campaign-at (now (terms .entry)) (now (counts .entry))))
+    ensures { λ r. ⌜ r ≡ candidate-of plan view (campaign-at (now (terms .entry)) (now (counts .entry))) 64 ⌝ }
+    ensures { λ r. ⌜ Counts (after-view plan view r (campaign-at (now (terms .entry)) (now (counts .entry))))
         (now (terms .entry)) (now (counts .exit)) ⌝ }
 {
-    let leader = walk(view, plan, weights, terms, counts);
-    if leader.found {
-        let at = leader.campaign as usize;
+    let chosen = walk(view, plan, weights, terms, counts);
+    if chosen.found {
+        let at = chosen.campaign as usize;
         let c = entry(at, terms, counts);
         let played = c.played();
         store(at, played, counts);
     }
-    leader
+    chosen
 }

@@ -1,4 +1,5 @@
--- A view's outcome by the leader that the walk found and the counts that it left.
+-- A view's outcome by the candidate that the walk found and the counts that it left: with every name in the plan, the
+-- choice among all places is that among the campaigns of the plan.
 use mathlib.Core.Path.{_≡_, refl, ap, ap₂, sym, _∙_}
 use mathlib.Core.Bool.{true, false}
 use mathlib.Core.List.{List}
@@ -7,19 +8,19 @@ use native.Mathlib.Omega.{arith}
 use Rattle.finite.proofs.Tests.{never}
 use Rattle.sets.specs.Set.{within}
 use Rattle.sets.proofs.Walk.{within-member}
-use Rattle.campaigns.specs.declared.Campaign.{Campaign}
 use Rattle.campaigns.specs.declared.Head.{Head}
 use Rattle.campaigns.specs.declared.Phase.{Phase}
 use Rattle.campaigns.specs.declared.Phase.the-variants.{Filling, Running, Closed}
 use Rattle.campaigns.specs.declared.View.{View}
-use Rattle.choice.specs.declared.Leader.{Leader}
+use Rattle.choice.specs.declared.Candidate.{Candidate}
 use Rattle.campaigns.specs.Campaign.{campaign-at}
 use Rattle.campaigns.specs.Choice.{Choice, is, role-of}
 use Rattle.campaigns.specs.Choice.Choice.{nobody, plays}
 use Rattle.campaigns.specs.View.{names, pays, figure, becomes}
-use Rattle.choice.specs.Contracts.{led, leader-of, Counts, Ready, remade}
+use Rattle.choice.specs.Contracts.{as-candidate, candidate-of, Counts, Ready, after-view}
+use Rattle.audit.proofs.Totals.{Held}
 use Rattle.campaigns.proofs.Laws.{plan-sized}
-use Rattle.choice.proofs.Leads.{choice-within}
+use Rattle.choice.proofs.Candidates.{choice-within}
 use Rattle.day.specs.declared.Answer.{Answer}
 use Rattle.day.specs.declared.Day.{Day}
 use Rattle.day.specs.Day.{campaign, state-of, state-with}
@@ -35,49 +36,66 @@ running-is Filling e = absurd (never false refl e)
 running-is Running e = refl
 running-is (Closed t) e = absurd (never false refl e)
 
-abbrev leading : Day → View → Choice → Leader
-leading s w ch = led (λ i. figure (s .plan) w i (campaign s i)) (offers s w) ch
+-- a choice among the campaigns of a state as a candidate
+abbrev chosen : Day → View → Choice → Candidate
+chosen s w ch = as-candidate (λ i. figure (s .plan) w i (campaign s i)) (offers s w) ch
 
--- the leader is that of the choice among the campaigns of the plan
-leader-is : (s : Day) (w : View) (l : Leader) → s .count ≤ 64 → within (s .count) (w .set) ≡ true → l ≡ leader-of (s .plan) w (campaign s) 64 → l ≡ leading s w (player s w)
-unfolding leader-of
-leader-is s w l h e q = q ∙ ap (leading s w) (choice-within (s .plan) w (campaign s) (s .count) h e)
+-- the candidate is the choice among the campaigns of the plan
+chosen-is : (s : Day) (w : View) (b : Candidate) → s .count ≤ 64 → within (s .count) (w .set) ≡ true
+    → b ≡ candidate-of (s .plan) w (campaign s) 64 → b ≡ chosen s w (player s w)
+unfolding candidate-of
+chosen-is s w b h e q = q ∙ ap (chosen s w) (choice-within (s .plan) w (campaign s) (s .count) h e)
 
 -- what the walk made of the campaigns is what the view shows
-made : (s : Day) (w : View) (ch : Choice) (i : ℕ) → remade (s .plan .depth) w (leading s w ch) (campaign s) i ≡ becomes (s .plan) w i (role-of (names w i) (pays (s .plan) w i (campaign s i)) (is ch i)) (campaign s i)
+made : (s : Day) (w : View) (ch : Choice) (i : ℕ) → after-view (s .plan) w (chosen s w ch) (campaign s) i
+    ≡ becomes (s .plan) w i (role-of (names w i) (pays (s .plan) w i (campaign s i)) (is ch i)) (campaign s i)
 made s w nobody i = refl
 made s w (plays m) i = refl
 
 -- the answer
-answered : (s : Day) (w : View) (ch : Choice) → answer-of (leading s w ch) ≡ view-answer (offers s w) ch
+answered : (s : Day) (w : View) (ch : Choice) → answer-of (chosen s w ch) ≡ view-answer (offers s w) ch
 answered s w nobody = refl
 answered s w (plays m) = refl
 
 -- the named campaigns of a sound state are ready for the choice
-pub named-ready : (s : Day) (w : View) → Sound s → within (s .count) (w .set) ≡ true → Ready (s .plan) w (campaign s)
-named-ready s w h e = record {
-  named-priced = λ i l m. held-at s h i (within-member (s .count) (w .set) i e l m) .is-priced;
-  named-young = λ i l m. held-at s h i (within-member (s .count) (w .set) i e l m) .young;
-  shallow = plan-sized (s .plan) (h .plan-sound) .shallow;
-  named-few = λ i l m. let k = held-at s h i (within-member (s .count) (w .set) i e l m) in omega (arith, k .named-accepted, h .views);
-  turns-few = λ i l m. let k = held-at s h i (within-member (s .count) (w .set) i e l m) in omega (arith, k .turns-named, k .named-accepted, h .views);
-  plays-few = λ i l m. let k = held-at s h i (within-member (s .count) (w .set) i e l m) in omega (arith, k .plays-turns, k .turns-named, k .named-accepted, h .views);
-}
+module _ (s : Day) (w : View) (h : Sound s) (e : within (s .count) (w .set) ≡ true) where
+  held : (i : ℕ) → i < 64 → names w i ≡ true → Held (s .plan) (s .accepted) (campaign s i)
+  held i l m = held-at s h i (within-member (s .count) (w .set) i e l m)
+
+  pub named-ready : Ready (s .plan) w (campaign s)
+  named-ready = record {
+    named-priced = λ i l m. held i l m .is-priced;
+    named-young = λ i l m. held i l m .young;
+    shallow = plan-sized (s .plan) (h .plan-sound) .shallow;
+    named-few = λ i l m. omega (arith, held i l m .named-accepted, h .views);
+    turns-few = λ i l m. omega (arith, held i l m .turns-named, held i l m .named-accepted, h .views);
+    plays-few = λ i l m. let k = held i l m in
+        omega (arith, k .plays-turns, k .turns-named, k .named-accepted, h .views);
+  }
 
 -- an accepted view, from what the choice and the marks gave
-module _ (h : Head) (t n : List ℕ) (w : View) (l : Leader) (y : Yes (questions (state-of h t n) (show-view w))) (q : l ≡ leader-of (h .plan) w (campaign-at t n) 64) where
+module _ (h : Head) (t n : List ℕ) (w : View) (b : Candidate) (y : Yes (questions (state-of h t n) (show-view w)))
+    (q : b ≡ candidate-of (h .plan) w (campaign-at t n) 64) where
   abbrev s : Day
   s = state-of h t n
 
-  leads : l ≡ leading s w (player s w)
-  leads = leader-is s w l (sound-facts s (y .0) .few) (y .1 .1 .1 .0) q
+  plays-is : b ≡ chosen s w (player s w)
+  plays-is = chosen-is s w b (sound-facts s (y .0) .few) (y .1 .1 .1 .0) q
 
-  becomes-shown : (i : ℕ) → remade (h .plan .depth) w l (campaign s) i ≡ shown s w i
-  becomes-shown i = ap (λ (x : Leader). remade (s .plan .depth) w x (campaign s) i) leads ∙ made s w (player s w) i
+  becomes-shown : (i : ℕ) → after-view (h .plan) w b (campaign s) i ≡ shown s w i
+  becomes-shown i = ap (λ (x : Candidate). after-view (s .plan) w x (campaign s) i) plays-is ∙ made s w (player s w) i
 
-  pub accepted-shows : (m : List ℕ) (r : Answer) → Counts (remade (h .plan .depth) w l (campaign-at t n)) t m → r ≡ answer-of l
-      → record { day = state-of (record { phase = h .phase; plan = h .plan; count = h .count; accepted = h .accepted + 1 }) t m; answer = r } ≡ call s (show-view w)
+  -- the state with one view more
+  abbrev one-more : List ℕ → Day
+  one-more m = state-of (record { phase = h .phase; plan = h .plan; count = h .count; accepted = h .accepted + 1 }) t m
+
+  pub accepted-shows : (m : List ℕ) (r : Answer) → Counts (after-view (h .plan) w b (campaign-at t n)) t m
+      → r ≡ answer-of b → record { day = one-more m; answer = r } ≡ call s (show-view w)
   accepted-shows m r c e =
-      let d : Day = state-of (record { phase = h .phase; plan = h .plan; count = h .count; accepted = h .accepted + 1 }) t m in
-      let a : d ≡ state-with Running (h .plan) (h .count) (h .accepted + 1) (shown s w) = state-with-is d (shown s w) (c .room) (λ i k. c .at i k ∙ becomes-shown i) ∙ ap (λ (p : Phase). state-with p (h .plan) (h .count) (h .accepted + 1) (shown s w)) (running-is (h .phase) (y .1 .0)) in
-      ap₂ (λ (x : Day) (z : Answer). record { day = x; answer = z }) a (e ∙ ap answer-of leads ∙ answered s w (player s w)) ∙ sym (call-yes s (show-view w) y)
+      let a : one-more m ≡ state-with Running (h .plan) (h .count) (h .accepted + 1) (shown s w) =
+      state-with-is (one-more m) (shown s w) (c .room) (λ i k. c .at i k ∙ becomes-shown i)
+      ∙ ap (λ (p : Phase). state-with p (h .plan) (h .count) (h .accepted + 1) (shown s w))
+      (running-is (h .phase) (y .1 .0)) in
+      ap₂ (λ (x : Day) (z : Answer). record { day = x; answer = z }) a
+      (e ∙ ap answer-of plays-is ∙ answered s w (player s w))
+      ∙ sym (call-yes s (show-view w) y)

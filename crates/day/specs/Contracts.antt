@@ -5,15 +5,15 @@ use mathlib.Core.List.{List}
 use Prim.Native.Nat.{ℕ}
 use Rattle.campaigns.specs.declared.Head.{Head}
 use Rattle.campaigns.specs.Contracts.{Room, Weights}
-use Rattle.choice.specs.declared.Leader.{Leader}
+use Rattle.choice.specs.declared.Candidate.{Candidate}
 use Rattle.day.specs.declared.Answer.{Answer}
 use Rattle.day.specs.declared.Answer.the-variants.{Refused, Played, Nobody}
 use Rattle.day.specs.declared.Step.{Step}
 use Rattle.day.specs.Day.{state-of, sound}
 
--- the answer that names leader l
-abbrev pub answer-of : Leader → Answer
-answer-of l = cond (l .found) (Played (l .campaign) (l .paid)) Nobody
+-- the answer that names candidate b, or nobody
+abbrev pub answer-of : Candidate → Answer
+answer-of b = cond (b .found) (Played (b .campaign) (b .paid)) Nobody
 
 abbrev pub refusing : Head → ℕ → Step
 refusing h q = record { head = h; answer = Refused q }

@@ -3,7 +3,7 @@ use crate::Answer;
 use crate::Step;
 use campaigns::Head;
 use campaigns::View;
-use choice::Leader;
+use choice::Candidate;
 use choice::play;
 use questions::view_question;
 ghost use mathlib.Core.Path.{_≡_};
@@ -16,13 +16,13 @@ ghost use Rattle.day.specs.Contracts.{Kept};
 ghost use Rattle.day.specs.Contracts.{answer-of};
 
 // Who plays, and what is paid.
-fn view_answer(leader: Leader) -> Answer
-    ensures { λ r. ⌜ r ≡ answer-of leader ⌝ }
+fn view_answer(chosen: Candidate) -> Answer
+    ensures { λ r. ⌜ r ≡ answer-of chosen ⌝ }
 {
-    if leader.found {
+    if chosen.found {
         return Answer::Played {
-            campaign: leader.campaign,
-            paid: leader.paid,
+            campaign: chosen.campaign,
+            paid: chosen.paid,
         };
     }
     Answer::Nobody
@@ -47,8 +47,8 @@ pub fn show_sound<'a>(
     }
     let phase = head.phase;
     let plan = head.plan;
-    let leader = play(view, plan, weights, terms, counts);
-    let answer = view_answer(leader);
+    let chosen = play(view, plan, weights, terms, counts);
+    let answer = view_answer(chosen);
     Step {
         head: Head {
             phase: phase,

@@ -1,51 +1,65 @@
 -- The walk has marked the player as passed over like the others; storing its play over that mark gives the campaigns
 -- after the view. Where nobody is found, the marks are already those.
-use Rattle.choice.proofs.Leads.{leader-able}
-use Rattle.choice.proofs.Marks.{Grown, after-grown, played-grown, same-counts, put-counts, played-marks, unplayed-marks}
-use Rattle.choice.specs.Contracts.{no-leader, Counts, remade}
-use Rattle.campaigns.specs.Campaign.{can-pay, campaign-at}
-use Rattle.campaigns.specs.Choice.{role-of}
-use Rattle.campaigns.specs.Contracts.{Narrow, played}
-use Rattle.campaigns.specs.View.{names}
-use Rattle.campaigns.specs.declared.Campaign.{Campaign}
-use borrow.Author.Needs.{needs}
-use native.Mathlib.Omega.{arith}
-use Prim.Native.Nat.{ℕ, _<_}
 use mathlib.Core.Bool.{true, false}
 use mathlib.Core.Path.{_≡_, ap, sym, subst, _∙_}
+use Prim.Native.Nat.{ℕ, _<_}
+use native.Mathlib.Omega.{arith}
+use borrow.Author.Needs.{needs}
+use Rattle.campaigns.specs.declared.Campaign.{Campaign}
+use Rattle.campaigns.specs.Campaign.{campaign-at}
+use Rattle.campaigns.specs.Choice.{role-of}
+use Rattle.campaigns.specs.Contracts.{Fits-arrays, played}
+use Rattle.campaigns.specs.View.{names, pays}
+use Rattle.choice.specs.Contracts.{no-candidate, Counts, after-view}
+use Rattle.choice.proofs.Candidates.{candidate-able}
+use Rattle.choice.proofs.Marks.{Grown, becomes-grown, played-grown, same-counts, put-counts, played-marks}
+use Rattle.choice.proofs.Marks.{unplayed-marks}
 use Rattle.choice.proofs.play.Statement.{statement}
 use Rattle.choice.proofs.play.Tie as tie
 
--- the campaigns as they came
+-- the campaigns as they came, and as the walk leaves them
 abbrev came : tie.Start → ℕ → Campaign
 came s = campaign-at (s .args .terms .now) (s .args .counts .now)
 
+abbrev walked : tie.Start → ℕ → Campaign
+walked s = after-view (s .args .plan) (s .args .view) no-candidate (came s)
+
 -- who plays is named and can pay
-able : (c : tie.Then1) → let s = c .before .before .before in let m = c .before .walk .result .campaign in (m < 64) × (names (s .args .view) m ≡ true) × (can-pay (came s m) ≡ true)
-able c = let s = c .before .before .before in leader-able (s .args .plan) (s .args .view) (came s) 64 (c .before .walk .result) (c .before .walk .ensures .0) (c .if1 .taken)
+able : (c : tie.Then1) → let s = c .before .before .before in let m = c .before .walk .result .campaign in
+    (m < 64) × (names (s .args .view) m ≡ true) × (pays (s .args .plan) (s .args .view) m (came s m) ≡ true)
+able c =
+    let s = c .before .before .before in
+    let walk = c .before .walk in
+    candidate-able (s .args .plan) (s .args .view) (came s) 64 (walk .result) (walk .ensures .0) (c .if1 .taken)
 
 -- and marked as passed over
-marked : (c : tie.After-entry) → let d = c .before .before in let s = d .before .before .before in c .entry .result ≡ remade (s .args .plan .depth) (s .args .view) no-leader (came s) (d .before .walk .result .campaign)
-marked c = let d = c .before .before in c .entry .ensures .0 ∙ d .before .walk .ensures .1 .at (d .before .walk .result .campaign) (able d .0)
+marked : (c : tie.After-entry) → let d = c .before .before in
+    c .entry .result ≡ walked (d .before .before .before) (d .before .walk .result .campaign)
+marked c =
+    let d = c .before .before in
+    c .entry .ensures .0 ∙ d .before .walk .ensures .1 .at (d .before .walk .result .campaign) (able d .0)
 
-narrow : (c : tie.After-played) → Narrow (c .played .result)
-narrow c =
+-- the counts of the play fit the array
+fits : (c : tie.After-played) → Fits-arrays (c .played .result)
+fits c =
     let d = c .before .before .before in
     let s = d .before .before .before in
     let m = d .before .walk .result .campaign in
     let x = c .before .entry .result in
     let n = c .before .entry .ensures .1 in
-    let g = subst (λ (y : Campaign). Grown (came s m) y) (sym (marked (c .before))) (after-grown (s .args .plan .depth) (role-of (names (s .args .view) m) (can-pay (came s m)) false) (came s m)) in
+    let r = role-of (names (s .args .view) m) (pays (s .args .plan) (s .args .view) m (came s m)) false in
+    let g = subst (λ (y : Campaign). Grown (came s m) y) (sym (marked (c .before)))
+    (becomes-grown (s .args .plan) (s .args .view) m r (came s m)) in
     let h = played-grown x in
     let z = s .pre .1 .1 in
-    subst Narrow (sym (c .played .ensures))
+    subst Fits-arrays (sym (c .played .ensures))
     (record {
-      price-narrow = n .price-narrow;
-      budget-narrow = n .budget-narrow;
-      plays-narrow = omega (arith, h .plays-grown, g .plays-grown, z .plays-few m (able d .0) (able d .1));
-      turns-narrow = omega (arith, h .turns-grown, g .turns-grown, z .turns-few m (able d .0) (able d .1));
-      age-narrow = omega arith;
-      named-narrow = n .named-narrow;
+      price-u32 = n .price-u32;
+      budget-u32 = n .budget-u32;
+      plays-u16 = omega (arith, h .plays-grown, g .plays-grown, z .plays-few m (able d .0) (able d .1));
+      turns-u16 = omega (arith, h .turns-grown, g .turns-grown, z .turns-few m (able d .0) (able d .1));
+      age-u16 = omega arith;
+      named-u16 = n .named-u16;
     })
 
 walk-requires : tie.Need-walk-requires
@@ -58,29 +72,35 @@ played-requires : tie.Need-played-requires
 played-requires c κs = search needs
 
 store-requires : tie.Need-store-requires
-store-requires c κs = (able (c .before .before .before .before) .0, narrow (c .before))
+store-requires c κs = let found = c .before .before .before .before in (able found .0, fits (c .before))
 
 returns : tie.Need-returns
 returns c =
     let d = c .before .before .before .before .before in
     let s = d .before .before .before in
-    let k = s .args .plan .depth in
+    let pl = s .args .plan in
     let w = s .args .view in
-    let l = d .before .walk .result in
+    let t = s .args .terms .now in
+    let walk = d .before .walk in
+    let b = walk .result in
     let v = c .before .before .played .result in
     let y = c .before .before .played .ensures ∙ ap played (marked (c .before .before .before)) in (
-      d .before .walk .ensures .0,
-      subst (Counts (remade k w l (came s)) (s .args .terms .now)) (sym (c .store .ensures))
-          (same-counts (λ j _. played-marks k w (came s) l v y (d .if1 .taken) (able d .1) (able d .2) j)
-          (put-counts (remade k w no-leader (came s)) (s .args .terms .now) _ (l .campaign) v (able d .0) (d .before .walk .ensures .1)
+      walk .ensures .0,
+      subst (Counts (after-view pl w b (came s)) t) (sym (c .store .ensures))
+          (same-counts (λ j _. played-marks pl w (came s) b v y (d .if1 .taken) (able d .1) (able d .2) j)
+          (put-counts (walked s) t _ (b .campaign) v (able d .0) (walk .ensures .1)
           (ap (λ (x : Campaign). x .price) y) (ap (λ (x : Campaign). x .budget) y))),
     )
 
 returns-2 : tie.Need-returns-2
 returns-2 c =
     let s = c .before .before .before in
-    let l = c .before .walk .result in
-    (c .before .walk .ensures .0, same-counts (λ j _. unplayed-marks (s .args .plan .depth) (s .args .view) (came s) l (c .if1 .left) j) (c .before .walk .ensures .1))
+    let walk = c .before .walk in (
+      walk .ensures .0,
+      same-counts
+          (λ j _. unplayed-marks (s .args .plan) (s .args .view) (came s) (walk .result) (c .if1 .left) j)
+          (walk .ensures .1),
+    )
 
 pub play-spec : {M : Type 1} → statement M
 play-spec =

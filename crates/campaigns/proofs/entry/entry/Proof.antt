@@ -73,12 +73,12 @@ returns : tie.Need-returns
 returns c = (
   cc,
   record {
-    price-narrow = c .before .before .before .before .before .before .before .before .before .before .wide32 .ensures .1;
-    budget-narrow = c .before .before .before .before .before .before .before .before .wide322 .ensures .1;
-    plays-narrow = c .before .before .before .before .before .before .wide16 .ensures .1;
-    turns-narrow = c .before .before .before .before .wide162 .ensures .1;
-    age-narrow = c .before .before .wide163 .ensures .1;
-    named-narrow = c .wide164 .ensures .1;
+    price-u32 = c .before .before .before .before .before .before .before .before .before .before .wide32 .ensures .1;
+    budget-u32 = c .before .before .before .before .before .before .before .before .wide322 .ensures .1;
+    plays-u16 = c .before .before .before .before .before .before .wide16 .ensures .1;
+    turns-u16 = c .before .before .before .before .wide162 .ensures .1;
+    age-u16 = c .before .before .wide163 .ensures .1;
+    named-u16 = c .wide164 .ensures .1;
   },
 )
 

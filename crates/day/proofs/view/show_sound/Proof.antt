@@ -1,37 +1,43 @@
 -- Questions 11 to 14; where all are answered yes, the named campaigns of the sound state are what `play` asks for, and
--- its leader and counts are the outcome of the view.
-use borrow.Author.Tests.{not-true, not-false}
-use mathlib.Core.Bool.{true, false}
-use mathlib.Core.Path.{_≡_, refl, ap, sym, _∙_}
+-- its candidate and counts are the outcome of the view.
+use mathlib.Core.Path.{_≡_, _∙_}
 use native.Mathlib.Omega.{arith}
-use Rattle.day.specs.declared.Day.{Day}
-use Rattle.day.specs.Day.{state-of}
+use borrow.Author.Needs.{needs}
 use borrow.Author.Tests.{ltb-true}
 use Rattle.campaigns.specs.Limits.{max-views}
 use Rattle.choice.specs.Contracts.{Ready}
-use Rattle.day.specs.Day.{campaign}
-use Rattle.questions.specs.Questions.{first-failed}
-use Rattle.day.specs.Calls.{questions}
+use Rattle.day.specs.declared.Day.{Day}
+use Rattle.day.specs.Day.{campaign, state-of}
+use Rattle.day.specs.Calls.{first-failed, questions}
 use Rattle.day.specs.Calls.Call.{show-view}
 use Rattle.day.proofs.State.{sound-facts}
 use Rattle.day.proofs.Questions.{Yes, asked-yes}
 use Rattle.day.proofs.Shown.{named-ready, accepted-shows}
 use Rattle.day.proofs.Steps.{steps-refused, own-asks}
-use borrow.Author.Needs.{needs}
 use Rattle.day.proofs.view.show_sound.Statement.{statement}
 use Rattle.day.proofs.view.show_sound.Tie as tie
 
 abbrev state : tie.Start → Day
 state s = state-of (s .args .head) (s .args .terms .now) (s .args .counts .now)
 
-asked : (c : tie.After-view-question) → c .view-question .result ≡ first-failed (questions (state (c .before)) (show-view (c .before .args .view)))
-asked c = let a = c .before .args in c .view-question .ensures ∙ own-asks (state (c .before)) (show-view (a .view)) (c .before .pre .1 .is-sound)
+asked : (c : tie.After-view-question)
+    → c .view-question .result ≡ first-failed (questions (state (c .before)) (show-view (c .before .args .view)))
+asked c =
+    let s = c .before in
+    c .view-question .ensures ∙ own-asks (state s) (show-view (s .args .view)) (s .pre .1 .is-sound)
 
 yes : (c : tie.Else1) → Yes (questions (state (c .before .before)) (show-view (c .before .before .args .view)))
-yes c = asked-yes (state (c .before .before)) (show-view (c .before .before .args .view)) (c .before .view-question .result) (asked (c .before)) (c .if1 .left)
+yes c =
+    let s = c .before .before in
+    asked-yes (state s) (show-view (s .args .view)) (c .before .view-question .result) (asked (c .before))
+    (c .if1 .left)
 
-ready : (c : tie.Else1) → Ready (c .before .before .args .head .plan) (c .before .before .args .view) (campaign (state (c .before .before)))
-ready c = let s = state (c .before .before) in let y = yes c in named-ready s (c .before .before .args .view) (sound-facts s (y .0)) (y .1 .1 .1 .0)
+ready : (c : tie.Else1)
+    → Ready (c .before .before .args .head .plan) (c .before .before .args .view) (campaign (state (c .before .before)))
+ready c =
+    let s = c .before .before in
+    let y = yes c in
+    named-ready (state s) (s .args .view) (sound-facts (state s) (y .0)) (y .1 .1 .1 .0)
 
 view-question-requires : tie.Need-view-question-requires
 view-question-requires c κs = search needs
@@ -40,19 +46,33 @@ refused-requires : tie.Need-refused-requires
 refused-requires c κs = search needs
 
 returns : tie.Need-returns
-returns c = let s = c .before .before .before in steps-refused (s .args .head) (s .args .terms .now) (s .args .counts .now) (show-view (s .args .view)) (c .refused .result) (c .before .before .view-question .result) (c .refused .ensures) (asked (c .before .before)) (c .before .if1 .taken)
+returns c =
+    let d = c .before .before in
+    let a = d .before .args in
+    steps-refused (a .head) (a .terms .now) (a .counts .now) (show-view (a .view)) (c .refused .result)
+    (d .view-question .result) (c .refused .ensures) (asked d) (c .before .if1 .taken)
 
 play-requires : tie.Need-play-requires
-play-requires c κs = let s = c .before .before .before .before in (s .pre .0, (s .pre .1 .room, ready (c .before .before)))
+play-requires c κs =
+    let d = c .before .before in
+    let s = d .before .before in
+    (s .pre .0, (s .pre .1 .room, ready d))
 
 view-answer-requires : tie.Need-view-answer-requires
 view-answer-requires c κs = search needs
 
 add-t13 : tie.Need-add-t13
-add-t13 c = omega (arith, ltb-true (c .before .before .before .before .before .before .before .args .head .accepted) max-views (yes (c .before .before .before .before .before) .1 .1 .0))
+add-t13 c =
+    let d = c .before .before .before .before .before in
+    omega (arith, ltb-true (d .before .before .args .head .accepted) max-views (yes d .1 .1 .0))
 
 returns-2 : tie.Need-returns-2
-returns-2 c = let s = c .before .before .before .before .before .before .before in accepted-shows (s .args .head) (s .args .terms .now) (s .args .counts .now) (s .args .view) (c .before .before .play .result) (yes (c .before .before .before .before .before)) (c .before .before .play .ensures .0) _ (c .before .view-answer .result) (c .before .before .play .ensures .1) (c .before .view-answer .ensures)
+returns-2 c =
+    let d = c .before .before .before .before .before in
+    let a = d .before .before .args in
+    let play = c .before .before .play in
+    accepted-shows (a .head) (a .terms .now) (a .counts .now) (a .view) (play .result) (yes d) (play .ensures .0) _
+    (c .before .view-answer .result) (play .ensures .1) (c .before .view-answer .ensures)
 
 pub show-sound-spec : {M : Type 1} → statement M
 show-sound-spec =

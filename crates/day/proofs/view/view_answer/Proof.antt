@@ -1,4 +1,4 @@
--- A leader that is found plays at its price; otherwise the answer is nobody.
+-- A candidate that is found plays and pays its offer; otherwise the answer is nobody.
 use Rattle.day.proofs.view.view_answer.Statement.{statement}
 use Rattle.day.proofs.view.view_answer.Tie as tie
 

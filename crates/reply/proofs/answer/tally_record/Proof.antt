@@ -13,7 +13,8 @@ returns c =
     let e = c .entry .result in
     let n = c .entry .ensures .1 in (
       ap (λ (x : Campaign). Tally i (x .plays) (x .turns) (x .age) (x .named)) (c .entry .ensures .0),
-      tally-range i (e .plays) (e .turns) (e .age) (e .named) (c .before .pre) (n .plays-narrow) (n .turns-narrow) (n .age-narrow) (n .named-narrow),
+      tally-range i (e .plays) (e .turns) (e .age) (e .named) (c .before .pre)
+          (n .plays-u16) (n .turns-u16) (n .age-u16) (n .named-u16),
     )
 
 pub tally-record-spec : {M : Type 1} → statement M
