@@ -17,7 +17,7 @@ use Rattle.campaigns.specs.Choice.{Choice, best, against, ahead, choice}
 use Rattle.campaigns.specs.Choice.Choice.{nobody, plays}
 use Rattle.campaigns.specs.View.{names, pays, offer, figure, able, chosen-of}
 use Rattle.campaigns.proofs.Choices.{Fits, best-fits}
-use Rattle.choice.specs.Contracts.{as-candidate, compared, candidate-of}
+use Rattle.choice.specs.Candidates.{as-candidate, compared, candidate-of}
 
 -- a campaign against the choice so far, as candidates
 module _ (x o : ℕ → ℕ) (i : ℕ) where

@@ -21,7 +21,8 @@ use Rattle.campaigns.specs.Campaign.{aged, campaign-at}
 use Rattle.campaigns.specs.View.{names, pays, becomes}
 use Rattle.campaigns.specs.Contracts.{Room, played}
 use Rattle.campaigns.proofs.Laws.{played-passed}
-use Rattle.choice.specs.Contracts.{put, Counts, no-candidate, after-view}
+use Rattle.choice.specs.Candidates.{no-candidate, after-view}
+use Rattle.choice.specs.Contracts.{put, Counts}
 
 -- a view leaves price and budget, and adds at most 1 to each count
 pub record Grown (c v : Campaign) : Type 0 where

@@ -10,7 +10,8 @@ ghost use mathlib.Core.Bool.{true};
 ghost use Prim.Native.Nat.{_≤_, _<_};
 ghost use Rattle.campaigns.specs.Campaign.{priced, campaign-at};
 ghost use Rattle.campaigns.specs.Contracts.{Fits-arrays, Room, Weights};
-ghost use Rattle.choice.specs.Contracts.{no-candidate, compared, candidate-of, put, Counts, Ready, after-view};
+ghost use Rattle.choice.specs.Candidates.{no-candidate, compared, candidate-of, after-view};
+ghost use Rattle.choice.specs.Contracts.{put, Counts, Ready};
 
 // The best candidate so far: a campaign, what it would pay, and its score. A score of 0 can be the best, so that nobody
 // is told apart by `found`.

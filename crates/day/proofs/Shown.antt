@@ -17,7 +17,8 @@ use Rattle.campaigns.specs.Campaign.{campaign-at}
 use Rattle.campaigns.specs.Choice.{Choice, is, role-of}
 use Rattle.campaigns.specs.Choice.Choice.{nobody, plays}
 use Rattle.campaigns.specs.View.{names, pays, figure, becomes}
-use Rattle.choice.specs.Contracts.{as-candidate, candidate-of, Counts, Ready, after-view}
+use Rattle.choice.specs.Candidates.{as-candidate, candidate-of, after-view}
+use Rattle.choice.specs.Contracts.{Counts, Ready}
 use Rattle.audit.proofs.Totals.{Held}
 use Rattle.campaigns.proofs.Laws.{plan-sized}
 use Rattle.choice.proofs.Candidates.{choice-within}

@@ -8,7 +8,7 @@ use borrow.Author.Needs.{needs}
 use borrow.Author.Tests.{not-true, not-false}
 use Rattle.campaigns.specs.Campaign.{can-pay}
 use Rattle.campaigns.proofs.Laws.{price-least, price-most}
-use Rattle.choice.specs.Contracts.{compared}
+use Rattle.choice.specs.Candidates.{compared}
 use Rattle.choice.proofs.compare.Statement.{statement}
 use Rattle.choice.proofs.compare.Tie as tie
 

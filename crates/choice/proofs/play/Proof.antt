@@ -10,7 +10,8 @@ use Rattle.campaigns.specs.Campaign.{campaign-at}
 use Rattle.campaigns.specs.Choice.{role-of}
 use Rattle.campaigns.specs.Contracts.{Fits-arrays, played}
 use Rattle.campaigns.specs.View.{names, pays}
-use Rattle.choice.specs.Contracts.{no-candidate, Counts, after-view}
+use Rattle.choice.specs.Candidates.{no-candidate, after-view}
+use Rattle.choice.specs.Contracts.{Counts}
 use Rattle.choice.proofs.Candidates.{candidate-able}
 use Rattle.choice.proofs.Marks.{Grown, becomes-grown, played-grown, same-counts, put-counts, played-marks}
 use Rattle.choice.proofs.Marks.{unplayed-marks}

@@ -17,7 +17,8 @@ use Rattle.campaigns.specs.Contracts.{Fits-arrays}
 use Rattle.campaigns.specs.View.{pays, becomes}
 use Rattle.campaigns.proofs.Laws.{price-least}
 use Rattle.choice.specs.declared.Candidate.{Candidate}
-use Rattle.choice.specs.Contracts.{compared, candidate-of, Counts}
+use Rattle.choice.specs.Candidates.{compared, candidate-of}
+use Rattle.choice.specs.Contracts.{Counts}
 use Rattle.choice.proofs.Candidates.{candidate-gap, candidate-named}
 use Rattle.choice.proofs.Marks.{becomes-grown, same-counts, put-counts, marks, cut, cut-here, cut-gap, cut-step}
 use Rattle.choice.proofs.Marks.{cut-end}
