@@ -8,7 +8,8 @@ use Rattle.campaigns.specs.Limits.{max-views}
 use Rattle.choice.specs.Contracts.{Ready}
 use Rattle.day.specs.declared.Day.{Day}
 use Rattle.day.specs.Day.{campaign, state-of}
-use Rattle.day.specs.Calls.{first-failed, questions}
+use Rattle.questions.specs.Questions.{first-failed}
+use Rattle.day.specs.Calls.{questions}
 use Rattle.day.specs.Calls.Call.{show-view}
 use Rattle.day.proofs.State.{sound-facts}
 use Rattle.day.proofs.Questions.{Yes, asked-yes}
