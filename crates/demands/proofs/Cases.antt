@@ -1,4 +1,4 @@
--- Every case of the table holds, by computation.
+-- Every case of the table holds: both sides are computed.
 use mathlib.Core.Path.{refl}
 use Rattle.finite.specs.Finite.{sum, count, every, table}
 use Rattle.sets.specs.Set.{member, size, within}
@@ -14,5 +14,22 @@ use Rattle.demands.specs.Transcript.{transcript, final}
 use Rattle.demands.specs.Cases.{All-hold, cases}
 
 pub cases-hold : All-hold cases
-unfolding transcript final call first-failed sound sound-record blank sum count every table within size member width-holds weight share whole claim total-takings total-claim total-budgets sound-plan priced counted uncounted empty sound-campaign best choice
-cases-hold = (refl, (refl, (refl, (refl, (refl, (refl, (refl, (refl, (refl, (refl, (refl, (refl, (refl, (refl, (refl, (refl, (refl, (refl, tt))))))))))))))))))
+unfolding transcript final call first-failed sound sound-record blank sum count every table within size member
+    width-holds weight share whole claim total-takings total-claim total-budgets sound-plan priced counted uncounted
+    empty sound-campaign best choice
+cases-hold = (
+  refl,
+  (
+    refl,
+    (
+      refl,
+      (
+        refl,
+        (
+          refl,
+          (refl, (refl, (refl, (refl, (refl, (refl, (refl, (refl, (refl, (refl, (refl, (refl, (refl, tt))))))))))))),
+        ),
+      ),
+    ),
+  ),
+)

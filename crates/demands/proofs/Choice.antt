@@ -1,4 +1,5 @@
--- The choice is the one that rule 1 asks for, and the only one.
+-- The choice is the one that rule 1 asks for, and the only one. By induction on the number of candidates: the best so
+-- far against the next is the best of one more.
 use mathlib.Core.Path.{_≡_, refl, ap, sym, _∙_, subst⁻¹}
 use mathlib.Core.Bool.{Bool, true, false, cond}
 use Prim.Native.Nat.{ℕ, zero, suc, _≤_, _<_}
@@ -52,11 +53,15 @@ module _ (able : ℕ → Bool) (ah : ℕ → ℕ → Bool) (o : Order ah) where
     higher = one-more (λ i. m < i → able i ≡ true → ah m i ≡ false) n (r .higher) (λ l t. absurd (never (able n) e t));
   }
 
-  takes : (n m : ℕ) (b : Bool) → ah m n ≡ b → able n ≡ true → Front n able ah m → Leads (suc n) able ah (cond b (plays n) (plays m))
+  takes : (n m : ℕ) (b : Bool) → ah m n ≡ b → able n ≡ true → Front n able ah m
+      → Leads (suc n) able ah (cond b (plays n) (plays m))
   takes n m true q e r = record {
     below = le-refl (suc n);
     is-able = e;
-    lower = λ i l t. by-order (λ j. j < n → able j ≡ true → ah j n ≡ true) m i (λ k _ u. o .chain i m n (r .lower i k u) q) (λ _ _. q) (λ k v u. o .over i m n (r .higher i v k u) q) l t;
+    lower =
+        λ i l t.
+        by-order (λ j. j < n → able j ≡ true → ah j n ≡ true) m i (λ k _ u. o .chain i m n (r .lower i k u) q)
+        (λ _ _. q) (λ k v u. o .over i m n (r .higher i v k u) q) l t;
     higher = λ i l k t. absurd (omega arith);
   }
   takes n m false q e r = record {
@@ -67,10 +72,17 @@ module _ (able : ℕ → Bool) (ah : ℕ → ℕ → Bool) (o : Order ah) where
   }
 
   meets : (n : ℕ) (ch : Choice) → able n ≡ true → Leads n able ah ch → Leads (suc n) able ah (against ah ch n)
-  meets n nobody e r = record { below = le-refl (suc n); is-able = e; lower = λ i l t. absurd (never (able i) (r i l) t); higher = λ i l k t. absurd (omega arith) }
+  meets n nobody e r =
+      record {
+        below = le-refl (suc n);
+        is-able = e;
+        lower = λ i l t. absurd (never (able i) (r i l) t);
+        higher = λ i l k t. absurd (omega arith);
+      }
   meets n (plays m) e r = takes n m (ah m n) refl e r
 
-  step : (n : ℕ) (ch : Choice) (b : Bool) → able n ≡ b → Leads n able ah ch → Leads (suc n) able ah (cond b (against ah ch n) ch)
+  step : (n : ℕ) (ch : Choice) (b : Bool) → able n ≡ b → Leads n able ah ch
+      → Leads (suc n) able ah (cond b (against ah ch n) ch)
   step n ch true e r = meets n ch e r
   step n ch false e r = skip n ch e r
 
@@ -82,8 +94,14 @@ module _ (able : ℕ → Bool) (ah : ℕ → ℕ → Bool) (o : Order ah) where
 module _ (n : ℕ) (able : ℕ → Bool) (figure : ℕ → ℕ) where
   greater : Order (ahead figure)
   greater = record {
-    chain = λ i j m p q. lt-ltb (figure i) (figure m) (omega (arith, ltb-true (figure i) (figure j) p, ltb-true (figure j) (figure m) q));
-    over = λ i j m p q. lt-ltb (figure i) (figure m) (omega (arith, ltb-false (figure j) (figure i) p, ltb-true (figure j) (figure m) q));
+    chain =
+        λ i j m p q.
+        lt-ltb (figure i) (figure m)
+        (omega (arith, ltb-true (figure i) (figure j) p, ltb-true (figure j) (figure m) q));
+    over =
+        λ i j m p q.
+        lt-ltb (figure i) (figure m)
+        (omega (arith, ltb-false (figure j) (figure i) p, ltb-true (figure j) (figure m) q));
   }
 
   right-of : (ch : Choice) → Leads n able (ahead figure) ch → Right n able figure ch
@@ -91,7 +109,11 @@ module _ (n : ℕ) (able : ℕ → Bool) (figure : ℕ → ℕ) where
   right-of (plays m) r = record {
     below = r .below;
     is-able = r .is-able;
-    top = λ i l t. by-order (λ j. j < n → able j ≡ true → figure j ≤ figure m) m i (λ k _ u. omega (arith, ltb-true (figure i) (figure m) (r .lower i k u))) (λ _ _. le-refl (figure m)) (λ k v u. ltb-false (figure m) (figure i) (r .higher i v k u)) l t;
+    top =
+        λ i l t.
+        by-order (λ j. j < n → able j ≡ true → figure j ≤ figure m) m i
+        (λ k _ u. omega (arith, ltb-true (figure i) (figure m) (r .lower i k u))) (λ _ _. le-refl (figure m))
+        (λ k v u. ltb-false (figure m) (figure i) (r .higher i v k u)) l t;
     lowest = λ i l t. ltb-true (figure i) (figure m) (r .lower i l t);
   }
 
@@ -105,14 +127,18 @@ module _ (n : ℕ) (able : ℕ → Bool) (figure : ℕ → ℕ) where
   right-unique nobody (plays m) p q = absurd (never (able m) (p m (q .below)) (q .is-able))
   right-unique (plays m) nobody p q = absurd (never (able m) (q m (p .below)) (p .is-able))
   right-unique (plays i) (plays m) p q =
-      ap plays (by-order (λ j. j ≡ i → j ≡ m) m i (λ l e. absurd (omega (arith, q .lowest i l (p .is-able), p .top m (q .below) (q .is-able)))) (λ _. refl) (λ l e. absurd (omega (arith, p .lowest m l (q .is-able), q .top i (p .below) (p .is-able)))) refl)
+      ap plays
+      (by-order (λ j. j ≡ i → j ≡ m) m i
+      (λ l e. absurd (omega (arith, q .lowest i l (p .is-able), p .top m (q .below) (q .is-able)))) (λ _. refl)
+      (λ l e. absurd (omega (arith, p .lowest m l (q .is-able), q .top i (p .below) (p .is-able)))) refl)
 
   -- and nothing else does; nobody plays wherever no candidate is able
   pub choice-only : (ch : Choice) → Right n able figure ch → ch ≡ choice n able figure
   choice-only ch r = right-unique ch (choice n able figure) r choice-right
 
 -- the choice sees only who is able, and the figures of those
-pub choice-eq : (n : ℕ) (a b : ℕ → Bool) (f g : ℕ → ℕ) → ((i : ℕ) → i < n → a i ≡ b i) → ((i : ℕ) → i < n → a i ≡ true → f i ≡ g i) → choice n a f ≡ choice n b g
+pub choice-eq : (n : ℕ) (a b : ℕ → Bool) (f g : ℕ → ℕ) → ((i : ℕ) → i < n → a i ≡ b i)
+    → ((i : ℕ) → i < n → a i ≡ true → f i ≡ g i) → choice n a f ≡ choice n b g
 choice-eq n a b f g h q = choice-only n b g (choice n a f) (go (choice n a f) (choice-right n a f))
   where
     go : (ch : Choice) → Right n a f ch → Right n b g ch
@@ -120,13 +146,17 @@ choice-eq n a b f g h q = choice-only n b g (choice n a f) (go (choice n a f) (c
     go (plays m) r = record {
       below = r .below;
       is-able = sym (h m (r .below)) ∙ r .is-able;
-      top = λ i l t. let u : a i ≡ true = h i l ∙ t in omega (arith, r .top i l u, q i l u, q m (r .below) (r .is-able));
-      lowest = λ i l t. let u : a i ≡ true = h i (omega (arith, r .below)) ∙ t in omega (arith, r .lowest i l u, q i (omega (arith, r .below)) u, q m (r .below) (r .is-able));
+      top = λ i l t. let u : a i ≡ true = h i l ∙ t in
+          omega (arith, r .top i l u, q i l u, q m (r .below) (r .is-able));
+      lowest = λ i l t. let u : a i ≡ true = h i (omega (arith, r .below)) ∙ t in
+          omega (arith, r .lowest i l u, q i (omega (arith, r .below)) u, q m (r .below) (r .is-able));
     }
 
 -- who plays a view: of the named campaigns that can pay the one with the greatest score, the lowest such
 pub player-right : (s : Day) (w : View) → Plays-right s w
 player-right s w = choice-right (s .count) (able (s .plan) w (campaign s)) (λ i. figure (s .plan) w i (campaign s i))
 
-pub player-only : (s : Day) (w : View) (ch : Choice) → Right (s .count) (able (s .plan) w (campaign s)) (λ i. figure (s .plan) w i (campaign s i)) ch → ch ≡ player s w
-player-only s w ch r = choice-only (s .count) (able (s .plan) w (campaign s)) (λ i. figure (s .plan) w i (campaign s i)) ch r
+pub player-only : (s : Day) (w : View) (ch : Choice)
+    → Right (s .count) (able (s .plan) w (campaign s)) (λ i. figure (s .plan) w i (campaign s i)) ch → ch ≡ player s w
+player-only s w ch r =
+    choice-only (s .count) (able (s .plan) w (campaign s)) (λ i. figure (s .plan) w i (campaign s i)) ch r

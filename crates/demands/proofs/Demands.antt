@@ -1,4 +1,4 @@
--- Every call on every state answers as demands 1 and 2 ask.
+-- Every call on every state answers as demands 1 and 2 ask: by the cases of the answer, refused or a result.
 use mathlib.Core.Path.{_≡_, refl, ap, _∙_}
 use Prim.Native.Nat.{ℕ}
 use Rattle.campaigns.specs.Choice.{Choice}

@@ -1,4 +1,4 @@
--- A refusal gives the number of the first question that fails, and the unchanged state.
+-- A refusal gives the number of the first question that fails, and the unchanged state: by the cases of that number.
 use mathlib.Core.Path.{_≡_, refl, sym, _∙_}
 use Prim.Native.Nat.{ℕ, zero, suc}
 use Rattle.campaigns.specs.Choice.{Choice}
@@ -31,11 +31,13 @@ call-number s c = go (first-failed (questions s c))
     go (suc n) = refl
 
 -- a refused call hands its state back unchanged, and answers nothing but the number
-pub refused-unchanged : (s : Day) (c : Call) → (number (call s c .answer) ≡ 0 → ⊥) → (call s c .day ≡ s) × (call s c .answer ≡ Refused (first-failed (questions s c)))
+pub refused-unchanged : (s : Day) (c : Call) → (number (call s c .answer) ≡ 0 → ⊥)
+    → (call s c .day ≡ s) × (call s c .answer ≡ Refused (first-failed (questions s c)))
 unfolding call
 refused-unchanged s c = go (first-failed (questions s c))
   where
-    go : (n : ℕ) → (number (answered n s (result s c) .answer) ≡ 0 → ⊥) → (answered n s (result s c) .day ≡ s) × (answered n s (result s c) .answer ≡ Refused n)
+    go : (n : ℕ) → (number (answered n s (result s c) .answer) ≡ 0 → ⊥)
+        → (answered n s (result s c) .day ≡ s) × (answered n s (result s c) .answer ≡ Refused n)
     go zero r = absurd (r (result-number s c))
     go (suc n) r = (refl, refl)
 

@@ -1,4 +1,5 @@
--- Every call keeps a sound state sound.
+-- Every call keeps a sound state sound. What makes a state sound is gathered in one record over its campaigns
+-- (`Whole`), and each call keeps the record; the bound on the total claim is the potential step.
 use mathlib.Core.Path.{_≡_, refl, ap, subst}
 use mathlib.Core.Bool.{Bool, true, false}
 use mathlib.Core.List.{[], _∷_}
@@ -20,12 +21,14 @@ use Rattle.campaigns.specs.declared.Terms.{Terms}
 use Rattle.campaigns.specs.declared.View.{View}
 use Rattle.campaigns.specs.Limits.{max-campaigns, max-budget, max-views}
 use Rattle.campaigns.specs.Choice.{is, role-of}
-use Rattle.campaigns.specs.Campaign.{spending, aged, after, fresh, depth-fits, width-fits, power-fits, sound-plan, uncounted, empty, untouched, sound-campaign}
+use Rattle.campaigns.specs.Campaign.{spending, aged, after, fresh, depth-fits, width-fits, power-fits, sound-plan}
+use Rattle.campaigns.specs.Campaign.{uncounted, empty, untouched, sound-campaign}
 use Rattle.campaigns.specs.View.{names, pays, becomes, able, takings, claims, full}
 use Rattle.campaigns.proofs.Laws.{Sized, plan-sized}
 use Rattle.day.specs.declared.Day.{Day}
 use Rattle.day.specs.declared.Outcome.{Outcome}
-use Rattle.day.specs.Day.{campaign, state-with, in-phase, no-terms, empty-plan, blank-plan, blank, total-takings, total-claim, total-budgets}
+use Rattle.day.specs.Day.{campaign, state-with, in-phase, no-terms, empty-plan, blank-plan, blank, total-takings}
+use Rattle.day.specs.Day.{total-claim, total-budgets}
 use Rattle.audit.specs.Sound.{sound-entry, sound-tests, sound-record}
 use Rattle.day.specs.Day.{head-of, sound}
 use Rattle.campaigns.specs.Phase.{phase-holds}
@@ -36,7 +39,8 @@ use Rattle.day.proofs.Questions.{Yes, call-elim}
 use Rattle.day.proofs.State.{filling-is, Sound, sound-facts, sound-at, held-at, empty-at, campaign-of-state}
 use Rattle.demands.proofs.Laws.{claim-of, claim-fresh}
 use Rattle.demands.proofs.Step.{able-few, takings-step, claims-step}
-use Rattle.demands.proofs.States.{sum-state-with, with-campaign-old, with-campaign-new, sum-with-campaign, takings-with-campaign}
+use Rattle.demands.proofs.States.{sum-state-with, with-campaign-old, with-campaign-new, sum-with-campaign}
+use Rattle.demands.proofs.States.{takings-with-campaign}
 use Rattle.demands.proofs.SoundCampaign.{campaign-sound, becomes-sound, fresh-sound}
 
 -- all that makes the state that holds n campaigns, f i at entry i, a sound one
@@ -52,16 +56,32 @@ pub record Whole (p : Phase) (pl : Plan) (n a : ℕ) (f : ℕ → Campaign) : Ty
 
 whole-sound : (s : Day) → Whole (s .phase) (s .plan) (s .count) (s .accepted) (campaign s) → sound s ≡ true
 unfolding sound sound-record
-whole-sound s h = all-of (sound-tests (head-of s) (campaign s)) (h .plan-sound, (le-leb _ _ (h .few), (le-leb _ _ (h .views), (every-of 64 (sound-entry (head-of s) (campaign s)) (λ i l. go i l (ltb i (s .count)) refl), (le-leb _ _ (h .budgets), (h .phased, (le-leb _ _ (h .covered), tt)))))))
+whole-sound s h =
+    all-of (sound-tests (head-of s) (campaign s)) (
+      h .plan-sound,
+      (
+        le-leb _ _ (h .few),
+        (
+          le-leb _ _ (h .views),
+          (
+            every-of 64 (sound-entry (head-of s) (campaign s)) (λ i l. go i l (ltb i (s .count)) refl),
+            (le-leb _ _ (h .budgets), (h .phased, (le-leb _ _ (h .covered), tt))),
+          ),
+        ),
+      ),
+    )
   where
     go : (i : ℕ) → i < 64 → (b : Bool) → ltb i (s .count) ≡ b → sound-entry (head-of s) (campaign s) i ≡ true
     go i l true e = rw e (h .entry i (ltb-true i (s .count) e))
     go i l false e = rw e (h .past i (ltb-false i (s .count) e) l)
 
-sound-state-with : (p : Phase) (pl : Plan) (n a : ℕ) (f : ℕ → Campaign) → Whole p pl n a f → sound (state-with p pl n a f) ≡ true
+sound-state-with : (p : Phase) (pl : Plan) (n a : ℕ) (f : ℕ → Campaign) → Whole p pl n a f
+    → sound (state-with p pl n a f) ≡ true
 sound-state-with p pl n a f h =
-    let ta : takings pl n (campaign (state-with p pl n a f)) ≡ takings pl n f = sum-state-with p pl n a f spending (h .few) in
-    let cl : claims pl n (campaign (state-with p pl n a f)) ≡ claims pl n f = sum-state-with p pl n a f (claim-of pl) (h .few) in
+    let ta : takings pl n (campaign (state-with p pl n a f)) ≡ takings pl n f =
+    sum-state-with p pl n a f spending (h .few) in
+    let cl : claims pl n (campaign (state-with p pl n a f)) ≡ claims pl n f =
+    sum-state-with p pl n a f (claim-of pl) (h .few) in
     whole-sound (state-with p pl n a f) (record {
       plan-sound = h .plan-sound;
       few = h .few;
@@ -74,7 +94,8 @@ sound-state-with p pl n a f h =
     })
 
 -- a plan with no campaigns
-sound-empty-plan : (p : Phase) (pl : Plan) → sound-plan pl ≡ true → phase-holds p 0 0 ≡ true → sound (empty-plan p pl) ≡ true
+sound-empty-plan : (p : Phase) (pl : Plan) → sound-plan pl ≡ true → phase-holds p 0 0 ≡ true
+    → sound (empty-plan p pl) ≡ true
 unfolding empty uncounted
 sound-empty-plan p pl e h = sound-state-with p pl 0 0 (λ i. fresh no-terms) (record {
   plan-sound = e;
@@ -101,7 +122,8 @@ budget-after k true false q c = refl
 budget-after k true true true c = refl
 budget-after k true true false c = budget-aged (eqb (c .age + 1) k) c
 
-absent-becomes : (pl : Plan) (w : View) (i : ℕ) (m p q : Bool) (c : Campaign) → m ≡ false → becomes pl w i (role-of m p q) c ≡ c
+absent-becomes : (pl : Plan) (w : View) (i : ℕ) (m p q : Bool) (c : Campaign) → m ≡ false
+    → becomes pl w i (role-of m p q) c ≡ c
 absent-becomes pl w i m p q c e = rw e
 
 module _ (s : Day) (h : Sound s) where
@@ -113,13 +135,16 @@ module _ (s : Day) (h : Sound s) where
   covered-claims = h .covered
 
   -- another phase than Filling
-  sound-phase : (p : Phase) → ((c : Campaign) → untouched p c ≡ true) → phase-holds p (s .accepted) (total-takings s) ≡ true → sound (in-phase s p) ≡ true
+  sound-phase : (p : Phase) → ((c : Campaign) → untouched p c ≡ true)
+      → phase-holds p (s .accepted) (total-takings s) ≡ true → sound (in-phase s p) ≡ true
   unfolding total-takings total-budgets
   sound-phase p u e = whole-sound (in-phase s p) (record {
     plan-sound = h .plan-sound;
     few = h .few;
     views = h .views;
-    entry = λ i l. let o = held-at s h i l in campaign-sound p (s .plan) (s .accepted) (campaign s i) (o .is-priced) (o .young) (o .within-whole) (o .plays-turns) (o .turns-named) (o .named-accepted) (u (campaign s i));
+    entry = λ i l. let o = held-at s h i l in
+        campaign-sound p (s .plan) (s .accepted) (campaign s i) (o .is-priced) (o .young) (o .within-whole)
+        (o .plays-turns) (o .turns-named) (o .named-accepted) (u (campaign s i));
     past = empty-at s h;
     budgets = h .budgets;
     phased = e;
@@ -127,7 +152,8 @@ module _ (s : Day) (h : Sound s) where
   })
 
   module _ (t : Terms) where
-    sound-joined : Yes (questions s (add-campaign t)) → sound (state-with Filling (s .plan) (s .count + 1) (s .accepted) (with-campaign s t)) ≡ true
+    sound-joined : Yes (questions s (add-campaign t))
+        → sound (state-with Filling (s .plan) (s .count + 1) (s .accepted) (with-campaign s t)) ≡ true
     unfolding total-budgets total-takings
     sound-joined (e1, (e6, (e7, (e8, (e9, (e10, _)))))) =
         let f : s .phase ≡ Filling = filling-is (s .phase) e6 in
@@ -137,14 +163,30 @@ module _ (s : Day) (h : Sound s) where
           plan-sound = h .plan-sound;
           few = omega arith;
           views = h .views;
-          entry = λ i l. one-more (λ j. sound-campaign Filling (s .plan) (s .accepted) (with-campaign s t j) ≡ true) (s .count)
+          entry =
+              λ i l.
+              one-more (λ j. sound-campaign Filling (s .plan) (s .accepted) (with-campaign s t j) ≡ true) (s .count)
               (λ j m. rw (with-campaign-old s t j (λ e. omega arith), ← f) (sound-at s h j m))
               (rw (with-campaign-new s t) (fresh-sound Filling (s .plan) (s .accepted) t (sized .deep) e8 e9))
               i (omega arith);
           past = λ i l m. rw (with-campaign-old s t i (λ e. omega arith)) (empty-at s h i (omega arith) m);
-          budgets = omega (arith, sum-with-campaign s t (λ c. c .budget), leb-true (sum (s .count) (λ i. campaign s i .budget) + t .budget) max-budget e10);
-          phased = subst (λ (p : Phase). phase-holds p (s .accepted) (takings (s .plan) (s .count) (campaign s)) ≡ true) f (h .phased);
-          covered = omega (arith, covered-claims, sum-with-campaign s t (claim-of (s .plan)), claim-fresh (s .plan) sized t, ap (full (s .plan)) (takings-with-campaign s t));
+          budgets =
+              omega (
+                arith,
+                sum-with-campaign s t (λ c. c .budget),
+                leb-true (sum (s .count) (λ i. campaign s i .budget) + t .budget) max-budget e10,
+              );
+          phased =
+              subst (λ (p : Phase). phase-holds p (s .accepted) (takings (s .plan) (s .count) (campaign s)) ≡ true) f
+              (h .phased);
+          covered =
+              omega (
+                arith,
+                covered-claims,
+                sum-with-campaign s t (claim-of (s .plan)),
+                claim-fresh (s .plan) sized t,
+                ap (full (s .plan)) (takings-with-campaign s t),
+              );
         })
 
   module _ (w : View) where
@@ -152,25 +194,44 @@ module _ (s : Day) (h : Sound s) where
     unfolding width-holds size
     few-able e =
         le-trans (able-few (s .count) (s .plan) w (campaign s))
-        (le-trans (count-below (s .count) 64 (names w) (h .few)) (leb-true (size (w .set)) (s .plan .width) (both-right (leb 1 (size (w .set))) (leb (size (w .set)) (s .plan .width)) e)))
+        (le-trans (count-below (s .count) 64 (names w) (h .few))
+        (leb-true (size (w .set)) (s .plan .width)
+        (both-right (leb 1 (size (w .set))) (leb (size (w .set)) (s .plan .width)) e)))
 
-    sound-shown : Yes (questions s (show-view w)) → sound (state-with Running (s .plan) (s .count) (s .accepted + 1) (shown s w)) ≡ true
+    sound-shown : Yes (questions s (show-view w))
+        → sound (state-with Running (s .plan) (s .count) (s .accepted + 1) (shown s w)) ≡ true
     unfolding total-budgets
-    sound-shown (e1, (e11, (e12, (e13, (e14, _))))) = sound-state-with Running (s .plan) (s .count) (s .accepted + 1) (shown s w) (record {
-      plan-sound = h .plan-sound;
-      few = h .few;
-      views = omega (arith, ltb-true (s .accepted) max-views e12);
-      entry = λ i l. becomes-sound (s .plan) (s .accepted) (campaign s i) (held-at s h i l) w i (is (player s w) i);
-      past = λ i l m. rw (absent-becomes (s .plan) w i (names w i) (pays (s .plan) w i (campaign s i)) (is (player s w) i) (campaign s i) (within-not-member (s .count) (w .set) i e13 l m)) (empty-at s h i l m);
-      budgets = rw (sum-eq (s .count) (λ i. shown s w i .budget) (λ i. campaign s i .budget) (λ i l. budget-after (s .plan .depth) (names w i) (pays (s .plan) w i (campaign s i)) (is (player s w) i) (campaign s i))) (h .budgets);
-      phased = refl;
-      covered = omega (arith, covered-claims, claims-step (s .count) (s .plan) w (campaign s) sized (λ i l. held-at s h i l .young) (few-able e14), ap (full (s .plan)) (takings-step (s .count) (s .plan) w (campaign s)));
-    })
+    sound-shown (e1, (e11, (e12, (e13, (e14, _))))) =
+        sound-state-with Running (s .plan) (s .count) (s .accepted + 1) (shown s w) (record {
+          plan-sound = h .plan-sound;
+          few = h .few;
+          views = omega (arith, ltb-true (s .accepted) max-views e12);
+          entry = λ i l. becomes-sound (s .plan) (s .accepted) (campaign s i) (held-at s h i l) w i (is (player s w) i);
+          past =
+              λ i l m.
+              rw (absent-becomes (s .plan) w i (names w i) (pays (s .plan) w i (campaign s i)) (is (player s w) i)
+              (campaign s i) (within-not-member (s .count) (w .set) i e13 l m)) (empty-at s h i l m);
+          budgets =
+              rw (sum-eq (s .count) (λ i. shown s w i .budget) (λ i. campaign s i .budget)
+              (λ i l.
+              budget-after (s .plan .depth) (names w i) (pays (s .plan) w i (campaign s i)) (is (player s w) i)
+              (campaign s i))) (h .budgets);
+          phased = refl;
+          covered =
+              omega (
+                arith,
+                covered-claims,
+                claims-step (s .count) (s .plan) w (campaign s) sized (λ i l. held-at s h i l .young) (few-able e14),
+                ap (full (s .plan)) (takings-step (s .count) (s .plan) w (campaign s)),
+              );
+        })
 
 -- an opening that is accepted gives a sound state
 opened-sound : (s : Day) (pl : Plan) → Yes (questions s (open-plan pl)) → sound (empty-plan Filling pl) ≡ true
 unfolding sound-plan
-opened-sound s pl (e1, (e2, (e3, (e4, (e5, _))))) = sound-empty-plan Filling pl (joint-of (depth-fits pl) (width-fits pl ∷ power-fits pl ∷ []) (e3, (e4, (e5, tt)))) refl
+opened-sound s pl (e1, (e2, (e3, (e4, (e5, _))))) =
+    sound-empty-plan Filling pl
+    (joint-of (depth-fits pl) (width-fits pl ∷ power-fits pl ∷ []) (e3, (e4, (e5, tt)))) refl
 
 -- every call keeps a sound state sound
 pub sound-kept : (s : Day) (c : Call) → sound s ≡ true → sound (call s c .day) ≡ true
@@ -185,8 +246,12 @@ sound-kept s c e = call-elim (λ (o : Outcome). sound (o .day) ≡ true) s c (λ
     go start-day y = sound-phase s h Running (λ x. refl) refl
     go (show-view w) y = sound-shown s h w y
     go (ask-tally i) y = e
-    go close-day y = sound-phase s h (Closed (total-takings s)) (λ x. refl) (eq-eqb (total-takings s) (total-takings s) refl)
+    go close-day y =
+        sound-phase s h (Closed (total-takings s)) (λ x. refl) (eq-eqb (total-takings s) (total-takings s) refl)
 
 -- an accepted opening gives a sound state whatever it was given
-pub opening-sound : (s : Day) (pl : Plan) → number (call s (open-plan pl) .answer) ≡ 0 → sound (call s (open-plan pl) .day) ≡ true
-opening-sound s pl = call-elim (λ (o : Outcome). number (o .answer) ≡ 0 → sound (o .day) ≡ true) s (open-plan pl) (λ q e. absurd (omega arith)) (λ y e. opened-sound s pl y)
+pub opening-sound : (s : Day) (pl : Plan) → number (call s (open-plan pl) .answer) ≡ 0
+    → sound (call s (open-plan pl) .day) ≡ true
+opening-sound s pl =
+    call-elim (λ (o : Outcome). number (o .answer) ≡ 0 → sound (o .day) ≡ true) s (open-plan pl)
+    (λ q e. absurd (omega arith)) (λ y e. opened-sound s pl y)

@@ -1,4 +1,5 @@
--- Sums over the campaigns that a state holds.
+-- Sums over the campaigns that a state holds: they are sums over the function that it was made of, and a campaign more
+-- adds its own term.
 use mathlib.Core.Path.{_≡_, refl, ap}
 use Prim.Native.Nat.{ℕ, _+_, _≤_}
 use native.Mathlib.Nat.{lt-of-lt-of-le}
@@ -21,8 +22,11 @@ use Rattle.demands.proofs.Laws.{spending-fresh}
 
 module _ (p : Phase) (pl : Plan) (n a : ℕ) (f : ℕ → Campaign) where
   -- any sum over the campaigns
-  pub sum-state-with : (g : Campaign → ℕ) → n ≤ 64 → sum n (λ i. g (campaign (state-with p pl n a f) i)) ≡ sum n (λ i. g (f i))
-  sum-state-with g h = sum-eq n (λ i. g (campaign (state-with p pl n a f) i)) (λ i. g (f i)) (λ i l. ap g (campaign-of-state p pl n a f i (lt-of-lt-of-le l h)))
+  pub sum-state-with : (g : Campaign → ℕ) → n ≤ 64
+      → sum n (λ i. g (campaign (state-with p pl n a f) i)) ≡ sum n (λ i. g (f i))
+  sum-state-with g h =
+      sum-eq n (λ i. g (campaign (state-with p pl n a f) i)) (λ i. g (f i))
+      (λ i l. ap g (campaign-of-state p pl n a f i (lt-of-lt-of-le l h)))
 
 module _ (s : Day) (t : Terms) where
   pub with-campaign-old : (i : ℕ) → (i ≡ s .count → ⊥) → with-campaign s t i ≡ campaign s i
@@ -32,9 +36,18 @@ module _ (s : Day) (t : Terms) where
   with-campaign-new = rw (eq-eqb (s .count) (s .count) refl)
 
   -- a sum over the campaigns with one more
-  pub sum-with-campaign : (g : Campaign → ℕ) → sum (s .count + 1) (λ i. g (with-campaign s t i)) ≡ sum (s .count) (λ i. g (campaign s i)) + g (fresh t)
+  pub sum-with-campaign : (g : Campaign → ℕ)
+      → sum (s .count + 1) (λ i. g (with-campaign s t i)) ≡ sum (s .count) (λ i. g (campaign s i)) + g (fresh t)
   sum-with-campaign g =
-      rw add-one (omega (arith, sum-suc (s .count) (λ i. g (with-campaign s t i)), sum-eq (s .count) (λ i. g (with-campaign s t i)) (λ i. g (campaign s i)) (λ i l. ap g (with-campaign-old i (λ e. omega arith))), ap g with-campaign-new))
+      rw add-one
+      (omega (
+        arith,
+        sum-suc (s .count) (λ i. g (with-campaign s t i)),
+        sum-eq (s .count) (λ i. g (with-campaign s t i)) (λ i. g (campaign s i))
+            (λ i l. ap g (with-campaign-old i (λ e. omega arith))),
+        ap g with-campaign-new,
+      ))
 
-  pub takings-with-campaign : takings (s .plan) (s .count + 1) (with-campaign s t) ≡ takings (s .plan) (s .count) (campaign s)
+  pub takings-with-campaign : takings (s .plan) (s .count + 1) (with-campaign s t)
+      ≡ takings (s .plan) (s .count) (campaign s)
   takings-with-campaign = omega (arith, sum-with-campaign spending, spending-fresh t)

@@ -28,7 +28,8 @@ accepted-values s (open-plan pl) = []
 accepted-values s (add-campaign t) = []
 accepted-values s start-day = []
 accepted-values s (show-view w) = view-values (offers s w) (player s w)
-accepted-values s (ask-tally i) = campaign s i .plays ∷ campaign s i .turns ∷ campaign s i .age ∷ campaign s i .named ∷ []
+accepted-values s (ask-tally i) =
+    campaign s i .plays ∷ campaign s i .turns ∷ campaign s i .age ∷ campaign s i .named ∷ []
 accepted-values s close-day = total-takings s ∷ total-claim s ∷ full (s .plan) (total-takings s) ∷ []
 
 pub record Answers (s : Day) (c : Call) : Type 0 where

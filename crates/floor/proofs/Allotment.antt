@@ -1,4 +1,5 @@
 -- The takings of an allotment, summed over the views, are price × how often it is given one, summed over the campaigns.
+-- By induction on the views: each adds one term of the sum over the campaigns.
 use mathlib.Core.Path.{_≡_, refl, ap, sym, _∙_}
 use mathlib.Core.Bool.{Bool, true, false, cond}
 use Prim.Native.Nat.{ℕ, zero, suc, _+_, _*_, _≤_}
@@ -28,12 +29,31 @@ module _ (n : ℕ) (g : ℕ → ℕ) (past : (i : ℕ) → n ≤ i → g i ≡ 0
       hidden i false e = away i (eqb-false i a e)
 
       go : (b : Bool) → ltb a n ≡ b → sum n h ≡ g a
-      go true e = omega (arith, sum-split n a h (ltb-true a n e), sum-eq n (hide a h) (λ i. 0) (λ i l. hidden i (eqb i a) refl), sum-none n, here)
-      go false e = let far : n ≤ a = ltb-false a n e in omega (arith, sum-eq n h (λ i. 0) (λ i l. away i (λ q. omega arith)), sum-none n, past a far)
+      go true e =
+          omega (
+            arith,
+            sum-split n a h (ltb-true a n e),
+            sum-eq n (hide a h) (λ i. 0) (λ i l. hidden i (eqb i a) refl),
+            sum-none n,
+            here,
+          )
+      go false e = let far : n ≤ a = ltb-false a n e in
+          omega (arith, sum-eq n h (λ i. 0) (λ i l. away i (λ q. omega arith)), sum-none n, past a far)
 
   -- the sum over the views is the sum over the campaigns
   pub double-count : (m : ℕ) (to : ℕ → ℕ) → sum m (λ j. g (to j)) ≡ sum n (λ i. g i * times m to i)
   unfolding count
-  double-count zero to = sum-zero (λ j. g (to j)) ∙ sym (sum-eq n (λ i. g i * times 0 to i) (λ i. 0) (λ i l. omega (arith, ap (λ x. g i * x) (sum-zero (λ j. one-if (eqb (to j) i))))) ∙ sum-none n)
+  double-count zero to =
+      sum-zero (λ j. g (to j))
+      ∙ sym (sum-eq n (λ i. g i * times 0 to i) (λ i. 0)
+      (λ i l. omega (arith, ap (λ x. g i * x) (sum-zero (λ j. one-if (eqb (to j) i))))) ∙ sum-none n)
   double-count (suc m) to =
-      omega (arith, sum-suc m (λ j. g (to j)), double-count m to, one-term (to m), sum-add n (λ i. g i * times m to i) (λ i. g i * one-if (eqb (to m) i)), sum-eq n (λ i. g i * times (suc m) to i) (λ i. g i * times m to i + g i * one-if (eqb (to m) i)) (λ i l. omega (arith, ap (λ x. g i * x) (sum-suc m (λ j. one-if (eqb (to j) i))))))
+      omega (
+        arith,
+        sum-suc m (λ j. g (to j)),
+        double-count m to,
+        one-term (to m),
+        sum-add n (λ i. g i * times m to i) (λ i. g i * one-if (eqb (to m) i)),
+        sum-eq n (λ i. g i * times (suc m) to i) (λ i. g i * times m to i + g i * one-if (eqb (to m) i))
+            (λ i l. omega (arith, ap (λ x. g i * x) (sum-suc m (λ j. one-if (eqb (to j) i))))),
+      )

@@ -28,7 +28,8 @@ use Rattle.demands.specs.Transcript.{transcript, final}
 use Rattle.demands.proofs.Laws.{claim-of, claim-turns}
 use Rattle.floor.specs.History.{Starts, History, day-takings, history}
 use Rattle.floor.specs.Allotment.{takings-of, times}
-use Rattle.floor.specs.Floor.{trace, price-of, whole-of, falls-short, unstruck, Allotted, Covered, Floor, Demand-3}
+use Rattle.floor.specs.Floor.{trace, price-of, whole-of, falls-short, unstruck, Allotted, Covered, Floor}
+use Rattle.floor.specs.Floor.{Demand-3}
 use Rattle.floor.specs.Due.{due, Dues, At-every-moment}
 use Rattle.floor.proofs.Trace.{turns-reach}
 use Rattle.floor.proofs.Reach.{Reached, reached}
@@ -46,19 +47,22 @@ unstruck-past h i l = go (falls-short h i)
     go false = price-past h i l
 
 -- where no campaign falls short, nothing is struck out
-none-struck : (h : History) → ((i : ℕ) → i < length (h .terms) → falls-short h i ≡ false) → (i : ℕ) → unstruck h i ≡ price-of h i
+none-struck : (h : History) → ((i : ℕ) → i < length (h .terms) → falls-short h i ≡ false) → (i : ℕ)
+    → unstruck h i ≡ price-of h i
 none-struck h none i = go (ltb i (length (h .terms))) refl
   where
     go : (b : Bool) → ltb i (length (h .terms)) ≡ b → unstruck h i ≡ price-of h i
     go true e = rw (none i (ltb-true i (length (h .terms)) e))
-    go false e = unstruck-past h i (ltb-false i (length (h .terms)) e) ∙ sym (price-past h i (ltb-false i (length (h .terms)) e))
+    go false e =
+        unstruck-past h i (ltb-false i (length (h .terms)) e) ∙ sym (price-past h i (ltb-false i (length (h .terms)) e))
 
 -- an allotment takes no more than what is due, once the campaigns that fall short are struck out
 module _ (h : History) (deep : 0 < h .plan .depth) (to : ℕ → ℕ) (al : Allotted h to) where
   part : (i : ℕ) → i < length (h .terms) → unstruck h i * times (length (h .views)) to i ≤ price-of h i * due h i
   part i l = go (falls-short h i) refl
     where
-      go : (b : Bool) → falls-short h i ≡ b → cond b 0 (price-of h i) * times (length (h .views)) to i ≤ price-of h i * due h i
+      go : (b : Bool) → falls-short h i ≡ b
+          → cond b 0 (price-of h i) * times (length (h .views)) to i ≤ price-of h i * due h i
       go true e = omega arith
       go false e =
           let w : whole-of h i * h .plan .depth ≤ trace h i .named = omega (arith, ltb-false) in
@@ -66,7 +70,12 @@ module _ (h : History) (deep : 0 < h .plan .depth) (to : ℕ → ℕ) (al : Allo
 
   due-enough : takings-of (unstruck h) (h .views) to ≤ sum (length (h .terms)) (λ i. price-of h i * due h i)
   due-enough =
-      omega (arith, double-count (length (h .terms)) (unstruck h) (unstruck-past h) (length (h .views)) to, sum-le (length (h .terms)) (λ i. unstruck h i * times (length (h .views)) to i) (λ i. price-of h i * due h i) part)
+      omega (
+        arith,
+        double-count (length (h .terms)) (unstruck h) (unstruck-past h) (length (h .views)) to,
+        sum-le (length (h .terms)) (λ i. unstruck h i * times (length (h .views)) to i)
+            (λ i. price-of h i * due h i) part,
+      )
 
 module _ (s : Day) (h : History) (r : Reached s h) where
   p : Sound s
@@ -89,40 +98,67 @@ module _ (s : Day) (h : History) (r : Reached s h) where
       (subst (λ (x : ℕ). min x (trace h i .named / s .plan .depth) ≤ campaign s i .turns) (whole-is i l)
       (turns-reach (s .plan) (s .accepted) (trace h i) (campaign s i) (held-at s p i l) (r .tracks .follows i l)))
 
-  claim-due : (i : ℕ) → i < s .count → share (s .plan .depth) (s .plan .width) * (price-of h i * due h i) ≤ claim-of (s .plan) (campaign s i)
+  claim-due : (i : ℕ) → i < s .count
+      → share (s .plan .depth) (s .plan .width) * (price-of h i * due h i) ≤ claim-of (s .plan) (campaign s i)
   claim-due i l =
-      le-trans (mul-le-mul-left (share (s .plan .depth) (s .plan .width)) (mul-le-mul-left (price-of h i) (turns-of i l)))
-      (subst (λ (x : ℕ). share (s .plan .depth) (s .plan .width) * (x * campaign s i .turns) ≤ claim-of (s .plan) (campaign s i)) (r .tracks .follows i l .price-is)
+      le-trans
+      (mul-le-mul-left (share (s .plan .depth) (s .plan .width)) (mul-le-mul-left (price-of h i) (turns-of i l)))
+      (subst
+      (λ (x : ℕ).
+      share (s .plan .depth) (s .plan .width) * (x * campaign s i .turns) ≤ claim-of (s .plan) (campaign s i))
+      (r .tracks .follows i l .price-is)
       (claim-turns (s .plan) sized (campaign s i) (held-at s p i l .young)))
 
   -- the total claim lies between the share of what is due and full
   claims-due : share (s .plan .depth) (s .plan .width) * sum (s .count) (λ i. price-of h i * due h i) ≤ total-claim s
   unfolding total-claim
   claims-due =
-      omega (arith, sum-mul (s .count) (share (s .plan .depth) (s .plan .width)) (λ i. price-of h i * due h i), sum-le (s .count) (λ i. share (s .plan .depth) (s .plan .width) * (price-of h i * due h i)) (λ i. claim-of (s .plan) (campaign s i)) claim-due)
+      omega (
+        arith,
+        sum-mul (s .count) (share (s .plan .depth) (s .plan .width)) (λ i. price-of h i * due h i),
+        sum-le (s .count) (λ i. share (s .plan .depth) (s .plan .width) * (price-of h i * due h i))
+            (λ i. claim-of (s .plan) (campaign s i)) claim-due,
+      )
 
   claims-full : total-claim s ≤ full (s .plan) (day-takings h)
   claims-full = subst (λ (x : ℕ). total-claim s ≤ full (s .plan) x) (r .tracks .paid-is) (p .covered)
 
   covers : (to : ℕ → ℕ) → Allotted h to → Covered h (takings-of (unstruck h) (h .views) to)
   covers to al =
-      subst (λ (pl : Plan). share (pl .depth) (pl .width) * takings-of (unstruck h) (h .views) to ≤ full pl (day-takings h)) (r .tracks .plan-is)
-      (le-trans (mul-le-mul-left (share (s .plan .depth) (s .plan .width)) (subst (λ (n : ℕ). takings-of (unstruck h) (h .views) to ≤ sum n (λ i. price-of h i * due h i)) (r .tracks .many) (due-enough h (omega (arith, sized .deep, depth-is)) to al)))
+      subst
+      (λ (pl : Plan). share (pl .depth) (pl .width) * takings-of (unstruck h) (h .views) to ≤ full pl (day-takings h))
+      (r .tracks .plan-is)
+      (le-trans
+      (mul-le-mul-left (share (s .plan .depth) (s .plan .width))
+      (subst (λ (n : ℕ). takings-of (unstruck h) (h .views) to ≤ sum n (λ i. price-of h i * due h i)) (r .tracks .many)
+      (due-enough h (omega (arith, sized .deep, depth-is)) to al)))
       (le-trans claims-due claims-full))
 
   pub floor-of : Floor h s
   floor-of = record {
-    floor = λ none to al. subst (λ (x : ℕ). Covered h x) (sum-eq (length (h .views)) (λ j. unstruck h (to j)) (λ j. price-of h (to j)) (λ j l. none-struck h none (to j))) (covers to al);
+    floor =
+        λ none to al.
+        subst (λ (x : ℕ). Covered h x)
+        (sum-eq (length (h .views)) (λ j. unstruck h (to j)) (λ j. price-of h (to j))
+        (λ j l. none-struck h none (to j))) (covers to al);
     struck = covers;
     takings-is = r .tracks .paid-is;
-    closed-is = λ x e. eqb-true x (total-takings s) (subst (λ (q : Phase). phase-holds q (s .accepted) (total-takings s) ≡ true) e (p .phased)) ∙ r .tracks .paid-is;
+    closed-is =
+        λ x e.
+        eqb-true x (total-takings s)
+        (subst (λ (q : Phase). phase-holds q (s .accepted) (total-takings s) ≡ true) e (p .phased))
+        ∙ r .tracks .paid-is;
   }
 
   pub dues-of : Dues h s
   dues-of = record {
     named-is = λ i l. r .tracks .follows i (omega (arith, r .tracks .many)) .named-is;
     turns-enough = λ i l. turns-of i (omega (arith, r .tracks .many));
-    claims-enough = subst (λ (pl : Plan). share (pl .depth) (pl .width) * sum (length (h .terms)) (λ i. price-of h i * due h i) ≤ total-claim s) (r .tracks .plan-is) (rw (r .tracks .many) claims-due);
+    claims-enough =
+        subst
+        (λ (pl : Plan).
+        share (pl .depth) (pl .width) * sum (length (h .terms)) (λ i. price-of h i * due h i) ≤ total-claim s)
+        (r .tracks .plan-is) (rw (r .tracks .many) claims-due);
     claims-most = subst (λ (pl : Plan). total-claim s ≤ full pl (day-takings h)) (r .tracks .plan-is) claims-full;
   }
 

@@ -1,4 +1,5 @@
--- What every list of calls keeps between its day and the state at its end.
+-- What every list of calls keeps between its day and the state at its end: the state holds the day's plan, terms and
+-- takings, and each campaign follows its trace. By induction on the list; a refused call changes neither.
 use mathlib.Core.Path.{_≡_, refl, ap, _∙_, subst}
 use mathlib.Core.Bool.{true, false}
 use mathlib.Core.List.{List, [], _∷_, _++_}
@@ -37,7 +38,8 @@ use Rattle.demands.proofs.Step.{takings-step}
 use Rattle.demands.proofs.States.{sum-state-with, with-campaign-old, with-campaign-new, takings-with-campaign}
 use Rattle.demands.proofs.Sound.{blank-sound, sound-kept, opening-sound}
 use Rattle.demands.proofs.Refusals.{result-number}
-use Rattle.floor.specs.History.{accepted, Starts, History, day-takings, opening, paid-in, with-call, entered, continued, history}
+use Rattle.floor.specs.History.{accepted, Starts, History, day-takings, opening, paid-in, with-call, entered}
+use Rattle.floor.specs.History.{continued, history}
 use Rattle.floor.specs.History.Starts.{from-blank, from-opening}
 use Rattle.floor.specs.Floor.{trace}
 use Rattle.floor.proofs.Trace.{Follows, follows-fresh, follows-view}
@@ -52,7 +54,14 @@ pub record Tracks (s : Day) (h : History) : Type 0 where
 
 tracks-opening : (p : Phase) (pl : Plan) → Tracks (empty-plan p pl) (opening pl)
 unfolding total-takings total
-tracks-opening p pl = record { plan-is = refl; many = refl; follows = λ i l. absurd (not-suc-le-zero l); paid-is = sum-zero _; unviewed = λ _. refl }
+tracks-opening p pl =
+    record {
+      plan-is = refl;
+      many = refl;
+      follows = λ i l. absurd (not-suc-le-zero l);
+      paid-is = sum-zero _;
+      unviewed = λ _. refl;
+    }
 
 tracks-blank : Tracks blank (opening blank-plan)
 unfolding blank
@@ -89,26 +98,54 @@ module _ (s : Day) (h : History) (e : sound s ≡ true) (k : Tracks s h) where
         record {
           plan-is = k .plan-is;
           many = length-append (h .terms) (t ∷ []) ∙ ap (λ (n : ℕ). n + 1) (k .many);
-          follows = λ i l. rw (campaign-of-state Filling (s .plan) (s .count + 1) (s .accepted) (with-campaign s t) i (lt-of-lt-of-le l few)) (one-more (λ j. Follows (s .plan) (trace more j) (with-campaign s t j)) (s .count) old new i (omega arith));
-          paid-is = sum-state-with Filling (s .plan) (s .count + 1) (s .accepted) (with-campaign s t) spending few ∙ takings-with-campaign s t ∙ k .paid-is;
+          follows =
+              λ i l.
+              rw (campaign-of-state Filling (s .plan) (s .count + 1) (s .accepted) (with-campaign s t) i
+              (lt-of-lt-of-le l few))
+              (one-more (λ j. Follows (s .plan) (trace more j) (with-campaign s t j)) (s .count) old new i
+              (omega arith));
+          paid-is =
+              sum-state-with Filling (s .plan) (s .count + 1) (s .accepted) (with-campaign s t) spending few
+              ∙ takings-with-campaign s t ∙ k .paid-is;
           unviewed = λ _. k .unviewed (y .1 .0);
         }
       where
         old : (j : ℕ) → j < s .count → Follows (s .plan) (trace more j) (with-campaign s t j)
-        old j l = rw (List·getD-append (h .terms) (t ∷ []) no-terms j (omega (arith, k .many)), with-campaign-old s t j (λ q. omega arith)) (k .follows j l)
+        old j l =
+            rw (
+              List·getD-append (h .terms) (t ∷ []) no-terms j (omega (arith, k .many)),
+              with-campaign-old s t j (λ q. omega arith),
+            ) (k .follows j l)
 
         new : Follows (s .plan) (trace more (s .count)) (with-campaign s t (s .count))
-        new = rw (snoc-last (h .terms) t (s .count) (k .many), with-campaign-new s t, k .unviewed (y .1 .0)) (follows-fresh (s .plan) t)
+        new =
+            rw (snoc-last (h .terms) t (s .count) (k .many), with-campaign-new s t, k .unviewed (y .1 .0))
+            (follows-fresh (s .plan) t)
 
   module _ (w : View) where
-    tracks-view : (a : Answer) → paid-in a ≡ paid (offers s w) (player s w) → Tracks (result s (show-view w) .day) (with-call h (show-view w) a)
+    tracks-view : (a : Answer) → paid-in a ≡ paid (offers s w) (player s w)
+        → Tracks (result s (show-view w) .day) (with-call h (show-view w) a)
     unfolding total-takings total
     tracks-view a q = record {
       plan-is = k .plan-is;
       many = k .many;
-      follows = λ i l. rw (campaign-of-state Running (s .plan) (s .count) (s .accepted + 1) (shown s w) i (lt-of-lt-of-le l (p .few)), total-snoc (λ (v : View). one-if (names v i)) (h .views) w)
-          (follows-view (s .plan) (trace h i) (campaign s i) (k .follows i l) (held-at s p i l .young) w i (is (player s w) i));
-      paid-is = omega (arith, sum-state-with Running (s .plan) (s .count) (s .accepted + 1) (shown s w) spending (p .few), takings-step (s .count) (s .plan) w (campaign s), k .paid-is, total-snoc paid-in (h .answers) a);
+      follows =
+          λ i l.
+          rw (
+            campaign-of-state Running (s .plan) (s .count) (s .accepted + 1) (shown s w) i
+                (lt-of-lt-of-le l (p .few)),
+            total-snoc (λ (v : View). one-if (names v i)) (h .views) w,
+          )
+          (follows-view (s .plan) (trace h i) (campaign s i) (k .follows i l) (held-at s p i l .young) w i
+          (is (player s w) i));
+      paid-is =
+          omega (
+            arith,
+            sum-state-with Running (s .plan) (s .count) (s .accepted + 1) (shown s w) spending (p .few),
+            takings-step (s .count) (s .plan) w (campaign s),
+            k .paid-is,
+            total-snoc paid-in (h .answers) a,
+          );
       unviewed = λ z. absurd (never false refl z);
     }
 
@@ -116,13 +153,30 @@ module _ (s : Day) (h : History) (e : sound s ≡ true) (k : Tracks s h) where
   unfolding more total-takings
   keeps-result (open-plan pl) y = tracks-opening Filling pl
   keeps-result (add-campaign t) y = tracks-add t y
-  keeps-result start-day y = record { plan-is = k .plan-is; many = k .many; follows = k .follows; paid-is = k .paid-is; unviewed = λ z. absurd (never false refl z) }
-  keeps-result (show-view w) y = tracks-view w (view-answer (offers s w) (player s w)) (view-answer-paid (offers s w) (player s w))
+  keeps-result start-day y =
+      record {
+        plan-is = k .plan-is;
+        many = k .many;
+        follows = k .follows;
+        paid-is = k .paid-is;
+        unviewed = λ z. absurd (never false refl z);
+      }
+  keeps-result (show-view w) y =
+      tracks-view w (view-answer (offers s w) (player s w)) (view-answer-paid (offers s w) (player s w))
   keeps-result (ask-tally i) y = k
-  keeps-result close-day y = record { plan-is = k .plan-is; many = k .many; follows = k .follows; paid-is = k .paid-is; unviewed = λ z. absurd (never false refl z) }
+  keeps-result close-day y =
+      record {
+        plan-is = k .plan-is;
+        many = k .many;
+        follows = k .follows;
+        paid-is = k .paid-is;
+        unviewed = λ z. absurd (never false refl z);
+      }
 
   keeps : (c : Call) → Keeps h c (call s c)
-  keeps c = call-elim (Keeps h c) s c (λ q. rw (refused-not q) k) (λ y. rw (eq-eqb (number (result s c .answer)) 0 (result-number s c)) (keeps-result c y))
+  keeps c =
+      call-elim (Keeps h c) s c (λ q. rw (refused-not q) k)
+      (λ y. rw (eq-eqb (number (result s c .answer)) 0 (result-number s c)) (keeps-result c y))
 
 pub record Reached (s : Day) (h : History) : Type 0 where
   pub is-sound : sound s ≡ true
@@ -131,17 +185,28 @@ pub record Reached (s : Day) (h : History) : Type 0 where
 reach : (cs : List Call) (s : Day) (h : History) → Reached s h → Reached (final s cs) (continued h (transcript s cs))
 unfolding final transcript continued
 reach [] s h r = r
-reach (c ∷ cs) s h r = reach cs (call s c .day) (entered h (record { made = c; answer = call s c .answer })) (record { is-sound = sound-kept s c (r .is-sound); tracks = keeps s h (r .is-sound) (r .tracks) c })
+reach (c ∷ cs) s h r =
+    reach cs (call s c .day) (entered h (record { made = c; answer = call s c .answer }))
+    (record { is-sound = sound-kept s c (r .is-sound); tracks = keeps s h (r .is-sound) (r .tracks) c })
 
 -- an accepted opening, from any state
-reach-opening : (s : Day) (pl : Plan) → accepted (call s (open-plan pl) .answer) ≡ true → Reached (call s (open-plan pl) .day) (entered (opening blank-plan) (record { made = open-plan pl; answer = call s (open-plan pl) .answer }))
+reach-opening : (s : Day) (pl : Plan) → accepted (call s (open-plan pl) .answer) ≡ true
+    → Reached (call s (open-plan pl) .day)
+    (entered (opening blank-plan) (record { made = open-plan pl; answer = call s (open-plan pl) .answer }))
 reach-opening s pl e = record {
   is-sound = opening-sound s pl (eqb-true (number (call s (open-plan pl) .answer)) 0 e);
-  tracks = call-elim (λ (o : Outcome). accepted (o .answer) ≡ true → Keeps (opening blank-plan) (open-plan pl) o) s (open-plan pl) (λ q z. absurd (never (accepted (Refused (suc q))) (refused-not q) z)) (λ y z. tracks-opening Filling pl) e;
+  tracks =
+      call-elim (λ (o : Outcome). accepted (o .answer) ≡ true → Keeps (opening blank-plan) (open-plan pl) o) s
+      (open-plan pl) (λ q z. absurd (never (accepted (Refused (suc q))) (refused-not q) z))
+      (λ y z. tracks-opening Filling pl) e;
 }
 
 -- what holds at the end of every list
 pub reached : (s : Day) (cs : List Call) → Starts s cs → Reached (final s cs) (history (transcript s cs))
 unfolding final transcript continued
-reached _ _ (from-blank cs) = reach cs blank (opening blank-plan) (record { is-sound = blank-sound; tracks = tracks-blank })
-reached _ _ (from-opening s pl cs e) = reach cs (call s (open-plan pl) .day) (entered (opening blank-plan) (record { made = open-plan pl; answer = call s (open-plan pl) .answer })) (reach-opening s pl e)
+reached _ _ (from-blank cs) =
+    reach cs blank (opening blank-plan) (record { is-sound = blank-sound; tracks = tracks-blank })
+reached _ _ (from-opening s pl cs e) =
+    reach cs (call s (open-plan pl) .day)
+    (entered (opening blank-plan) (record { made = open-plan pl; answer = call s (open-plan pl) .answer }))
+    (reach-opening s pl e)

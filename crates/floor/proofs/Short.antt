@@ -1,4 +1,4 @@
--- The proviso of demand 3 is needed, by computation.
+-- The proviso of demand 3 is needed: the day of the calls is read off, and both sides are computed of it.
 use mathlib.Core.Path.{_≡_, refl, subst⁻¹}
 use mathlib.Core.Bool.{true, false}
 use mathlib.Core.List.{[], _∷_}
@@ -26,10 +26,19 @@ use Rattle.floor.proofs.Tight.{allotted-of}
 
 -- the day, read off its calls
 day : History
-day = record { plan = record { depth = 2; width = 2 }; terms = record { price = 2; budget = 3 } ∷ record { price = 2; budget = 3 } ∷ []; views = record { set = 3 } ∷ record { set = 1 } ∷ []; answers = Played 0 2 ∷ Nobody ∷ [] }
+day =
+    record {
+      plan = record { depth = 2; width = 2 };
+      terms = record { price = 2; budget = 3 } ∷ record { price = 2; budget = 3 } ∷ [];
+      views =
+          record { set = 3 } ∷ record { set = 1 } ∷ [];
+      answers = Played 0 2 ∷ Nobody ∷ [];
+    }
 
 day-is : short-day ≡ day
-unfolding day transcript continued call first-failed sound sound-record blank sum count every table total within size member width-holds weight share whole claim total-takings total-claim total-budgets sound-plan priced counted uncounted empty sound-campaign best choice
+unfolding day transcript continued call first-failed sound sound-record blank sum count every table total within size
+    member width-holds weight share whole claim total-takings total-claim total-budgets sound-plan priced counted
+    uncounted empty sound-campaign best choice
 day-is = refl
 
 record Computed (h : History) : Type 0 where
@@ -52,4 +61,11 @@ computed = record {
 pub proviso-needed : Proviso-needed
 proviso-needed =
     let c = subst⁻¹ Computed day-is computed in
-    record { starts = from-blank short-calls; allotted = c .allotted; enough = c .enough; short = c .short; not-covered = c .not-covered; covered = c .covered }
+    record {
+      starts = from-blank short-calls;
+      allotted = c .allotted;
+      enough = c .enough;
+      short = c .short;
+      not-covered = c .not-covered;
+      covered = c .covered;
+    }

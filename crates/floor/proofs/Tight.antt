@@ -1,4 +1,4 @@
--- The floor is met exactly, by computation.
+-- The floor is met exactly: the day of each row is read off, and the tests that make it one are computed.
 use mathlib.Core.Path.{_≡_, refl, subst⁻¹}
 use mathlib.Core.Bool.{Bool, true, false, cond, not, _||_}
 use mathlib.Core.List.{List, [], _∷_, map}
@@ -30,23 +30,34 @@ use Rattle.floor.specs.Tight.{Met, Exact, exact-days, calls-of, Tight}
 -- the tests that a computed day passes
 abbrev met-tests : History → (ℕ → ℕ) → List Bool
 met-tests h to =
-    every (length (h .terms)) (λ i. not (falls-short h i)) ∷ ltb 0 (day-takings h) ∷ every (length (h .views)) (λ j. eqb (to j) 64 || names (view-at (h .views) j) (to j)) ∷
+    every (length (h .terms)) (λ i. not (falls-short h i)) ∷ ltb 0 (day-takings h) ∷ every (length (h .views))
+    (λ j. eqb (to j) 64 || names (view-at (h .views) j) (to j)) ∷
     every (length (h .terms)) (λ i. leb (times (length (h .views)) to i) (whole-of h i)) ∷
-    eqb (share (h .plan .depth) (h .plan .width) * takings-of (price-of h) (h .views) to) (full (h .plan) (day-takings h)) ∷ []
+    eqb (share (h .plan .depth) (h .plan .width) * takings-of (price-of h) (h .views) to)
+    (full (h .plan) (day-takings h)) ∷ []
 
 either : (a b : Bool) → (a || b) ≡ true → (a ≡ true) ⊎ (b ≡ true)
 either true b e = inl refl
 either false b e = inr e
 
 -- an allotment, by two tests
-pub allotted-of : (h : History) (to : ℕ → ℕ) → every (length (h .views)) (λ j. eqb (to j) 64 || names (view-at (h .views) j) (to j)) ≡ true
+pub allotted-of : (h : History) (to : ℕ → ℕ)
+    → every (length (h .views)) (λ j. eqb (to j) 64 || names (view-at (h .views) j) (to j)) ≡ true
     → every (length (h .terms)) (λ i. leb (times (length (h .views)) to i) (whole-of h i)) ≡ true → Allotted h to
 allotted-of h to g b = record {
-  given = λ j l. given j (either (eqb (to j) 64) (names (view-at (h .views) j) (to j)) (every-at (length (h .views)) (λ j. eqb (to j) 64 || names (view-at (h .views) j) (to j)) g j l));
-  bought = λ i l. leb-true (times (length (h .views)) to i) (whole-of h i) (every-at (length (h .terms)) (λ i. leb (times (length (h .views)) to i) (whole-of h i)) b i l);
+  given =
+      λ j l.
+      given j
+      (either (eqb (to j) 64) (names (view-at (h .views) j) (to j))
+      (every-at (length (h .views)) (λ j. eqb (to j) 64 || names (view-at (h .views) j) (to j)) g j l));
+  bought =
+      λ i l.
+      leb-true (times (length (h .views)) to i) (whole-of h i)
+      (every-at (length (h .terms)) (λ i. leb (times (length (h .views)) to i) (whole-of h i)) b i l);
 }
   where
-    given : (j : ℕ) → (eqb (to j) 64 ≡ true) ⊎ (names (view-at (h .views) j) (to j) ≡ true) → (to j ≡ 64) ⊎ (names (view-at (h .views) j) (to j) ≡ true)
+    given : (j : ℕ) → (eqb (to j) 64 ≡ true) ⊎ (names (view-at (h .views) j) (to j) ≡ true)
+        → (to j ≡ 64) ⊎ (names (view-at (h .views) j) (to j) ≡ true)
     given j (inl a) = inl (eqb-true (to j) 64 a)
     given j (inr b) = inr b
 
@@ -54,7 +65,8 @@ met-of : (h : History) (to : ℕ → ℕ) → all (met-tests h to) ≡ true → 
 met-of h to e =
     let p = all-parts (met-tests h to) e in
     record {
-      none-short = λ i l. not-true (falls-short h i) (every-at (length (h .terms)) (λ i. not (falls-short h i)) (p .0) i l);
+      none-short =
+          λ i l. not-true (falls-short h i) (every-at (length (h .terms)) (λ i. not (falls-short h i)) (p .0) i l);
       paying = ltb-true 0 (day-takings h) (p .1 .0);
       allotted = allotted-of h to (p .1 .1 .0) (p .1 .1 .1 .0);
       equal = eqb-true _ _ (p .1 .1 .1 .1 .0);
@@ -71,12 +83,23 @@ day-of x = record {
 
 abbrev Computed : List Exact → Type 0
 Computed [] = Unit {0}
-Computed (x ∷ xs) = ((history (transcript blank (calls-of x)) ≡ day-of x) × (all (met-tests (day-of x) (λ j. getD (x .to) j 64)) ≡ true)) × Computed xs
+Computed (x ∷ xs) =
+    ((history (transcript blank (calls-of x)) ≡ day-of x)
+    × (all (met-tests (day-of x) (λ j. getD (x .to) j 64)) ≡ true)) × Computed xs
 
 tight-of : (xs : List Exact) → Computed xs → Tight xs
 tight-of [] c = tt
-tight-of (x ∷ xs) c = ((from-blank (calls-of x), subst⁻¹ (λ (h : History). Met h (λ j. getD (x .to) j 64)) (c .0 .0) (met-of (day-of x) (λ j. getD (x .to) j 64) (c .0 .1))), tight-of xs (c .1))
+tight-of (x ∷ xs) c = (
+  (
+    from-blank (calls-of x),
+    subst⁻¹ (λ (h : History). Met h (λ j. getD (x .to) j 64)) (c .0 .0)
+        (met-of (day-of x) (λ j. getD (x .to) j 64) (c .0 .1)),
+  ),
+  tight-of xs (c .1),
+)
 
 pub tight : Tight exact-days
-unfolding day-of transcript continued call first-failed sound sound-record blank sum count every table total within size member width-holds weight share whole claim total-takings total-claim total-budgets sound-plan priced counted uncounted empty sound-campaign best choice
+unfolding day-of transcript continued call first-failed sound sound-record blank sum count every table total within size
+    member width-holds weight share whole claim total-takings total-claim total-budgets sound-plan priced counted
+    uncounted empty sound-campaign best choice
 tight = tight-of exact-days ((refl, refl), ((refl, refl), ((refl, refl), ((refl, refl), ((refl, refl), tt)))))

@@ -1,4 +1,5 @@
--- What a day keeps between a campaign and its trace, which soundness alone does not give.
+-- What a day keeps between a campaign and its trace, which soundness alone does not give: while it can pay, every view
+-- that named it is in a finished turn or in its age. So its turns reach what is due.
 use mathlib.Core.Path.{_≡_, refl}
 use mathlib.Core.Bool.{Bool, true, false}
 use Prim.Native.Nat.{ℕ, _+_, _*_, _/_, min, _≤_, _<_}
@@ -45,18 +46,32 @@ module _ (pl : Plan) (t : Trace) (c : Campaign) (h : Follows pl t c) (young : St
 
   follows-role : (m b q : Bool) → can-pay c ≡ b → Follows pl (noted m t) (after (pl .depth) (role-of m b q) c)
   unfolding whole
-  follows-role false b q e = record { price-is = h .price-is; budget-is = h .budget-is; named-is = omega (arith, h .named-is); turning = h .turning }
-  follows-role true false q e = record { price-is = h .price-is; budget-is = h .budget-is; named-is = omega arith; turning = λ l. omega (arith, ltb-false (c .plays) (whole c) e) }
+  follows-role false b q e =
+      record {
+        price-is = h .price-is;
+        budget-is = h .budget-is;
+        named-is = omega (arith, h .named-is);
+        turning = h .turning;
+      }
+  follows-role true false q e =
+      record {
+        price-is = h .price-is;
+        budget-is = h .budget-is;
+        named-is = omega arith;
+        turning = λ l. omega (arith, ltb-false (c .plays) (whole c) e);
+      }
   follows-role true true true e =
       let m : c .named ≤ pl .depth * c .turns + c .age = h .turning (ltb-true (c .plays) (whole c) e) in
       record { price-is = h .price-is; budget-is = h .budget-is; named-is = omega arith; turning = λ _. omega arith }
   follows-role true true false e = follows-aged e (eqb (c .age + 1) (pl .depth)) refl
 
-  pub follows-view : (w : View) (i : ℕ) (q : Bool) → Follows pl (noted (names w i) t) (becomes pl w i (role-of (names w i) (pays pl w i c) q) c)
+  pub follows-view : (w : View) (i : ℕ) (q : Bool)
+      → Follows pl (noted (names w i) t) (becomes pl w i (role-of (names w i) (pays pl w i c) q) c)
   follows-view w i q = follows-role (names w i) (pays pl w i c) q refl
 
 -- the turns of a campaign reach its whole plays, or the full depths of the views that named it
-pub turns-reach : (pl : Plan) (n : ℕ) (t : Trace) (c : Campaign) → Held pl n c → Follows pl t c → min (whole c) (t .named / pl .depth) ≤ c .turns
+pub turns-reach : (pl : Plan) (n : ℕ) (t : Trace) (c : Campaign) → Held pl n c → Follows pl t c
+    → min (whole c) (t .named / pl .depth) ≤ c .turns
 turns-reach pl n t c o h = go (can-pay c) refl
   where
     go : (e : Bool) → can-pay c ≡ e → min (whole c) (t .named / pl .depth) ≤ c .turns

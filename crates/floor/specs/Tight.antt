@@ -20,10 +20,11 @@ pub record Met (h : History) (to : ℕ → ℕ) : Type 0 where
   pub none-short : (i : ℕ) → i < length (h .terms) → falls-short h i ≡ false
   pub paying : 0 < day-takings h
   pub allotted : Allotted h to
-  pub equal : share (h .plan .depth) (h .plan .width) * takings-of (price-of h) (h .views) to ≡ full (h .plan) (day-takings h)
+  pub equal : share (h .plan .depth) (h .plan .width) * takings-of (price-of h) (h .views) to
+      ≡ full (h .plan) (day-takings h)
 
--- a day of campaigns of price 1 and one play each: its views, who plays each of them, and to whom an allotment gives it;
--- nobody is 64
+-- a day of campaigns of price 1 and one play each: its views, who plays each of them, and to whom an allotment gives
+-- it; nobody is 64
 pub record Exact : Type 0 where
   pub depth : ℕ
   pub width : ℕ

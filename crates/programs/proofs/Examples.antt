@@ -15,7 +15,8 @@ use Rattle.powers.specs.Power.{weight, share}
 use Rattle.campaigns.specs.Choice.{best, choice}
 use Rattle.campaigns.specs.Campaign.{whole, claim, sound-plan, priced, counted, uncounted, empty, sound-campaign}
 use Rattle.lines.specs.Numeral.{numeral, numeral-in}
-use Rattle.lines.specs.Form.{bytes, template, in-slot, in-range, text, filled, slot-text, names-text, piece, numbers, numbers-after}
+use Rattle.lines.specs.Form.{bytes, template, in-slot, in-range, text, filled, slot-text, names-text, piece, numbers}
+use Rattle.lines.specs.Form.{numbers-after}
 use Rattle.lines.specs.Reading.{reading, first-of, forms, held-or, ended-or, made, numbers-of, rest-of, step, strip}
 use Rattle.lines.specs.Reading.{slot-at, names-at, numeral-at, digits, is-digit}
 use Rattle.writer.specs.Writing.{line}
@@ -191,9 +192,11 @@ day-split = record {
 
 day-answers : replies blank day-lines ++ last-reply (after-lines blank day-lines) (bytes "(close)") ≡ answers
 unfolding replies after-lines joined reply reply-text next outcome tallies
-    reading first-of forms held-or ended-or made numbers-of rest-of step strip slot-at names-at numeral-at digits is-digit
+    reading first-of forms held-or ended-or made numbers-of rest-of step strip slot-at names-at numeral-at digits
+    is-digit
     template in-slot in-range line text filled slot-text names-text piece numbers numeral numeral-in numbers-after
-    call first-failed sound sound-record blank sum count every table within size member width-holds weight share whole claim
+    call first-failed sound sound-record blank sum count every table within size member width-holds weight share whole
+    claim
     total-takings total-claim total-budgets sound-plan priced counted uncounted empty sound-campaign best choice
 day-answers = refl
 

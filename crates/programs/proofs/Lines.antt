@@ -203,9 +203,11 @@ module _ (s : Day) (h : History) where
       -- the sum where the first line of the answer reads as x
       after : Reading → ℕ
       after x =
-          cond (of-reading is-plan false (reading l) && of-reading is-ok false x) 0 (day-takings h + of-reading price-in 0 x)
+          cond (of-reading is-plan false (reading l) && of-reading is-ok false x) 0
+          (day-takings h + of-reading price-in 0 x)
 
-paid-is : (s : Day) (h : History) (ls : List (List ℕ)) → day-takings (continued h (exchanges s ls)) ≡ sum-over (day-takings h) s ls
+paid-is : (s : Day) (h : History) (ls : List (List ℕ))
+    → day-takings (continued h (exchanges s ls)) ≡ sum-over (day-takings h) s ls
 unfolding continued exchanges sum-over
 paid-is s h [] = refl
 paid-is s h (l ∷ ls) =

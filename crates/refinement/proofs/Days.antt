@@ -1,4 +1,5 @@
--- Every list of calls keeps its day beside Algorithm 4.
+-- Every list of calls keeps its day beside Algorithm 4 (`Alongside`): by induction on the list, and an accepted view is
+-- one slot more.
 use mathlib.Core.Path.{_≡_, refl, ap, sym, subst, _∙_}
 use mathlib.Core.Bool.{true, false}
 use mathlib.Core.List.{List, [], _∷_, _++_, map, map-append}
@@ -29,7 +30,8 @@ use Rattle.demands.proofs.States.{with-campaign-old, with-campaign-new}
 use Rattle.demands.proofs.Refusals.{result-number}
 use Rattle.floor.specs.History.{accepted, Starts, History, opening, with-call, entered, continued, history}
 use Rattle.floor.specs.History.Starts.{from-blank, from-opening}
-use Rattle.refinement.specs.Algorithm4.{Instance, Neighbors, Variables, line-1, line-2, line-4, lines-3-to-11, matches-from, algorithm-4, matches}
+use Rattle.refinement.specs.Algorithm4.{Instance, Neighbors, Variables, line-1, line-2, line-4, lines-3-to-11}
+use Rattle.refinement.specs.Algorithm4.{matches-from, algorithm-4, matches}
 use Rattle.refinement.specs.Correspondence.{Buys-alike, slots, Valid}
 use Rattle.refinement.specs.Days.{terms-of, instance-of, Day-agrees, Days-as-Algorithm-4}
 use Rattle.refinement.proofs.Slots.{Simulates}
@@ -37,11 +39,13 @@ use Rattle.refinement.proofs.Simulation.{Proper, proper, simulates-fres
 use Rattle.refinement.proofs.Slot.{same-view, same-answer}
 
 -- one slot more
-line-2-snoc : (I : Instance) (Ns : List Neighbors) (N : Neighbors) (j : ℕ) (v : Variables) → line-2 I j (Ns ++ (N ∷ [])) v ≡ lines-3-to-11 I (length Ns + j) N (line-2 I j Ns v)
+line-2-snoc : (I : Instance) (Ns : List Neighbors) (N : Neighbors) (j : ℕ) (v : Variables)
+    → line-2 I j (Ns ++ (N ∷ [])) v ≡ lines-3-to-11 I (length Ns + j) N (line-2 I j Ns v)
 unfolding line-2
 line-2-snoc I [] N j v = ap (λ m. lines-3-to-11 I m N v) (omega arith)
 line-2-snoc I (M ∷ Ns) N j v =
-    line-2-snoc I Ns N (suc j) (lines-3-to-11 I j M v) ∙ ap (λ m. lines-3-to-11 I m N (line-2 I (suc j) Ns (lines-3-to-11 I j M v))) (omega arith)
+    line-2-snoc I Ns N (suc j) (lines-3-to-11 I j M v)
+    ∙ ap (λ m. lines-3-to-11 I m N (line-2 I (suc j) Ns (lines-3-to-11 I j M v))) (omega arith)
 
 matches-snoc : (I : Instance) (Ns : List Neighbors) (N : Neighbors) (j : ℕ) (v : Variables)
     → matches-from I j (Ns ++ (N ∷ [])) v ≡ matches-from I j Ns v ++ (line-4 I (length Ns + j) N (line-2 I j Ns v) ∷ [])
@@ -49,18 +53,26 @@ unfolding line-2 matches-from
 matches-snoc I [] N j v = ap (λ m. line-4 I m N v ∷ []) (omega arith)
 matches-snoc I (M ∷ Ns) N j v =
     ap (λ ms. line-4 I j M v ∷ ms)
-    (matches-snoc I Ns N (suc j) (lines-3-to-11 I j M v) ∙ ap (λ m. matches-from I (suc j) Ns (lines-3-to-11 I j M v) ++ (line-4 I m N (line-2 I (suc j) Ns (lines-3-to-11 I j M v)) ∷ [])) (omega arith))
+    (matches-snoc I Ns N (suc j) (lines-3-to-11 I j M v)
+    ∙ ap (λ m.
+    matches-from I (suc j) Ns (lines-3-to-11 I j M v) ++
+    (line-4 I m N (line-2 I (suc j) Ns (lines-3-to-11 I j M v)) ∷ [])) (omega arith))
 
 -- what holds of the terms of a list and of one more
-snoc-all : (P : ℕ → Terms → Type 0) (ts : List Terms) (t : Terms) → ((i : ℕ) → i < length ts → P i (getD ts i no-terms)) → P (length ts) t
+snoc-all : (P : ℕ → Terms → Type 0) (ts : List Terms) (t : Terms) → ((i : ℕ) → i < length ts → P i (getD ts i no-terms))
+    → P (length ts) t
     → (i : ℕ) → i < length (ts ++ (t ∷ [])) → P i (getD (ts ++ (t ∷ [])) i no-terms)
 snoc-all P ts t old new i l =
-    one-more (λ j. P j (getD (ts ++ (t ∷ [])) j no-terms)) (length ts) (λ j m. subst (P j) (sym (List·getD-append ts (t ∷ []) no-terms j m)) (old j m))
+    one-more (λ j. P j (getD (ts ++ (t ∷ [])) j no-terms)) (length ts)
+    (λ j m. subst (P j) (sym (List·getD-append ts (t ∷ []) no-terms j m)) (old j m))
     (subst (P (length ts)) (sym (getD-append-seam ts t [] no-terms)) new) i (omega (arith, length-append ts (t ∷ [])))
 
 module _ (B : Terms → ℕ) (buys : Buys-alike B) where
   abbrev pub Beside : History → Day → Type 0
-  Beside h s = (i : ℕ) → i < length (h .terms) → Simulates (instance-of B h) (length (h .views)) (algorithm-4 (instance-of B h) (slots (h .views))) i (campaign s i)
+  Beside h s =
+      (i : ℕ) → i < length (h .terms)
+      → Simulates (instance-of B h) (length (h .views)) (algorithm-4 (instance-of B h) (slots (h .views))) i
+      (campaign s i)
 
   abbrev pub Answered : History → Type 0
   Answered h = h .answers ≡ map (view-answer (λ i. terms-of h i .price)) (matches (instance-of B h) (slots (h .views)))
@@ -91,13 +103,16 @@ module _ (B : Terms → ℕ) (buys : Buys-alike B) where
     answered = λ _. refl;
   }
 
-  valid-of : (s : Day) (h : History) → Alongside s h → 1 < h .plan .width → Valid (h .plan) (length (h .terms)) (terms-of h)
+  valid-of : (s : Day) (h : History) → Alongside s h → 1 < h .plan .width
+      → Valid (h .plan) (length (h .terms)) (terms-of h)
   valid-of s h k wide = record { deep = k .deep; wide = wide; priced = k .priced; funded = k .funded }
 
   -- before the first view
-  beside-fresh : (s : Day) (h : History) → Valid (h .plan) (length (h .terms)) (terms-of h) → h .views ≡ [] → ((i : ℕ) → i < length (h .terms) → campaign s i ≡ fresh (terms-of h i)) → Beside h s
+  beside-fresh : (s : Day) (h : History) → Valid (h .plan) (length (h .terms)) (terms-of h) → h .views ≡ []
+      → ((i : ℕ) → i < length (h .terms) → campaign s i ≡ fresh (terms-of h i)) → Beside h s
   unfolding line-2
-  beside-fresh s h valid none same i l = rw (none, same i l) (simulates-fresh B buys (h .plan) (length (h .terms)) (terms-of h) valid i l)
+  beside-fresh s h valid none same i l =
+      rw (none, same i l) (simulates-fresh B buys (h .plan) (length (h .terms)) (terms-of h) valid i l)
 
   module _ (s : Day) (h : History) (k : Alongside s h) where
     module _ (t : Terms) (y : Yes (questions s (add-campaign t))) where
@@ -106,19 +121,27 @@ module _ (B : Terms → ℕ) (buys : Buys-alike B) where
 
       more-priced : (i : ℕ) → i < length (more .terms) → 1 ≤ terms-of more i .price
       unfolding more
-      more-priced = snoc-all (λ i u. 1 ≤ u .price) (h .terms) t (k .priced) (leb-true 1 (t .price) (both-left _ _ (y .1 .1 .1 .0)))
+      more-priced =
+          snoc-all (λ i u. 1 ≤ u .price) (h .terms) t (k .priced)
+          (leb-true 1 (t .price) (both-left _ _ (y .1 .1 .1 .0)))
 
       more-funded : (i : ℕ) → i < length (more .terms) → terms-of more i .price ≤ terms-of more i .budget
       unfolding more
-      more-funded = snoc-all (λ i u. u .price ≤ u .budget) (h .terms) t (k .funded) (leb-true (t .price) (t .budget) (both-left _ _ (y .1 .1 .1 .1 .0)))
+      more-funded =
+          snoc-all (λ i u. u .price ≤ u .budget) (h .terms) t (k .funded)
+          (leb-true (t .price) (t .budget) (both-left _ _ (y .1 .1 .1 .1 .0)))
 
-      more-fresh : (i : ℕ) → i < length (more .terms) → campaign (result s (add-campaign t) .day) i ≡ fresh (terms-of more i)
+      more-fresh : (i : ℕ) → i < length (more .terms)
+          → campaign (result s (add-campaign t) .day) i ≡ fresh (terms-of more i)
       unfolding more
       more-fresh =
           let room : s .count < 64 = ltb-true (s .count) 64 (y .1 .1 .0) in
           snoc-all (λ i u. campaign (result s (add-campaign t) .day) i ≡ fresh u) (h .terms) t
-          (λ i l. campaign-of-state Filling (s .plan) (s .count + 1) (s .accepted) (with-campaign s t) i (omega (arith, k .many)) ∙ with-campaign-old s t i (λ e. omega (arith, k .many)) ∙ k .unplayed (y .1 .0) i l)
-          (campaign-of-state Filling (s .plan) (s .count + 1) (s .accepted) (with-campaign s t) (length (h .terms)) (omega (arith, k .many)) ∙ ap (with-campaign s t) (k .many) ∙ with-campaign-new s t)
+          (λ i l.
+          campaign-of-state Filling (s .plan) (s .count + 1) (s .accepted) (with-campaign s t) i
+          (omega (arith, k .many)) ∙ with-campaign-old s t i (λ e. omega (arith, k .many)) ∙ k .unplayed (y .1 .0) i l)
+          (campaign-of-state Filling (s .plan) (s .count + 1) (s .accepted) (with-campaign s t) (length (h .terms))
+          (omega (arith, k .many)) ∙ ap (with-campaign s t) (k .many) ∙ with-campaign-new s t)
 
       alongside-add : Alongside (result s (add-campaign t) .day) more
       unfolding more matches-from
@@ -130,7 +153,11 @@ module _ (B : Terms → ℕ) (buys : Buys-alike B) where
         funded = more-funded;
         unviewed = λ _. k .unviewed (y .1 .0);
         unplayed = λ _. more-fresh;
-        beside = λ wide. beside-fresh (result s (add-campaign t) .day) more (record { deep = k .deep; wide = wide; priced = more-priced; funded = more-funded }) (k .unviewed (y .1 .0)) more-fresh;
+        beside =
+            λ wide.
+            beside-fresh (result s (add-campaign t) .day) more
+            (record { deep = k .deep; wide = wide; priced = more-priced; funded = more-funded })
+            (k .unviewed (y .1 .0)) more-fresh;
         answered = λ wide. rw (k .unviewed (y .1 .0)) (rw (k .unviewed (y .1 .0)) at (k .answered wide));
       }
 
@@ -153,7 +180,8 @@ module _ (B : Terms → ℕ) (buys : Buys-alike B) where
         ok = proper B buys (h .plan) (length (h .terms)) (terms-of h) (valid-of s h k wide)
 
         view-simulates : (i : ℕ) → i < length (h .terms)
-            → Simulates I (suc (length (h .views))) (lines-3-to-11 I (length (h .views)) (names w) so-far) i (shown s w i)
+            → Simulates I (suc (length (h .views))) (lines-3-to-11 I (length (h .views)) (names w) so-far) i
+            (shown s w i)
         unfolding I so-far ok
         view-simulates i l =
             same-view I ok (length (h .views)) so-far s (sym (k .plan-is)) (k .many) (k .beside wide) w i l
@@ -163,7 +191,8 @@ module _ (B : Terms → ℕ) (buys : Buys-alike B) where
         unfolding I so-far ok
         answers-as = same-answer I ok (length (h .views)) so-far s (sym (k .plan-is)) (k .many) (k .beside wide) w
 
-      alongside-view : Alongside (result s (show-view w) .day) (with-call h (show-view w) (result s (show-view w) .answer))
+      alongside-view : Alongside (result s (show-view w) .day)
+          (with-call h (show-view w) (result s (show-view w) .answer))
       unfolding I so-far
       alongside-view = record {
         plan-is = k .plan-is;
@@ -180,11 +209,19 @@ module _ (B : Terms → ℕ) (buys : Buys-alike B) where
               slots-snoc,
               line-2-snoc I (slots (h .views)) (names w) 0 line-1,
               slots-many,
-              campaign-of-state Running (s .plan) (s .count) (s .accepted + 1) (shown s w) i (omega (arith, sound-facts s (y .0) .few, k .many)),
+              campaign-of-state Running (s .plan) (s .count) (s .accepted + 1) (shown s w) i
+                  (omega (arith, sound-facts s (y .0) .few, k .many)),
             )
             (view-simulates wide i l);
         answered = λ wide.
-            rw (slots-snoc, matches-snoc I (slots (h .views)) (names w) 0 line-1, slots-many, map-append, k .answered wide, answers-as wide);
+            rw (
+              slots-snoc,
+              matches-snoc I (slots (h .views)) (names w) 0 line-1,
+              slots-many,
+              map-append,
+              k .answered wide,
+              answers-as wide,
+            );
       }
 
     -- a phase that is not Filling
@@ -201,9 +238,11 @@ module _ (B : Terms → ℕ) (buys : Buys-alike B) where
       answered = k .answered;
     }
 
-    alongside-result : (c : Call) → Yes (questions s c) → Alongside (result s c .day) (with-call h c (result s c .answer))
+    alongside-result : (c : Call) → Yes (questions s c)
+        → Alongside (result s c .day) (with-call h c (result s c .answer))
     unfolding more
-    alongside-result (open-plan pl) y = alongside-opening Filling pl (leb-true 1 (pl .depth) (both-left _ _ (y .1 .1 .0)))
+    alongside-result (open-plan pl) y =
+        alongside-opening Filling pl (leb-true 1 (pl .depth) (both-left _ _ (y .1 .1 .0)))
     alongside-result (add-campaign t) y = alongside-add t y
     alongside-result start-day y = alongside-phase Running refl
     alongside-result (show-view w) y = alongside-view w y
@@ -212,14 +251,17 @@ module _ (B : Terms → ℕ) (buys : Buys-alike B) where
 
     alongside-call : (c : Call) → Alongside (call s c .day) (entered h (record { made = c; answer = call s c .answer }))
     alongside-call c =
-        call-elim (λ o. Alongside (o .day) (entered h (record { made = c; answer = o .answer }))) s c (λ q. rw (ne-eqb (suc q) 0 (λ z. omega arith)) k)
+        call-elim (λ o. Alongside (o .day) (entered h (record { made = c; answer = o .answer }))) s c
+        (λ q. rw (ne-eqb (suc q) 0 (λ z. omega arith)) k)
         (λ y. rw (eq-eqb (number (result s c .answer)) 0 (result-number s c)) (alongside-result c y))
 
-  alongside-calls : (cs : List Call) (s : Day) (h : History) → Alongside s h → Alongside (final s cs) (continued h (transcript s cs))
+  alongside-calls : (cs : List Call) (s : Day) (h : History) → Alongside s h
+      → Alongside (final s cs) (continued h (transcript s cs))
   unfolding final transcript continued
   alongside-calls [] s h k = k
   alongside-calls (c ∷ cs) s h k =
-      alongside-calls cs (call s c .day) (entered h (record { made = c; answer = call s c .answer })) (alongside-call s h k c)
+      alongside-calls cs (call s c .day) (entered h (record { made = c; answer = call s c .answer }))
+      (alongside-call s h k c)
 
   alongside-blank : Alongside blank (opening blank-plan)
   unfolding blank
@@ -227,23 +269,33 @@ module _ (B : Terms → ℕ) (buys : Buys-alike B) where
 
   -- an accepted opening, from any state
   alongside-from : (s : Day) (pl : Plan) → accepted (call s (open-plan pl) .answer) ≡ true
-      → Alongside (call s (open-plan pl) .day) (entered (opening blank-plan) (record { made = open-plan pl; answer = call s (open-plan pl) .answer }))
+      → Alongside (call s (open-plan pl) .day)
+      (entered (opening blank-plan) (record { made = open-plan pl; answer = call s (open-plan pl) .answer }))
   alongside-from s pl e =
-      call-elim (λ o. accepted (o .answer) ≡ true → Alongside (o .day) (entered (opening blank-plan) (record { made = open-plan pl; answer = o .answer }))) s (open-plan pl)
-      (λ q z. absurd (omega (arith, eqb-true (suc q) 0 z))) (λ y z. alongside-opening Filling pl (leb-true 1 (pl .depth) (both-left _ _ (y .1 .1 .0)))) e
+      call-elim
+      (λ o. accepted (o .answer) ≡ true
+      → Alongside (o .day) (entered (opening blank-plan) (record { made = open-plan pl; answer = o .answer }))) s
+      (open-plan pl)
+      (λ q z. absurd (omega (arith, eqb-true (suc q) 0 z)))
+      (λ y z. alongside-opening Filling pl (leb-true 1 (pl .depth) (both-left _ _ (y .1 .1 .0)))) e
 
   alongside : (s : Day) (cs : List Call) → Starts s cs → Alongside (final s cs) (history (transcript s cs))
   unfolding final transcript continued
   alongside _ _ (from-blank cs) = alongside-calls cs blank (opening blank-plan) alongside-blank
   alongside _ _ (from-opening s pl cs e) =
-      alongside-calls cs (call s (open-plan pl) .day) (entered (opening blank-plan) (record { made = open-plan pl; answer = call s (open-plan pl) .answer })) (alongside-from s pl e)
+      alongside-calls cs (call s (open-plan pl) .day)
+      (entered (opening blank-plan) (record { made = open-plan pl; answer = call s (open-plan pl) .answer }))
+      (alongside-from s pl e)
 
   agrees-of : (s : Day) (h : History) → Alongside s h → 1 < h .plan .width → Day-agrees B h s
   agrees-of s h k wide = record {
     same-answers = k .answered wide;
     same-tallies = λ i l.
-        simulates-represents (instance-of B h) (proper B buys (h .plan) (length (h .terms)) (terms-of h) (valid-of s h k wide)) (length (h .views)) (algorithm-4 (instance-of B h) (slots (h .views))) i (campaign s i) l (k .beside wide i l);
+        simulates-represents (instance-of B h)
+        (proper B buys (h .plan) (length (h .terms)) (terms-of h) (valid-of s h k wide)) (length (h .views))
+        (algorithm-4 (instance-of B h) (slots (h .views))) i (campaign s i) l (k .beside wide i l);
   }
 
 pub days-as-algorithm-4 : Days-as-Algorithm-4
-days-as-algorithm-4 B buys s cs st wide = agrees-of B buys (final s cs) (history (transcript s cs)) (alongside B buys s cs st) wide
+days-as-algorithm-4 B buys s cs st wide =
+    agrees-of B buys (final s cs) (history (transcript s cs)) (alongside B buys s cs st) wide

@@ -24,7 +24,8 @@ use Rattle.demands.specs.Transcript.{transcript, final}
 use Rattle.floor.specs.History.{continued, history}
 use Rattle.floor.specs.History.Starts.{from-blank}
 use Rattle.refinement.specs.Fraction.{integer, equal}
-use Rattle.refinement.specs.Algorithm4.{Instance, C, feasible, line-2, line-4, lines-3-to-11, algorithm-4, matches-from, matches}
+use Rattle.refinement.specs.Algorithm4.{Instance, C, feasible, line-2, line-4, lines-3-to-11, algorithm-4}
+use Rattle.refinement.specs.Algorithm4.{matches-from, matches}
 use Rattle.refinement.specs.Correspondence.{spendable, instance, slots}
 use Rattle.refinement.specs.Days.{Day-agrees}
 use Rattle.refinement.proofs.Budgets.{budget-buys, spendable-buys}
@@ -49,44 +50,61 @@ unfolding matches-from lines-3-to-11 line-4 feasible C best member sum
 listing-matches = refl
 
 -- two finished copies of each make the whole of its budget
-pub listing-finished : map (λ i. equal (algorithm-4 listing (slots views) .z i) (integer 1)) (0 ∷ 1 ∷ []) ≡ true ∷ true ∷ []
+pub listing-finished : map (λ i. equal (algorithm-4 listing (slots views) .z i) (integer 1)) (0 ∷ 1 ∷ [])
+    ≡ true ∷ true ∷ []
 unfolding line-2 lines-3-to-11 line-4 feasible C best member sum
 listing-finished = refl
 
 -- the calls, with the view of campaign 2 that is refused
 abbrev calls : List Call
-calls = open-plan plan ∷ map add-campaign terms ++ start-day ∷ map show-view views ++ show-view (record { set = 4 }) ∷ close-day ∷ []
+calls =
+    open-plan plan ∷ map add-campaign terms ++ start-day ∷ map show-view views ++ show-view
+    (record { set = 4 }) ∷ close-day ∷ []
 
-pub listing-answers : history (transcript blank calls) .answers ≡ Played 0 5 ∷ Played 1 3 ∷ Played 0 5 ∷ Nobody ∷ Played 1 3 ∷ []
-unfolding continued transcript call first-failed sound sound-record sound-plan sound-campaign priced counted uncounted empty total-takings total-claim total-budgets blank width-holds size within choice best whole claim weight share member sum count every table
+pub listing-answers : history (transcript blank calls) .answers
+    ≡ Played 0 5 ∷ Played 1 3 ∷ Played 0 5 ∷ Nobody ∷ Played 1 3 ∷ []
+unfolding continued transcript call first-failed sound sound-record sound-plan sound-campaign priced counted uncounted
+    empty total-takings total-claim total-budgets blank width-holds size within choice best whole claim weight share
+    member sum count every table
 listing-answers = refl
 
 -- so the theorem speaks of this day
 pub listing-width : history (transcript blank calls) .plan ≡ plan
-unfolding continued transcript call first-failed sound sound-record sound-plan sound-campaign priced counted uncounted empty total-takings total-claim total-budgets blank width-holds size within choice best whole claim weight share member sum count every table
+unfolding continued transcript call first-failed sound sound-record sound-plan sound-campaign priced counted uncounted
+    empty total-takings total-claim total-budgets blank width-holds size within choice best whole claim weight share
+    member sum count every table
 listing-width = refl
 
 pub listing-agrees : Day-agrees (λ t. t .budget) (history (transcript blank calls)) (final blank calls)
-listing-agrees = days-as-algorithm-4 (λ t. t .budget) budget-buys blank calls (from-blank calls) (rw listing-width (omega arith))
+listing-agrees =
+    days-as-algorithm-4 (λ t. t .budget) budget-buys blank calls (from-blank calls) (rw listing-width (omega arith))
 
 -- The same with 3 and 2 cents left over, which no play can spend: budgets 13 and 8.
 abbrev cents : List Terms
 cents = record { price = 5; budget = 13 } ∷ record { price = 3; budget = 8 } ∷ []
 
-pub cents-matches : matches (instance spendable plan 2 (λ i. getD cents i no-terms)) (slots views) ≡ plays 0 ∷ plays 1 ∷ plays 0 ∷ nobody ∷ plays 1 ∷ []
+pub cents-matches : matches (instance spendable plan 2 (λ i. getD cents i no-terms)) (slots views)
+    ≡ plays 0 ∷ plays 1 ∷ plays 0 ∷ nobody ∷ plays 1 ∷ []
 unfolding matches-from lines-3-to-11 line-4 feasible C best member sum
 cents-matches = refl
 
 abbrev cents-calls : List Call
 cents-calls = open-plan plan ∷ map add-campaign cents ++ start-day ∷ map show-view views ++ close-day ∷ []
 
-pub cents-answers : history (transcript blank cents-calls) .answers ≡ Played 0 5 ∷ Played 1 3 ∷ Played 0 5 ∷ Nobody ∷ Played 1 3 ∷ []
-unfolding continued transcript call first-failed sound sound-record sound-plan sound-campaign priced counted uncounted empty total-takings total-claim total-budgets blank width-holds size within choice best whole claim weight share member sum count every table
+pub cents-answers : history (transcript blank cents-calls) .answers
+    ≡ Played 0 5 ∷ Played 1 3 ∷ Played 0 5 ∷ Nobody ∷ Played 1 3 ∷ []
+unfolding continued transcript call first-failed sound sound-record sound-plan sound-campaign priced counted uncounted
+    empty total-takings total-claim total-budgets blank width-holds size within choice best whole claim weight share
+    member sum count every table
 cents-answers = refl
 
 pub cents-width : history (transcript blank cents-calls) .plan ≡ plan
-unfolding continued transcript call first-failed sound sound-record sound-plan sound-campaign priced counted uncounted empty total-takings total-claim total-budgets blank width-holds size within choice best whole claim weight share member sum count every table
+unfolding continued transcript call first-failed sound sound-record sound-plan sound-campaign priced counted uncounted
+    empty total-takings total-claim total-budgets blank width-holds size within choice best whole claim weight share
+    member sum count every table
 cents-width = refl
 
 pub cents-agrees : Day-agrees spendable (history (transcript blank cents-calls)) (final blank cents-calls)
-cents-agrees = days-as-algorithm-4 spendable spendable-buys blank cents-calls (from-blank cents-calls) (rw cents-width (omega arith))
+cents-agrees =
+    days-as-algorithm-4 spendable spendable-buys blank cents-calls (from-blank cents-calls)
+    (rw cents-width (omega arith))

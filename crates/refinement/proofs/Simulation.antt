@@ -1,4 +1,5 @@
--- Algorithm 4 and our rule side by side over a list of views.
+-- Algorithm 4 and our rule side by side over a list of views: by induction on it, with the relation of a campaign's
+-- counts and its variables that one slot keeps (`Simulates`).
 use mathlib.Core.Path.{_≡_, refl, ap, ap₂, sym, subst, subst⁻¹, _∙_}
 use mathlib.Core.Bool.{Bool, true, false}
 use mathlib.Core.List.{List, [], _∷_}
@@ -22,23 +23,34 @@ use Rattle.campaigns.specs.View.{names, figure, able, chosen-of, viewed}
 use Rattle.demands.specs.Choice.{Right}
 use Rattle.demands.proofs.Choice.{choice-right}
 use Rattle.refinement.specs.Fraction.{less}
-use Rattle.refinement.specs.Algorithm4.{Instance, Neighbors, Variables, feasible-neighbor, quantity, displaces, line-1, line-2, line-3, line-4, lines-9-to-11, lines-3-to-11, matches-from, algorithm-4}
-use Rattle.refinement.specs.Correspondence.{Buys-alike, instance, slots, Represents, Maximizes, Next, choices, campaigns-after, Valid, Agrees, As-Algorithm-4}
+use Rattle.refinement.specs.Algorithm4.{Instance, Neighbors, Variables, feasible-neighbor, quantity, displaces}
+use Rattle.refinement.specs.Algorithm4.{line-1, line-2, line-3, line-4, lines-9-to-11, lines-3-to-11}
+use Rattle.refinement.specs.Algorithm4.{matches-from, algorithm-4}
+use Rattle.refinement.specs.Correspondence.{Buys-alike, instance, slots, Represents, Maximizes, Next, choices}
+use Rattle.refinement.specs.Correspondence.{campaigns-after, Valid, Agrees, As-Algorithm-4}
 use Rattle.campaigns.proofs.Choices.{best-fits}
 use Rattle.refinement.proofs.Choices.{best-eq}
-use Rattle.refinement.proofs.Copies.{value-zero, value-copy, copy-full, one-age, one-turns, displaced, value-quantity}
+use Rattle.refinement.proofs.Copies.{value-zero, value-copy, copy-full, one-age, one-turns, displaced}
+use Rattle.refinement.proofs.Copies.{value-quantity}
 use Rattle.refinement.proofs.Slots.{Simulates, unfinished, able-alike, after-slot}
 
 -- line 4's words pick out one match at most
-one-maximizes : (I : Instance) (j : ℕ) (N : Neighbors) (v : Variables) (a b : Choice) → Maximizes I j N v a → Maximizes I j N v b → a ≡ b
+one-maximizes : (I : Instance) (j : ℕ) (N : Neighbors) (v : Variables) (a b : Choice) → Maximizes I j N v a
+    → Maximizes I j N v b → a ≡ b
 one-maximizes I j N v nobody nobody p q = refl
 one-maximizes I j N v nobody (plays n) p q = absurd (never (feasible-neighbor I v j N n) (p n (q .0)) (q .1))
 one-maximizes I j N v (plays m) nobody p q = absurd (never (feasible-neighbor I v j N m) (q m (p .0)) (p .1))
 one-maximizes I j N v (plays m) (plays n) p q = go (ltb m n) refl (ltb n m) refl
   where
     go : (t : Bool) → ltb m n ≡ t → (u : Bool) → ltb n m ≡ u → plays m ≡ plays n
-    go true e u e′ = absurd (never (less (quantity I v m) (quantity I v n)) (p .2 n (q .0) (q .1) .0) (q .2 m (p .0) (p .1) .1 (ltb-true m n e)))
-    go false e true e′ = absurd (never (less (quantity I v n) (quantity I v m)) (q .2 m (p .0) (p .1) .0) (p .2 n (q .0) (q .1) .1 (ltb-true n m e′)))
+    go true e u e′ =
+        absurd
+        (never (less (quantity I v m) (quantity I v n)) (p .2 n (q .0) (q .1) .0)
+        (q .2 m (p .0) (p .1) .1 (ltb-true m n e)))
+    go false e true e′ =
+        absurd
+        (never (less (quantity I v n) (quantity I v m)) (q .2 m (p .0) (p .1) .0)
+        (p .2 n (q .0) (q .1) .1 (ltb-true n m e′)))
     go false e false e′ = let same : m ≡ n = omega (arith, ltb-false m n e, ltb-false n m e′) in ap plays same
 
 -- an instance on which the paper's fractions are proper
@@ -55,18 +67,24 @@ module _ (I : Instance) (ok : Proper I) where
   abbrev pub All : ℕ → Variables → (ℕ → Campaign) → Type 0
   All j v f = (i : ℕ) → i < I .n → Simulates I j v i (f i)
 
-  pub simulates-represents : (j : ℕ) (v : Variables) (i : ℕ) (c : Campaign) → i < I .n → Simulates I j v i c → Represents I j v i c
+  pub simulates-represents : (j : ℕ) (v : Variables) (i : ℕ) (c : Campaign) → i < I .n → Simulates I j v i c
+      → Represents I j v i c
   simulates-represents j v i c l h = record {
-    age-is = value-copy I i (ok .deep) (ok .wide) (ok .bids i l) (ok .budgets i l) (v .zᶜ i) (c .age) (h .young) (h .current);
+    age-is =
+        value-copy I i (ok .deep) (ok .wide) (ok .bids i l) (ok .budgets i l) (v .zᶜ i) (c .age) (h .young)
+        (h .current);
     turns-are = h .accounts .finished;
     plays-are = h .accounts .matched;
     quantity-is = value-quantity I (ok .deep) (ok .wide) v i (c .age) (omega (arith, h .young)) (h .current);
   }
 
   module _ (j : ℕ) (w : View) (v : Variables) (f : ℕ → Campaign) (h : All j v f) where
-    compares : (m i : ℕ) → m < I .n → i < I .n → displaces I v m i ≡ ltb (f m .price * weight (I .k) (I .d) (f m .age)) (f i .price * weight (I .k) (I .d) (f i .age))
+    compares : (m i : ℕ) → m < I .n → i < I .n
+        → displaces I v m i
+        ≡ ltb (f m .price * weight (I .k) (I .d) (f m .age)) (f i .price * weight (I .k) (I .d) (f i .age))
     compares m i l l′ =
-        displaced I (ok .deep) (ok .wide) v m i (weight (I .k) (I .d) (f m .age)) (weight (I .k) (I .d) (f i .age)) (h m l .current) (h i l′ .current)
+        displaced I (ok .deep) (ok .wide) v m i (weight (I .k) (I .d) (f m .age)) (weight (I .k) (I .d) (f i .age))
+        (h m l .current) (h i l′ .current)
         ∙ rw (h m l .accounts .bid, h i l′ .accounts .bid)
 
     ables : (i : ℕ) → i < I .n → feasible-neighbor I v j (names w) i ≡ able (plan-of I) w f i
@@ -77,41 +95,61 @@ module _ (I : Instance) (ok : Proper I) where
     same-choice = best-eq (I .n) _ _ _ _ ables compares
 
     maximizes : Maximizes I j (names w) v (line-4 I j (names w) v)
-    maximizes = subst⁻¹ (Maximizes I j (names w) v) same-choice (go (chosen-of (I .n) (plan-of I) w f) (choice-right (I .n) _ _))
+    maximizes =
+        subst⁻¹ (Maximizes I j (names w) v) same-choice
+        (go (chosen-of (I .n) (plan-of I) w f) (choice-right (I .n) _ _))
       where
-        go : (m : Choice) → Right (I .n) (able (plan-of I) w f) (λ i. figure (plan-of I) w i (f i)) m → Maximizes I j (names w) v m
+        go : (m : Choice) → Right (I .n) (able (plan-of I) w f) (λ i. figure (plan-of I) w i (f i)) m
+            → Maximizes I j (names w) v m
         go nobody r = λ i l. ables i l ∙ r i l
         go (plays m) r = (
           r .below,
           ables m (r .below) ∙ r .is-able,
-          λ i l a.
-              (compares m i (r .below) l ∙ le-ltb _ _ (r .top i l (sym (ables i l) ∙ a)), λ b. compares i m l (r .below) ∙ lt-ltb _ _ (r .lowest i b (sym (ables i l) ∙ a))),
+          λ i l a. (
+            compares m i (r .below) l ∙ le-ltb _ _ (r .top i l (sym (ables i l) ∙ a)),
+            λ b. compares i m l (r .below)
+                ∙ lt-ltb _ _ (r .lowest i b (sym (ables i l) ∙ a)),
+          ),
         )
 
     pub next-slot : Next I j (names w) v
     next-slot = record {
       maximizing = maximizes;
       only-one = λ m h′. one-maximizes I j (names w) v m (line-4 I j (names w) v) h′ maximizes;
-      none-waits = λ i l. unfinished I (ok .deep) (ok .wide) i (ok .bids i l) (ok .budgets i l) (names w) v (f i .age) (h i l .young) (h i l .current);
+      none-waits =
+          λ i l.
+          unfinished I (ok .deep) (ok .wide) i (ok .bids i l) (ok .budgets i l) (names w) v (f i .age) (h i l .young)
+          (h i l .current);
     }
 
     pub same-step : All (suc j) (lines-3-to-11 I j (names w) v) (viewed (I .n) (plan-of I) w f)
     unfolding lines-3-to-11 line-4
     same-step i l =
-        subst (λ m. Simulates I (suc j) (lines-9-to-11 I (names w) (line-3 I j (names w) (line-4 I j (names w) v) v)) i (after (I .k) (role-of (names w i) (can-pay (f i)) (is m i)) (f i))) same-choice
-        (after-slot I (ok .deep) (ok .wide) i (ok .bids i l) (ok .budgets i l) j (names w) v (f i) (h i l) (line-4 I j (names w) v) (best-fits (I .n) _ _) l)
+        subst
+        (λ m.
+        Simulates I (suc j) (lines-9-to-11 I (names w) (line-3 I j (names w) (line-4 I j (names w) v) v)) i
+        (after (I .k) (role-of (names w i) (can-pay (f i)) (is m i)) (f i))) same-choice
+        (after-slot I (ok .deep) (ok .wide) i (ok .bids i l) (ok .budgets i l) j (names w) v (f i) (h i l)
+        (line-4 I j (names w) v) (best-fits (I .n) _ _) l)
 
-  pub run-choices : (ws : List View) (j : ℕ) (v : Variables) (f : ℕ → Campaign) → All j v f → matches-from I j (slots ws) v ≡ choices (I .n) (plan-of I) ws f
+  pub run-choices : (ws : List View) (j : ℕ) (v : Variables) (f : ℕ → Campaign) → All j v f
+      → matches-from I j (slots ws) v ≡ choices (I .n) (plan-of I) ws f
   unfolding matches-from choices
   run-choices [] j v f h = refl
-  run-choices (w ∷ ws) j v f h = ap₂ _∷_ (same-choice j w v f h) (run-choices ws (suc j) (lines-3-to-11 I j (names w) v) (viewed (I .n) (plan-of I) w f) (same-step j w v f h))
+  run-choices (w ∷ ws) j v f h =
+      ap₂ _∷_ (same-choice j w v f h)
+      (run-choices ws (suc j) (lines-3-to-11 I j (names w) v) (viewed (I .n) (plan-of I) w f) (same-step j w v f h))
 
-  pub run-simulates : (ws : List View) (j : ℕ) (v : Variables) (f : ℕ → Campaign) → All j v f → All (length ws + j) (line-2 I j (slots ws) v) (campaigns-after (I .n) (plan-of I) ws f)
+  pub run-simulates : (ws : List View) (j : ℕ) (v : Variables) (f : ℕ → Campaign) → All j v f
+      → All (length ws + j) (line-2 I j (slots ws) v) (campaigns-after (I .n) (plan-of I) ws f)
   unfolding line-2 campaigns-after
   run-simulates [] j v f h = let e : j ≡ 0 + j = omega arith in subst (λ m. All m v f) e h
   run-simulates (w ∷ ws) j v f h =
       let e : length ws + suc j ≡ suc (length ws) + j = omega arith in
-      subst (λ m. All m (line-2 I (suc j) (slots ws) (lines-3-to-11 I j (names w) v)) (campaigns-after (I .n) (plan-of I) ws (viewed (I .n) (plan-of I) w f))) e
+      subst
+      (λ m.
+      All m (line-2 I (suc j) (slots ws) (lines-3-to-11 I j (names w) v))
+      (campaigns-after (I .n) (plan-of I) ws (viewed (I .n) (plan-of I) w f))) e
       (run-simulates ws (suc j) (lines-3-to-11 I j (names w) v) (viewed (I .n) (plan-of I) w f) (same-step j w v f h))
 
 -- the paper's instance for terms that are taken
@@ -145,7 +183,8 @@ module _ (B : Terms → ℕ) (buys : Buys-alike B) (pl : Plan) (n : ℕ) (t : �
   agrees ws =
       let I : Instance = instance B pl n t in
       let h : All I proper (length ws) (algorithm-4 I (slots ws)) (campaigns-after n pl ws (λ i. fresh (t i))) =
-      subst (λ j. All I proper j (algorithm-4 I (slots ws)) (campaigns-after n pl ws (λ i. fresh (t i)))) (omega arith) (run-simulates I proper ws 0 line-1 (λ i. fresh (t i)) simulates-fresh) in
+      subst (λ j. All I proper j (algorithm-4 I (slots ws)) (campaigns-after n pl ws (λ i. fresh (t i)))) (omega arith)
+      (run-simulates I proper ws 0 line-1 (λ i. fresh (t i)) simulates-fresh) in
       record {
         same-choices = run-choices I proper ws 0 line-1 (λ i. fresh (t i)) simulates-fresh;
         injective = λ i l. record {
@@ -153,8 +192,13 @@ module _ (B : Terms → ℕ) (buys : Buys-alike B) (pl : Plan) (n : ℕ) (t : �
           one-turns = one-turns I i (valid .deep) (valid .wide) (proper .bids i l) (proper .budgets i l);
           full = copy-full I i (valid .deep) (valid .wide) (proper .bids i l) (proper .budgets i l);
         };
-        same-counts = λ i l. simulates-represents I proper (length ws) (algorithm-4 I (slots ws)) i (campaigns-after n pl ws (λ i′. fresh (t i′)) i) l (h i l);
-        next = λ w. next-slot I proper (length ws) w (algorithm-4 I (slots ws)) (campaigns-after n pl ws (λ i. fresh (t i))) h;
+        same-counts =
+            λ i l.
+            simulates-represents I proper (length ws) (algorithm-4 I (slots ws)) i
+            (campaigns-after n pl ws (λ i′. fresh (t i′)) i) l (h i l);
+        next =
+            λ w.
+            next-slot I proper (length ws) w (algorithm-4 I (slots ws)) (campaigns-after n pl ws (λ i. fresh (t i))) h;
       }
 
 pub as-algorithm-4 : As-Algorithm-4

@@ -17,7 +17,8 @@ use Rattle.campaigns.specs.declared.Terms.{Terms}
 use Rattle.campaigns.specs.declared.View.{View}
 use Rattle.campaigns.specs.Choice.{Choice, best, choice}
 use Rattle.campaigns.specs.Choice.Choice.{nobody, plays}
-use Rattle.campaigns.specs.Campaign.{whole, claim, price-fits, budget-fits, sound-plan, sound-campaign, priced, counted, uncounted, empty}
+use Rattle.campaigns.specs.Campaign.{whole, claim, price-fits, budget-fits, sound-plan, sound-campaign, priced, counted}
+use Rattle.campaigns.specs.Campaign.{uncounted, empty}
 use Rattle.campaigns.specs.View.{names, chosen-of, viewed}
 use Rattle.campaigns.proofs.Choices.{Fits, best-fits}
 use Rattle.campaigns.proofs.Laws.{plan-sized}
@@ -230,11 +231,13 @@ pub represented : Represented
 represented B buys s e wide = represents B buys s e wide
 
 made-up-sound : sound made-up ≡ true
-unfolding sound sound-record sound-plan sound-campaign priced counted uncounted empty weight share whole claim sum every table
+unfolding sound sound-record sound-plan sound-campaign priced counted uncounted empty weight share whole claim sum every
+    table
 made-up-sound = refl
 
 made-up-answered : call made-up (show-view both) .answer ≡ Played 1 3
-unfolding call first-failed sound sound-record sound-plan sound-campaign priced counted uncounted empty weight share whole claim sum count every table width-holds size within member choice best
+unfolding call first-failed sound sound-record sound-plan sound-campaign priced counted uncounted empty weight share
+    whole claim sum count every table width-holds size within member choice best
 made-up-answered = refl
 
 made-up-matched : line-4 paper 5 (names both) (variables-at paper made-up) ≡ plays 1
@@ -250,5 +253,7 @@ made-up-agrees =
       is-sound = made-up-sound;
       answered = made-up-answered;
       matched = made-up-matched;
-      after = one-slot made-up made-up-sound (omega arith) paper 5 (variables-at paper made-up) r both (rw made-up-answered) .1;
+      after =
+          one-slot made-up made-up-sound (omega arith) paper 5 (variables-at paper made-up) r both
+          (rw made-up-answered) .1;
     }

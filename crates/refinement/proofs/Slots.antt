@@ -1,5 +1,5 @@
 -- One ad slot: the variables of an advertiser and the counts of its campaign stay together through lines 3 to 11 and
--- rules 1 to 4.
+-- rules 1 to 4. By the role that the view is to the campaign: nobody matched, itself, or another.
 use mathlib.Core.Path.{_≡_, refl, ap, sym, subst, _∙_}
 use mathlib.Core.Bool.{Bool, true, false, cond, _&&_, and-true, and-false}
 use Prim.Native.Nat.{ℕ, suc, _+_, _-_, _*_, _/_, _≤_, _<_}
@@ -17,11 +17,13 @@ use Rattle.campaigns.specs.Choice.{Choice, is, role-of}
 use Rattle.campaigns.specs.Choice.Choice.{nobody, plays}
 use Rattle.campaigns.specs.Campaign.{whole, can-pay, named-again, after, aged}
 use Rattle.refinement.specs.Fraction.{Fraction, integer, _⊗_, lesser, _≈_}
-use Rattle.refinement.specs.Algorithm4.{Instance, Neighbors, Variables, C, part, feasible, feasible-neighbor, grown, line-3, line-5, line-6, line-9, lines-9-to-11}
+use Rattle.refinement.specs.Algorithm4.{Instance, Neighbors, Variables, C, part, feasible, feasible-neighbor}
+use Rattle.refinement.specs.Algorithm4.{grown, line-3, line-5, line-6, line-9, lines-9-to-11}
 use Rattle.campaigns.proofs.Choices.{Fits}
 use Rattle.refinement.proofs.Copies.{C-sum, Value, raised, below-part, reaches-part, value-zero, weight-below}
 
--- the same bid and the same number of whole plays; z_i holds the finished copies; x_{i,j} marks p slots before j, and none from j on
+-- the same bid and the same number of whole plays; z_i holds the finished copies; x_{i,j} marks p slots before j, and
+-- none from j on
 pub record Accounts (I : Instance) (j i : ℕ) (c : Campaign) (p : ℕ) (z : Fraction) (x : ℕ → ℕ) : Type 0 where
   pub bid : c .price ≡ I .b i
   pub copies : whole c ≡ I .B i / I .b i
@@ -36,7 +38,8 @@ pub record Simulates (I : Instance) (j : ℕ) (v : Variables) (i : ℕ) (c : Cam
   pub current : Value I i (weight (I .k) (I .d) (c .age)) (v .zᶜ i)
 
 -- feasible: another whole play can be paid
-pub feasible-is : (I : Instance) (j : ℕ) (v : Variables) (i p : ℕ) → 0 < I .b i → sum (suc j) (v .x i) ≡ p → feasible I v j i ≡ ltb p (I .B i / I .b i)
+pub feasible-is : (I : Instance) (j : ℕ) (v : Variables) (i p : ℕ) → 0 < I .b i → sum (suc j) (v .x i) ≡ p
+    → feasible I v j i ≡ ltb p (I .B i / I .b i)
 unfolding feasible
 feasible-is I j v i p pos e = go (ltb p (I .B i / I .b i)) refl
   where
@@ -53,7 +56,8 @@ feasible-is I j v i p pos e = go (ltb p (I .B i / I .b i)) refl
         lt-leb (I .b i) (I .B i - sum (suc j) (λ j′. I .b i * v .x i j′)) (omega (arith, spent))
 
 -- a slot that does not match i, and one that does
-passed-by : (I : Instance) (j i : ℕ) (c : Campaign) (p : ℕ) (z : Fraction) (x y : ℕ → ℕ) → ((j′ : ℕ) → y j′ ≡ x j′) → Accounts I j i c p z x → Accounts I (suc j) i c p z y
+passed-by : (I : Instance) (j i : ℕ) (c : Campaign) (p : ℕ) (z : Fraction) (x y : ℕ → ℕ) → ((j′ : ℕ) → y j′ ≡ x j′)
+    → Accounts I j i c p z x → Accounts I (suc j) i c p z y
 passed-by I j i c p z x y e a = record {
   bid = a .bid;
   copies = a .copies;
@@ -62,7 +66,8 @@ passed-by I j i c p z x y e a = record {
   later = λ j′ l. e j′ ∙ a .later j′ (omega arith);
 }
 
-marked-by : (I : Instance) (j i : ℕ) (c : Campaign) (p : ℕ) (z : Fraction) (x y : ℕ → ℕ) → y j ≡ 1 → ((j′ : ℕ) → (j′ ≡ j → ⊥) → y j′ ≡ x j′) → Accounts I j i c p z x → Accounts I (suc j) i c (p + 1) z y
+marked-by : (I : Instance) (j i : ℕ) (c : Campaign) (p : ℕ) (z : Fraction) (x y : ℕ → ℕ) → y j ≡ 1
+    → ((j′ : ℕ) → (j′ ≡ j → ⊥) → y j′ ≡ x j′) → Accounts I j i c p z x → Accounts I (suc j) i c (p + 1) z y
 marked-by I j i c p z x y one e a = record {
   bid = a .bid;
   copies = a .copies;
@@ -72,39 +77,57 @@ marked-by I j i c p z x y one e a = record {
 }
 
 -- other counts, the same turns
-recounted : (I : Instance) (j i : ℕ) (c : Campaign) (p q a : ℕ) (z : Fraction) (x : ℕ → ℕ) → Accounts I j i c p z x → Accounts I j i (named-again c q (c .turns) a) p z x
+recounted : (I : Instance) (j i : ℕ) (c : Campaign) (p q a : ℕ) (z : Fraction) (x : ℕ → ℕ) → Accounts I j i c p z x
+    → Accounts I j i (named-again c q (c .turns) a) p z x
 unfolding whole
-recounted I j i c p q a z x h = record { bid = h .bid; copies = h .copies; finished = h .finished; matched = h .matched; later = h .later }
+recounted I j i c p q a z x h =
+    record { bid = h .bid; copies = h .copies; finished = h .finished; matched = h .matched; later = h .later }
 
 -- one more finished copy
-add-part : (z t y z′ b B y′ : ℕ) → z * (1 * B) ≡ t * b * z′ → y * B ≡ b * y′ → (z * y′ + y * z′) * (1 * B) ≡ (t + 1) * b * (z′ * y′)
+add-part : (z t y z′ b B y′ : ℕ) → z * (1 * B) ≡ t * b * z′ → y * B ≡ b * y′
+    → (z * y′ + y * z′) * (1 * B) ≡ (t + 1) * b * (z′ * y′)
 add-part z t y z′ b B y′ p q = omega (arith, ap (λ x. x * y′) p, ap (λ x. x * z′) q)
 
-module _ (I : Instance) (deep : 0 < I .k) (wide : 1 < I .d) (i : ℕ) (bid-positive : 0 < I .b i) (budget-positive : 0 < I .B i) where
+module _ (I : Instance) (deep : 0 < I .k) (wide : 1 < I .d) (i : ℕ) (bids : 0 < I .b i)
+    (funds : 0 < I .B i) where
   -- a copy of less than k edges is not finished
-  pub unfinished : (N : Neighbors) (v : Variables) (a : ℕ) → a < I .k → Value I i (weight (I .k) (I .d) a) (v .zᶜ i) → line-9 I N v i ≡ false
+  pub unfinished : (N : Neighbors) (v : Variables) (a : ℕ) → a < I .k → Value I i (weight (I .k) (I .d) a) (v .zᶜ i)
+      → line-9 I N v i ≡ false
   unfinished N v a young q =
       let l : v .zᶜ i .numerator * I .B i < I .b i * v .zᶜ i .denominator =
-      below-part I i deep wide bid-positive budget-positive (v .zᶜ i) (weight (I .k) (I .d) a) q (weight-below I deep wide a young) in
-      ap (λ t. N i && t) (ne-eqb (v .zᶜ i .numerator * I .B i) (I .b i * v .zᶜ i .denominator) (λ e. omega arith)) ∙ and-false (N i)
+      below-part I i deep wide bids funds (v .zᶜ i) (weight (I .k) (I .d) a) q
+      (weight-below I deep wide a young) in
+      ap (λ t. N i && t) (ne-eqb (v .zᶜ i .numerator * I .B i) (I .b i * v .zᶜ i .denominator) (λ e. omega arith))
+      ∙ and-false (N i)
 
   -- lines 9 to 11 leave it
-  kept : (j : ℕ) (N : Neighbors) (v : Variables) (c : Campaign) → Accounts I j i c (c .plays) (v .z i) (v .x i) → c .age < I .k → Value I i (weight (I .k) (I .d) (c .age)) (v .zᶜ i)
+  kept : (j : ℕ) (N : Neighbors) (v : Variables) (c : Campaign) → Accounts I j i c (c .plays) (v .z i) (v .x i)
+      → c .age < I .k → Value I i (weight (I .k) (I .d) (c .age)) (v .zᶜ i)
       → Simulates I j (lines-9-to-11 I N v) i c
   kept j N v c a young q =
       let e : line-9 I N v i ≡ false = unfinished N v (c .age) young q in
       record {
-        accounts = record { bid = a .bid; copies = a .copies; finished = rw e (a .finished); matched = a .matched; later = a .later };
+        accounts =
+            record {
+              bid = a .bid;
+              copies = a .copies;
+              finished = rw e (a .finished);
+              matched = a .matched;
+              later = a .later;
+            };
         young = young;
         current = rw e q;
       }
 
   -- and close one that is finished
-  done : (j : ℕ) (N : Neighbors) (v : Variables) (c : Campaign) (p : ℕ) → Accounts I j i c p (v .z i) (v .x i) → N i ≡ true
-      → 0 < v .zᶜ i .denominator → v .zᶜ i .numerator * I .B i ≡ I .b i * v .zᶜ i .denominator → Simulates I j (lines-9-to-11 I N v) i (named-again c p (c .turns + 1) 0)
+  done : (j : ℕ) (N : Neighbors) (v : Variables) (c : Campaign) (p : ℕ) → Accounts I j i c p (v .z i) (v .x i)
+      → N i ≡ true
+      → 0 < v .zᶜ i .denominator → v .zᶜ i .numerator * I .B i ≡ I .b i * v .zᶜ i .denominator
+      → Simulates I j (lines-9-to-11 I N v) i (named-again c p (c .turns + 1) 0)
   unfolding whole
   done j N v c p a named positive cross =
-      let e : line-9 I N v i ≡ true = rw (named, eq-eqb (v .zᶜ i .numerator * I .B i) (I .b i * v .zᶜ i .denominator) cross) in
+      let e : line-9 I N v i ≡ true =
+      rw (named, eq-eqb (v .zᶜ i .numerator * I .B i) (I .b i * v .zᶜ i .denominator) cross) in
       record {
         accounts = record {
           bid = a .bid;
@@ -112,18 +135,22 @@ module _ (I : Instance) (deep : 0 < I .k) (wide : 1 < I .d) (i : ℕ) (bid-posit
           finished = rw e record {
             left = mul-pos (a .finished .left) positive;
             right = a .finished .right;
-            cross = add-part (v .z i .numerator) (c .turns) (v .zᶜ i .numerator) (v .z i .denominator) (I .b i) (I .B i) (v .zᶜ i .denominator) (a .finished .cross) cross;
+            cross =
+                add-part (v .z i .numerator) (c .turns) (v .zᶜ i .numerator) (v .z i .denominator) (I .b i) (I .B i)
+                (v .zᶜ i .denominator) (a .finished .cross) cross;
           };
           matched = a .matched;
           later = a .later;
         };
         young = deep;
-        current = rw e (value-zero I i deep wide bid-positive budget-positive);
+        current = rw e (value-zero I i deep wide bids funds);
       }
 
   -- can it pay, as the two sides ask it
-  pays-alike : (j : ℕ) (v : Variables) (c : Campaign) (z : Fraction) → Accounts I (suc j) i c (c .plays) z (v .x i) → feasible I v j i ≡ can-pay c
-  pays-alike j v c z a = feasible-is I j v i (c .plays) bid-positive (a .matched) ∙ ap (λ n. ltb (c .plays) n) (sym (a .copies))
+  pays-alike : (j : ℕ) (v : Variables) (c : Campaign) (z : Fraction) → Accounts I (suc j) i c (c .plays) z (v .x i)
+      → feasible I v j i ≡ can-pay c
+  pays-alike j v c z a =
+      feasible-is I j v i (c .plays) bids (a .matched) ∙ ap (λ n. ltb (c .plays) n) (sym (a .copies))
 
   module _ (j : ℕ) (N : Neighbors) (v : Variables) (c : Campaign) (f : Simulates I j v i c) where
     untouched : Accounts I (suc j) i c (c .plays) (v .z i) (v .x i)
@@ -133,12 +160,16 @@ module _ (I : Instance) (deep : 0 < I .k) (wide : 1 < I .d) (i : ℕ) (bid-posit
     able-alike = ap (λ t. N i && t) (pays-alike j v c (v .z i) untouched)
 
     -- nobody is matched
-    after-nobody : (N i && can-pay c) ≡ false → Simulates I (suc j) (lines-9-to-11 I N v) i (after (I .k) (role-of (N i) (can-pay c) false) c)
+    after-nobody : (N i && can-pay c) ≡ false
+        → Simulates I (suc j) (lines-9-to-11 I N v) i (after (I .k) (role-of (N i) (can-pay c) false) c)
     after-nobody e = go (N i) (can-pay c) e
       where
-        go : (t u : Bool) → (t && u) ≡ false → Simulates I (suc j) (lines-9-to-11 I N v) i (after (I .k) (role-of t u false) c)
+        go : (t u : Bool) → (t && u) ≡ false
+            → Simulates I (suc j) (lines-9-to-11 I N v) i (after (I .k) (role-of t u false) c)
         go false u q = kept (suc j) N v c untouched (f .young) (f .current)
-        go true false q = kept (suc j) N v (named-again c (c .plays) (c .turns) (c .age)) (recounted I (suc j) i c (c .plays) (c .plays) (c .age) (v .z i) (v .x i) untouched) (f .young) (f .current)
+        go true false q =
+            kept (suc j) N v (named-again c (c .plays) (c .turns) (c .age))
+            (recounted I (suc j) i c (c .plays) (c .plays) (c .age) (v .z i) (v .x i) untouched) (f .young) (f .current)
         go true true q = absurd (never true q refl)
 
     -- i is matched
@@ -147,11 +178,13 @@ module _ (I : Instance) (deep : 0 < I .k) (wide : 1 < I .d) (i : ℕ) (bid-posit
         marked-by I j i c (c .plays) (v .z i) (v .x i) (line-5 j i v .x i) (rw (eq-eqb i i refl, eq-eqb j j refl))
         (λ j′ h. rw (eq-eqb i i refl, ne-eqb j′ j h)) (f .accounts)
 
-    after-own : N i ≡ true → can-pay c ≡ true → Simulates I (suc j) (lines-9-to-11 I N (line-3 I j N (plays i) v)) i (after (I .k) (role-of (N i) (can-pay c) (eqb i i)) c)
+    after-own : N i ≡ true → can-pay c ≡ true
+        → Simulates I (suc j) (lines-9-to-11 I N (line-3 I j N (plays i) v)) i
+        (after (I .k) (role-of (N i) (can-pay c) (eqb i i)) c)
     after-own named able =
         let mid : Variables = line-3 I j N (plays i) v in
         let e : mid .zᶜ i ≡ part I i = rw (eq-eqb i i refl, and-false) in
-        rw (named, able, eq-eqb i i refl) (done (suc j) N mid c (c .plays + 1) own named (rw e budget-positive) (rw e))
+        rw (named, able, eq-eqb i i refl) (done (suc j) N mid c (c .plays + 1) own named (rw e funds) (rw e))
 
     -- another is matched
     module _ (m : ℕ) (other : eqb i m ≡ false) where
@@ -167,42 +200,62 @@ module _ (I : Instance) (deep : 0 < I .k) (wide : 1 < I .d) (i : ℕ) (bid-posit
 
       up-value : Value I i (weight (I .k) (I .d) (c .age + 1)) up
       unfolding up
-      up-value = raised I i deep wide bid-positive budget-positive (v .zᶜ i) (c .age) (f .young) (f .current)
+      up-value = raised I i deep wide bids funds (v .zᶜ i) (c .age) (f .young) (f .current)
 
-      after-passed : (t : Bool) → eqb (c .age + 1) (I .k) ≡ t → N i ≡ true → line-3 I j N (plays m) v .zᶜ i ≡ lesser (part I i) up
+      after-passed : (t : Bool) → eqb (c .age + 1) (I .k) ≡ t → N i ≡ true
+          → line-3 I j N (plays m) v .zᶜ i ≡ lesser (part I i) up
           → Simulates I (suc j) (lines-9-to-11 I N (line-3 I j N (plays m) v)) i (aged t c)
       after-passed true e named q =
-          let top : weight (I .k) (I .d) (c .age + 1) ≡ C I .denominator + C I .numerator = ap (weight (I .k) (I .d)) (eqb-true (c .age + 1) (I .k) e) ∙ weight-top (I .k) (I .d) ∙ sym (C-sum I) in
-          let full : up .numerator * I .B i ≡ I .b i * up .denominator = reaches-part I i deep wide bid-positive budget-positive up (weight (I .k) (I .d) (c .age + 1)) up-value top in
-          let r : line-3 I j N (plays m) v .zᶜ i ≡ part I i = q ∙ ap (λ t. cond t up (part I i)) (le-ltb (up .numerator * I .B i) (I .b i * up .denominator) (omega arith)) in
-          done (suc j) N (line-3 I j N (plays m) v) c (c .plays) row named (rw r budget-positive) (rw r)
+          let top : weight (I .k) (I .d) (c .age + 1) ≡ C I .denominator + C I .numerator =
+          ap (weight (I .k) (I .d)) (eqb-true (c .age + 1) (I .k) e) ∙ weight-top (I .k) (I .d) ∙ sym (C-sum I) in
+          let full : up .numerator * I .B i ≡ I .b i * up .denominator =
+          reaches-part I i deep wide bids funds up (weight (I .k) (I .d) (c .age + 1)) up-value top in
+          let r : line-3 I j N (plays m) v .zᶜ i ≡ part I i =
+          q ∙ ap (λ t. cond t up (part I i))
+          (le-ltb (up .numerator * I .B i) (I .b i * up .denominator) (omega arith)) in
+          done (suc j) N (line-3 I j N (plays m) v) c (c .plays) row named (rw r funds) (rw r)
       after-passed false e named q =
           let young : c .age + 1 < I .k = omega (arith, f .young, eqb-false (c .age + 1) (I .k) e) in
-          let low : up .numerator * I .B i < I .b i * up .denominator = below-part I i deep wide bid-positive budget-positive up (weight (I .k) (I .d) (c .age + 1)) up-value (weight-below I deep wide (c .age + 1) young) in
-          let r : line-3 I j N (plays m) v .zᶜ i ≡ up = q ∙ ap (λ t. cond t up (part I i)) (lt-ltb (up .numerator * I .B i) (I .b i * up .denominator) low) in
-          kept (suc j) N (line-3 I j N (plays m) v) (named-again c (c .plays) (c .turns) (c .age + 1)) (recounted I (suc j) i c (c .plays) (c .plays) (c .age + 1) (v .z i) (line-5 j m v .x i) row)
+          let low : up .numerator * I .B i < I .b i * up .denominator =
+          below-part I i deep wide bids funds up (weight (I .k) (I .d) (c .age + 1)) up-value
+          (weight-below I deep wide (c .age + 1) young) in
+          let r : line-3 I j N (plays m) v .zᶜ i ≡ up =
+          q ∙ ap (λ t. cond t up (part I i)) (lt-ltb (up .numerator * I .B i) (I .b i * up .denominator) low) in
+          kept (suc j) N (line-3 I j N (plays m) v) (named-again c (c .plays) (c .turns) (c .age + 1))
+          (recounted I (suc j) i c (c .plays) (c .plays) (c .age + 1) (v .z i) (line-5 j m v .x i) row)
           young (rw r up-value)
 
-      after-other : Simulates I (suc j) (lines-9-to-11 I N (line-3 I j N (plays m) v)) i (after (I .k) (role-of (N i) (can-pay c) (eqb i m)) c)
+      after-other : Simulates I (suc j) (lines-9-to-11 I N (line-3 I j N (plays m) v)) i
+          (after (I .k) (role-of (N i) (can-pay c) (eqb i m)) c)
       after-other = rw other (go (N i) refl (can-pay c) mid-copy)
         where
-          go : (t : Bool) → N i ≡ t → (u : Bool) → line-3 I j N (plays m) v .zᶜ i ≡ cond (t && u) (lesser (part I i) up) (v .zᶜ i)
-              → Simulates I (suc j) (lines-9-to-11 I N (line-3 I j N (plays m) v)) i (after (I .k) (role-of t u false) c)
+          go : (t : Bool) → N i ≡ t → (u : Bool)
+              → line-3 I j N (plays m) v .zᶜ i ≡ cond (t && u) (lesser (part I i) up) (v .zᶜ i)
+              → Simulates I (suc j) (lines-9-to-11 I N (line-3 I j N (plays m) v)) i
+              (after (I .k) (role-of t u false) c)
           go false e u q = kept (suc j) N (line-3 I j N (plays m) v) c row (f .young) (rw q (f .current))
           go true e false q =
-              kept (suc j) N (line-3 I j N (plays m) v) (named-again c (c .plays) (c .turns) (c .age)) (recounted I (suc j) i c (c .plays) (c .plays) (c .age) (v .z i) (line-5 j m v .x i) row)
+              kept (suc j) N (line-3 I j N (plays m) v) (named-again c (c .plays) (c .turns) (c .age))
+              (recounted I (suc j) i c (c .plays) (c .plays) (c .age) (v .z i) (line-5 j m v .x i) row)
               (f .young) (rw q (f .current))
           go true e true q = after-passed (eqb (c .age + 1) (I .k)) refl e q
 
     -- whomever line 4 matches among the feasible neighbors
-    pub after-slot : (m : Choice) → Fits (I .n) (feasible-neighbor I v j N) m → i < I .n → Simulates I (suc j) (lines-9-to-11 I N (line-3 I j N m v)) i (after (I .k) (role-of (N i) (can-pay c) (is m i)) c)
+    pub after-slot : (m : Choice) → Fits (I .n) (feasible-neighbor I v j N) m → i < I .n
+        → Simulates I (suc j) (lines-9-to-11 I N (line-3 I j N m v)) i
+        (after (I .k) (role-of (N i) (can-pay c) (is m i)) c)
     after-slot nobody none l = after-nobody (sym able-alike ∙ none i l)
     after-slot (plays m) one l = go (eqb i m) refl
       where
-        go : (t : Bool) → eqb i m ≡ t → Simulates I (suc j) (lines-9-to-11 I N (line-3 I j N (plays m) v)) i (after (I .k) (role-of (N i) (can-pay c) (eqb i m)) c)
+        go : (t : Bool) → eqb i m ≡ t
+            → Simulates I (suc j) (lines-9-to-11 I N (line-3 I j N (plays m) v)) i
+            (after (I .k) (role-of (N i) (can-pay c) (eqb i m)) c)
         go true e =
             let q : i ≡ m = eqb-true i m e in
             let both : (N i && can-pay c) ≡ true = sym able-alike ∙ ap (feasible-neighbor I v j N) q ∙ one .1 in
-            subst (λ r. Simulates I (suc j) (lines-9-to-11 I N (line-3 I j N (plays r) v)) i (after (I .k) (role-of (N i) (can-pay c) (eqb i r)) c)) q
+            subst
+            (λ r.
+            Simulates I (suc j) (lines-9-to-11 I N (line-3 I j N (plays r) v)) i
+            (after (I .k) (role-of (N i) (can-pay c) (eqb i r)) c)) q
             (after-own (both-left (N i) (can-pay c) both) (both-right (N i) (can-pay c) both))
         go false e = after-other m e

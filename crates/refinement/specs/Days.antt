@@ -23,9 +23,11 @@ instance-of B h = instance B (h .plan) (length (h .terms)) (terms-of h)
 -- the day h, at whose end the state is s: each view got the answer that Algorithm 4 gives, with the price of the one
 -- matched, and the tallies represent its variables
 pub record Day-agrees (B : Terms → ℕ) (h : History) (s : Day) : Type 0 where
-  pub same-answers : h .answers ≡ map (view-answer (λ i. terms-of h i .price)) (matches (instance-of B h) (slots (h .views)))
+  pub same-answers : h .answers
+      ≡ map (view-answer (λ i. terms-of h i .price)) (matches (instance-of B h) (slots (h .views)))
   pub same-tallies : (i : ℕ) → i < length (h .terms)
-      → Represents (instance-of B h) (length (h .views)) (algorithm-4 (instance-of B h) (slots (h .views))) i (campaign s i)
+      → Represents (instance-of B h) (length (h .views)) (algorithm-4 (instance-of B h) (slots (h .views))) i
+      (campaign s i)
 
 abbrev pub Days-as-Algorithm-4 : Type 0
 Days-as-Algorithm-4 = (B : Terms → ℕ) → Buys-alike B → (s : Day) (cs : List Call) → Starts s cs

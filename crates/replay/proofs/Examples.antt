@@ -19,12 +19,19 @@ use Rattle.floor.specs.History.Starts.{from-blank, from-opening}
 use Rattle.replay.specs.Replay.{call-in, decode}
 use Rattle.replay.specs.Examples.{Example, Examples, listing, listed, next-day}
 
-example : (s : Day) (words : List ℕ) (calls : List Call) (paid : ℕ) → decode words ≡ calls → Starts s calls → day-takings (history (transcript s calls)) ≡ paid → Example s words calls paid
+example : (s : Day) (words : List ℕ) (calls : List Call) (paid : ℕ) → decode words ≡ calls → Starts s calls
+    → day-takings (history (transcript s calls)) ≡ paid → Example s words calls paid
 example s words calls paid e st p =
     let here : Starts s (decode words) = subst⁻¹ (Starts s) e st in
-    let sum-is : day-takings (history (transcript s (decode words))) ≡ paid = ap (λ (cs : List Call). day-takings (history (transcript s cs))) e ∙ p in
+    let sum-is : day-takings (history (transcript s (decode words))) ≡ paid =
+    ap (λ (cs : List Call). day-takings (history (transcript s cs))) e ∙ p in
     record { encodes = e; starts = here; pays = λ r q. (q .paid-is ∙ sum-is, q .demand-3 here .takings-is ∙ sum-is) }
 
 pub examples : Examples
-unfolding call-in decode transcript final continued call first-failed sound sound-record blank sum count every table total within size member width-holds weight share whole claim total-takings total-claim total-budgets sound-plan priced counted uncounted empty sound-campaign best choice
-examples = (example blank listing listed 16 refl (from-blank listed) refl, example (final blank listed) next-day _ 2 refl (from-opening (final blank listed) _ _ refl) refl)
+unfolding call-in decode transcript final continued call first-failed sound sound-record blank sum count every table
+    total within size member width-holds weight share whole claim total-takings total-claim total-budgets sound-plan
+    priced counted uncounted empty sound-campaign best choice
+examples = (
+  example blank listing listed 16 refl (from-blank listed) refl,
+  example (final blank listed) next-day _ 2 refl (from-opening (final blank listed) _ _ refl) refl,
+)

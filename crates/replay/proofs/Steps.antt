@@ -31,7 +31,8 @@ use Rattle.day.proofs.State.{Sound, sound-facts, held-at}
 use Rattle.demands.specs.Choice.{Right}
 use Rattle.demands.specs.Transcript.{Exchange, transcript, final}
 use Rattle.demands.proofs.Choice.{player-right}
-use Rattle.floor.specs.History.{accepted, paid-in, History, day-takings, opening, with-call, entered, continued, history}
+use Rattle.floor.specs.History.{accepted, paid-in, History, day-takings, opening, with-call, entered, continued}
+use Rattle.floor.specs.History.{history}
 use Rattle.floor.specs.Floor.{Floor}
 use Rattle.floor.proofs.Floor.{demand-3}
 use Rattle.replay.specs.declared.Replayed.{Replayed}
@@ -122,7 +123,8 @@ module _ (s : Day) (p : ℕ) (c : Call) (o : Outcome) (e : o ≡ call s c) (x : 
     (paid : (h : History) → day-takings h ≡ p → day-takings (entered h (exchange c (o .answer))) ≡ x) where
   pub one-call : Runs s p (c ∷ []) (at (o .day) x)
   unfolding final transcript continued
-  one-call h q = subst (λ (r : Outcome). at (o .day) x ≡ at (r .day) (day-takings (entered h (exchange c (r .answer))))) e
+  one-call h q =
+      subst (λ (r : Outcome). at (o .day) x ≡ at (r .day) (day-takings (entered h (exchange c (r .answer))))) e
       (ap (at (o .day)) (sym (paid h q)))
 
 module _ (s : Day) (p : ℕ) (pl : Plan) (o : Outcome) (e : o ≡ call s (open-plan pl)) where
@@ -164,13 +166,15 @@ module _ (ws : List ℕ) where
   cons : (j k : ℕ) → k ≡ suc j → j < length ws → drop j ws ≡ getD ws j 0 ∷ drop k ws
   cons j k e h = rw e (drop-cons ws j 0 h)
 
-  three : (i : ℕ) → i + 3 ≤ length ws → drop i ws ≡ getD ws i 0 ∷ getD ws (i + 1) 0 ∷ getD ws (i + 2) 0 ∷ drop (i + 3) ws
+  three : (i : ℕ) → i + 3 ≤ length ws
+      → drop i ws ≡ getD ws i 0 ∷ getD ws (i + 1) 0 ∷ getD ws (i + 2) 0 ∷ drop (i + 3) ws
   three i h =
       cons i (i + 1) (omega arith) (omega arith)
       ∙ ap (λ (l : List ℕ). getD ws i 0 ∷ l) (cons (i + 1) (i + 2) (omega arith) (omega arith)
       ∙ ap (λ (l : List ℕ). getD ws (i + 1) 0 ∷ l) (cons (i + 2) (i + 3) (omega arith) (omega arith)))
 
--- What is left to run at word i of ws, from the state s₁ and the takings p, comes to what the whole list comes to from s.
+-- What is left to run at word i of ws, from the state s₁ and the takings p, comes to what the whole list comes to from
+-- s.
 pub record Rest (s : Day) (ws : List ℕ) (i : ℕ) (s₁ : Day) (p : ℕ) : Type 0 where
   pub day : History
   pub takings-are : day-takings day ≡ p

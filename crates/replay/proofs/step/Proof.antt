@@ -48,7 +48,8 @@ returns-2 c =
     let a = c .before .before .before .args in
     rw (c .before .before .match .keys2)
     (rw (c .keep .ensures)
-    (unpaid (a .day) (a .paid) (add-campaign (record { price = a .a; budget = a .b })) (c .before .add .result) (c .before .add .ensures) (λ h x. refl)))
+    (unpaid (a .day) (a .paid) (add-campaign (record { price = a .a; budget = a .b })) (c .before .add .result)
+    (c .before .add .ensures) (λ h x. refl)))
 
 returns-3 : tie.Need-returns-3
 unfolding call-in
