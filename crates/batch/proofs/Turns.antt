@@ -8,7 +8,7 @@ use lib.Seq.{take-add, drop-drop}
 use Rattle.buffer.specs.Buffer.{Put}
 use Rattle.day.specs.declared.Day.{Day}
 use Rattle.reply.specs.Reply.{reply, next}
-use Rattle.reply.proofs.Over.{put-then}
+use Rattle.buffer.proofs.Puts.{put-then}
 use Rattle.reply.specs.Session.{Session, longer, ended, fed, consumed-count, upto}
 use Rattle.batch.specs.Contracts.{Position, line-of, Line, Progress}
 use Rattle.reply.proofs.Sessions.{fed-append, line-fed, consumed-line}

@@ -8,7 +8,8 @@ use Rattle.day.specs.declared.Day.{Day}
 use Rattle.reply.specs.Reply.{reply, next}
 use Rattle.batch.specs.declared.Cursor.{Cursor}
 use Rattle.day.specs.Day.{state-of}
-use Rattle.reply.specs.Session.{Session, fed, consumed-count, upto}
+use Rattle.lines.specs.Limits.{line-buffer}
+use Rattle.reply.specs.Session.{Session, reply-room, fed, consumed-count, upto}
 
 -- the state, how many bytes of a line are pending, and the places in the input and in the buffer for answers
 pub record Position : Type 0 where
@@ -22,7 +23,7 @@ position c t n = record { day = state-of (c .turn .head) t n; kept = c .kept; fr
 
 -- what is held of a line of which the first k bytes of h and the bytes w are known
 abbrev pub line-of : (h : List ℕ) → (k : ℕ) → (w : List ℕ) → List ℕ
-line-of h k w = take 201 (take k h ++ w)
+line-of h k w = take line-buffer (take k h ++ w)
 
 -- a turn from t to r: a line ends in what is left of the input, l; d is the buffer for answers, which became e
 pub record Line (t : Position) (h l d e : List ℕ) (r : Position) : Type 0 where
@@ -30,7 +31,7 @@ pub record Line (t : Position) (h l d e : List ℕ) (r : Position) : Type 0 wher
   pub kept : r .kept ≡ 0
   pub from : r .from ≡ t .from + suc (upto l)
   pub put : Put d e (t .at) (r .at) (reply (t .day) (line-of h (t .kept) (take (upto l) l)))
-  pub fits : r .at ≤ t .at + 16384
+  pub fits : r .at ≤ t .at + reply-room
 
 -- x after the first bytes of l: t says its state and places, h what the line buffer has, and e the answers
 pub record Progress (x : Session) (l d : List ℕ) (t : Position) (h e : List ℕ) : Type 0 where
@@ -40,23 +41,23 @@ pub record Progress (x : Session) (l d : List ℕ) (t : Position) (h e : List �
   pub taken : consumed-count (length d) x l
       ≡ t .from + consumed-count (length d) (fed x (take (t .from) l)) (drop (t .from) l)
   pub inside : t .from ≤ length l
-  pub few : t .kept ≤ 201
-  pub wide : length h ≡ 201
+  pub few : t .kept ≤ line-buffer
+  pub wide : length h ≡ line-buffer
   pub fits : t .at ≤ length d
 
--- where a byte is kept, the n bytes of g are the line whose front the k bytes of h are, up to 201 of it; else n and
+-- where a byte is kept, the n bytes of g are the line whose front the k bytes of h are, as much as is held of it; else n and
 -- g are free
 pub record Completed (h : List ℕ) (k : ℕ) (s g : List ℕ) (n : ℕ) : Type 0 where
   pub some : (k ≡ 0 → ⊥) → take n g ≡ line-of h k s
-  pub few : n ≤ 201
-  pub wide : length g ≡ 201
+  pub few : n ≤ line-buffer
+  pub wide : length g ≡ line-buffer
 
 -- From p to q all lines of l are answered that end in it, as far as there is room: what stood at p, with the pending
 -- bytes g and the answers e, stands at q, with h and f.
 pub record Batch (l : List ℕ) (p : Position) (g e : List ℕ) (q : Position) (h f : List ℕ) : Type 0 where
   pub moves : (x : Session) (d : List ℕ) → Progress x l d p g e → Progress x l d q h f
-  pub ends : (q .at + 16384 ≤ length f) → upto (drop (q .from) l) ≡ length (drop (q .from) l)
+  pub ends : (q .at + reply-room ≤ length f) → upto (drop (q .from) l) ≡ length (drop (q .from) l)
   pub inside : q .from ≤ length l
   pub fits : q .at ≤ length f
-  pub few : q .kept ≤ 201
-  pub wide : length h ≡ 201
+  pub few : q .kept ≤ line-buffer
+  pub wide : length h ≡ line-buffer

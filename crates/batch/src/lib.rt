@@ -1,4 +1,5 @@
 // Lines that lie whole in the input, each answered in place.
+use lines::slots::LINE_BUFFER;
 use reply::ROOM;
 use reply::line::Turn;
 use reply::line::answer_at;
@@ -6,6 +7,7 @@ ghost use mathlib.Core.Path.{_≡_};
 ghost use mathlib.Core.Bool.{cond};
 ghost use Prim.Native.Nat.{_+_, _≤_};
 ghost use lib.ListN.{length, take, drop};
+ghost use Rattle.lines.specs.Limits.{line-buffer};
 ghost use Rattle.reply.specs.Session.{upto};
 ghost use Rattle.day.specs.Contracts.{Ready};
 ghost use Rattle.batch.specs.Contracts.{line-of, position, Completed, Batch};
@@ -32,17 +34,17 @@ pub fn line_end(s: &[u8], at: usize) -> usize
     i
 }
 
-// The bytes of s behind those that are kept, up to 201 in all.
+// The bytes of s behind those that are kept, as far as a line is held.
 pub fn keep(pending: &mut [u8], kept: usize, s: &[u8]) -> usize
-    requires { ⌜ (kept ≤ 201) × (length (now pending) ≡ 201) ⌝ }
-    ensures { λ r. ⌜ (r ≤ 201) × (take r (now (pending .exit))
+    requires { ⌜ (kept ≤ line-buffer) × (length (now pending) ≡ line-buffer) ⌝ }
+    ensures { λ r. ⌜ (r ≤ line-buffer) × (take r (now (pending .exit))
         ≡ line-of (now (pending .entry)) kept (now (s .entry))) ⌝ }
-    ensures { λ _. ⌜ length (now (pending .exit)) ≡ 201 ⌝ }
+    ensures { λ _. ⌜ length (now (pending .exit)) ≡ line-buffer ⌝ }
 {
     let mut n = kept;
     let mut i = 0;
     while i < s.len() {
-        if n >= 201 {
+        if n >= LINE_BUFFER {
             return n;
         }
         pending[n] = s[i];
@@ -54,7 +56,7 @@ pub fn keep(pending: &mut [u8], kept: usize, s: &[u8]) -> usize
 
 // The same where a byte is kept; a line that lies whole in the input is not copied.
 fn complete(pending: &mut [u8], kept: usize, s: &[u8]) -> usize
-    requires { ⌜ (kept ≤ 201) × (length (now pending) ≡ 201) ⌝ }
+    requires { ⌜ (kept ≤ line-buffer) × (length (now pending) ≡ line-buffer) ⌝ }
     ensures { λ r. ⌜ Completed (now (pending .entry)) kept (now (s .entry)) (now (pending .exit)) r ⌝ }
 {
     if kept == 0 {
@@ -83,7 +85,7 @@ pub fn run_batch<'a>(
     terms: &'a mut [u32; 128],
     counts: &'a mut [u16; 256],
 ) -> Cursor
-    requires { ⌜ (t .kept ≤ 201) × (length (now pending) ≡ 201) × (t .from ≤ length (now input))
+    requires { ⌜ (t .kept ≤ line-buffer) × (length (now pending) ≡ line-buffer) × (t .from ≤ length (now input))
         × (t .turn .at ≤ length (now out)) ⌝ }
     requires { ⌜ Ready (t .turn .sound) (t .turn .head) (now list) (now terms) (now counts) ⌝ }
     ensures { λ r. ⌜ Batch (now (input .entry)) (position t (now (terms .entry)) (now (counts .entry)))

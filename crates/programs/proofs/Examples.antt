@@ -4,16 +4,17 @@
 use mathlib.Core.Path.{_≡_, refl, sym, ap, _∙_, subst, subst⁻¹}
 use mathlib.Core.Bool.{Bool, cond}
 use mathlib.Core.List.{List, [], _∷_, _++_}
-use Prim.Native.Nat.{ℕ, suc, _+_, _≤_}
+use Prim.Native.Nat.{ℕ, suc, _+_, _-_, _≤_}
 use native.Mathlib.Omega.{arith}
-use lib.ListN.{length, take, drop, length-append}
-use lib.Seq.{take-length, drop-length}
+use lib.ListN.{length, take, drop, replicate, length-append}
+use lib.Seq.{take-length, take-append-seam, drop-length}
 use borrow.Author.Tests.{le-leb}
 use Rattle.finite.specs.Finite.{sum, count, every, table}
 use Rattle.sets.specs.Set.{member, size, within}
 use Rattle.powers.specs.Power.{weight, share}
 use Rattle.campaigns.specs.Choice.{best, choice}
 use Rattle.campaigns.specs.Campaign.{whole, claim, sound-plan, priced, counted, uncounted, empty, sound-campaign}
+use Rattle.lines.specs.Limits.{line-buffer}
 use Rattle.lines.specs.Numeral.{numeral, numeral-in}
 use Rattle.lines.specs.Form.{bytes, template, in-slot, in-range, text, filled, slot-text, names-text, piece, numbers}
 use Rattle.lines.specs.Form.{numbers-after}
@@ -29,7 +30,8 @@ use Rattle.reply.specs.Session.{Session, after-byte, fed, consumed-count, upto}
 use Rattle.reply.proofs.Sessions.{fed-append}
 use Rattle.stream.specs.declared.feed.Stream.{Stream}
 use Rattle.stream.specs.declared.feed.Fed.{Fed}
-use Rattle.stream.specs.Stream.{finished, new-stream, session-of, silent, Holds, Feeds, Finishes}
+use Rattle.stream.specs.Stream.{finished, new-stream, session-of, silent, stream-of, handed-back, answered-in}
+use Rattle.stream.specs.Stream.{Comes-to, Feeds, Finishes}
 use Rattle.stream.specs.Chunking.{joined, Plain, All-plain, after-lines, replies, last-reply, Split}
 use Rattle.stream.specs.Chunking.{Feeding, Takes, stream-after, written}
 use Rattle.stream.proofs.Chunking.{fed-said, fed-lines, any-chunking}
@@ -38,29 +40,13 @@ use Rattle.programs.specs.Examples.{Handed, lines-of, first-block, secon
 
 -- What is handed back.
 
--- the stream that holds y, its answers handed over
-abbrev kept-of : Session → Stream
-kept-of y = record { day = y .day; pending = y .pending; kept = length (y .pending) }
+session-kept : (y : Session) → session-of (stream-of y) ≡ silent y
+session-kept y =
+    ap (λ (l : List ℕ). record { day = y .day; pending = l; output = [] })
+    (take-append-seam (y .pending) (replicate (line-buffer - length (y .pending)) 0))
 
-abbrev handed-back : Session → (consumed : ℕ) → Fed
-handed-back y n = record { stream = kept-of y; consumed = n; written = length (y .output) }
-
--- the buffer d with the answers at its front
-abbrev put-in : Session → (d : List ℕ) → List ℕ
-put-in y d = y .output ++ drop (length (y .output)) d
-
-session-kept : (y : Session) → session-of (kept-of y) ≡ silent y
-session-kept y = ap (λ (l : List ℕ). record { day = y .day; pending = l; output = [] }) (take-length (y .pending))
-
-holds-kept : (y : Session) (d : List ℕ) → Holds y d (put-in y d) (kept-of y) (length (y .output))
-holds-kept y d = record {
-  day = refl;
-  pending = take-length (y .pending);
-  kept-is = refl;
-  length-is = refl;
-  front = refl;
-  fits = omega (arith, length-append (y .output) (drop (length (y .output)) d));
-}
+come : (y : Session) (n : ℕ) (d : List ℕ) → Comes-to y n d (answered-in y d) (handed-back y n)
+come y n d = record { back-is = refl; out-is = refl }
 
 -- One block.
 
@@ -82,28 +68,23 @@ module _ (k : Stream) (l d : List ℕ) (room : length (fed (session-of k) l .out
   abbrev fed-block : Session
   fed-block = fed (session-of k) l
 
-  feeds-all : Feeds k l d (put-in fed-block d) (handed-back fed-block (length l))
+  feeds-all : Feeds k l d (answered-in fed-block d) (handed-back fed-block (length l))
   feeds-all =
       let n : consumed-count (length d) (session-of k) l ≡ length l = all-consumed (length d) (session-of k) l room in
-      record {
-        consumed = sym n;
-        inside = omega arith;
-        holds = subst⁻¹
-            (λ (m : List ℕ).
-            Holds (fed (session-of k) m) d (put-in fed-block d) (kept-of fed-block) (length (fed-block .output)))
-            (ap (λ (i : ℕ). take i l) n ∙ take-length l)
-            (holds-kept fed-block d);
-      }
+      let all : fed-block ≡ fed (session-of k) (take (length l) l) = ap (fed (session-of k)) (sym (take-length l)) in
+      subst⁻¹
+      (λ (i : ℕ).
+      Comes-to (fed (session-of k) (take i l)) i d (answered-in fed-block d) (handed-back fed-block (length l)))
+      n
+      (subst (λ (y : Session). Comes-to y (length l) d (answered-in fed-block d) (handed-back fed-block (length l)))
+      all (come fed-block (length l) d))
 
 finishes-all : (k : Stream) (d : List ℕ) → 16384 ≤ length d
-    → Finishes k d (put-in (finished (session-of k)) d) (handed-back (finished (session-of k)) 0)
+    → Finishes k d (answered-in (finished (session-of k)) d) (handed-back (finished (session-of k)) 0)
 finishes-all k d room =
     let z = finished (session-of k) in
-    record {
-      consumed = refl;
-      holds = subst⁻¹ (λ (b : Bool). Holds (cond b z (session-of k)) d (put-in z d) (kept-of z) (length (z .output)))
-          (le-leb 16384 (length d) room) (holds-kept z d);
-    }
+    subst⁻¹ (λ (b : Bool). Comes-to (cond b z (session-of k)) 0 d (answered-in z d) (handed-back z 0))
+    (le-leb 16384 (length d) room) (come z 0 d)
 
 -- Any blocks.
 
@@ -114,18 +95,18 @@ feedings d k (b ∷ bs) =
       block = b;
       later = whole-of bs;
       before = d;
-      after = put-in (fed (session-of k) b) d;
+      after = answered-in (fed (session-of k) b) d;
       back = handed-back (fed (session-of k) b) (length b);
-    } ∷ feedings d (kept-of (fed (session-of k) b)) bs
+    } ∷ feedings d (stream-of (fed (session-of k) b)) bs
 
 blocks-same : (d : List ℕ) (k : Stream) (bs : List (List ℕ)) → blocks-of (feedings d k bs) ≡ bs
 blocks-same d k [] = refl
-blocks-same d k (b ∷ bs) = ap (λ (l : List (List ℕ)). b ∷ l) (blocks-same d (kept-of (fed (session-of k) b)) bs)
+blocks-same d k (b ∷ bs) = ap (λ (l : List (List ℕ)). b ∷ l) (blocks-same d (stream-of (fed (session-of k) b)) bs)
 
 -- the answers to a block and to what follows it, in bytes
 answers-add : (k : Stream) (b m : List ℕ)
     → length (fed (session-of k) (b ++ m) .output)
-    ≡ length (fed (session-of k) b .output) + length (fed (session-of (kept-of (fed (session-of k) b))) m .output)
+    ≡ length (fed (session-of k) b .output) + length (fed (session-of (stream-of (fed (session-of k) b))) m .output)
 answers-add k b m =
     let y = fed (session-of k) b in
     ap (λ (s : Session). length (s .output)) (fed-append (session-of k) b m ∙ fed-said y m)
@@ -136,7 +117,7 @@ takes-all : (d : List ℕ) (k : Stream) (bs : List (List ℕ))
     → length (fed (session-of k) (whole-of bs) .output) + 16384 ≤ length d → Takes k (whole-of bs) (feedings d k bs)
 takes-all d k [] h = refl
 takes-all d k (b ∷ bs) h =
-    let n = kept-of (fed (session-of k) b) in
+    let n = stream-of (fed (session-of k) b) in
     let m = whole-of bs in
     let q = answers-add k b m in (
       refl,
@@ -160,10 +141,10 @@ any-blocks bs i d room =
       feedings = fs;
       blocks-are = blocks-same d new-stream bs;
       takes = t;
-      after = put-in z d;
+      after = answered-in z d;
       back = handed-back z 0;
       finishes = h;
-      writes = any-chunking (whole-of bs) fs t d (put-in z d) (handed-back z 0) some h
+      writes = any-chunking (whole-of bs) fs t d (answered-in z d) (handed-back z 0) some h
           (i .lines) (i .rest) (i .lines-plain) (i .rest-plain) (i .whole);
     }
 

@@ -7,6 +7,7 @@ use Prim.Native.String.{String}
 use lib.ListN.{length, take}
 use Rattle.lines.specs.Form.{bytes}
 use Rattle.day.specs.Day.{blank}
+use Rattle.reply.specs.Session.{reply-room}
 use Rattle.stream.specs.declared.feed.Fed.{Fed}
 use Rattle.stream.specs.Stream.{new-stream, Finishes}
 use Rattle.stream.specs.Chunking.{joined, after-lines, replies, last-reply, Split}
@@ -35,7 +36,7 @@ pub record Handed (blocks : List (List ℕ)) (d w : List ℕ) : Type 0 where
 abbrev pub Any-blocks : Type 0
 Any-blocks =
     (blocks : List (List ℕ)) (i : Split (whole-of blocks)) (d : List ℕ)
-    → length (replies blank (i .lines)) + 16384 ≤ length d
+    → length (replies blank (i .lines)) + reply-room ≤ length d
     → Handed blocks d (replies blank (i .lines) ++ last-reply (after-lines blank (i .lines)) (i .rest))
 
 -- lines of text, each ended by byte 10

@@ -12,6 +12,7 @@ use Rattle.day.specs.declared.Answer.the-variants.{Nobody as no-one, Tallied as
 use Rattle.day.specs.declared.Day.{Day}
 use Rattle.reply.specs.Reply.{Request, reply, next}
 use Rattle.reply.specs.Reply.Request.{makes, fails}
+use Rattle.reply.specs.Session.{reply-room}
 
 -- the numbers of the answer's line are in their ranges
 abbrev pub answer-in-range : Answer → Bool
@@ -32,4 +33,4 @@ unsound-number (fails q) = q
 pub record Written (s : Day) (l d e : List ℕ) (at : ℕ) (r : Day) (to : ℕ) : Type 0 where
   pub day : r ≡ next s l
   pub put : Put d e at to (reply s l)
-  pub fits : to ≤ at + 16384
+  pub fits : to ≤ at + reply-room

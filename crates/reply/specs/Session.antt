@@ -5,7 +5,12 @@ use Prim.Native.Nat.{ℕ, suc, _+_}
 use lib.Dec.{leb, eqb}
 use lib.ListN.{length, take}
 use Rattle.day.specs.declared.Day.{Day}
+use Rattle.lines.specs.Limits.{line-buffer}
 use Rattle.reply.specs.Reply.{reply, next}
+
+-- room for the longest answer: a closing line and 64 tallies
+abbrev pub reply-room : ℕ
+reply-room = 16384
 
 -- the state, what is held of an unfinished line, and the answers so far
 pub record Session : Type 0 where
@@ -13,9 +18,9 @@ pub record Session : Type 0 where
   pub pending : List ℕ
   pub output : List ℕ
 
--- The bytes w more of a line. 201 bytes are held at most: a line over 200 bytes is answered 16 whatever it is.
+-- The bytes w more of a line. No more are held than tell that it is too long: such a line is answered 16 whatever it is.
 abbrev pub longer : Session → List ℕ → Session
-longer x w = record { day = x .day; pending = take 201 (x .pending ++ w); output = x .output }
+longer x w = record { day = x .day; pending = take line-buffer (x .pending ++ w); output = x .output }
 
 -- the line ends and is answered
 abbrev pub ended : Session → Session
@@ -33,7 +38,7 @@ fed x (b ∷ l) = fed (after-byte x b) l
 -- longest answer
 unfoldable pub consumed-count : ℕ → Session → List ℕ → ℕ
 consumed-count n x [] = 0
-consumed-count n x (b ∷ l) = cond (leb (length (x .output) + 16384) n) (suc (consumed-count n (after-byte x b) l)) 0
+consumed-count n x (b ∷ l) = cond (leb (length (x .output) + reply-room) n) (suc (consumed-count n (after-byte x b) l)) 0
 
 -- how many bytes stand before the first byte 10
 unfoldable pub upto : List ℕ → ℕ

@@ -7,6 +7,7 @@ ghost use mathlib.Core.Path.{_≡_};
 ghost use mathlib.Core.Bool.{true};
 ghost use Prim.Native.Nat.{_+_, _≤_, _<_};
 ghost use lib.ListN.{length};
+ghost use Rattle.lines.specs.Limits.{answer-room};
 ghost use Rattle.lines.specs.Form.{in-range};
 ghost use Rattle.writer.specs.Writing.{line};
 ghost use Rattle.buffer.specs.Buffer.{Put};
@@ -16,7 +17,7 @@ ghost use Rattle.reply.specs.Contracts.{answer-in-range};
 
 // The line of a record that is in its ranges, at the place at.
 fn write_record(r: Record, out: &mut [u8], at: usize) -> usize
-    requires { ⌜ (in-range r ≡ true) × (at + 201 ≤ length (now out)) ⌝ }
+    requires { ⌜ (in-range r ≡ true) × (at + answer-room ≤ length (now out)) ⌝ }
     ensures { λ to. ⌜ Put (now (out .entry)) (now (out .exit)) at to (line r) ⌝ }
 {
     match writer::write_line(r, &mut out[at..]) {
@@ -27,8 +28,8 @@ fn write_record(r: Record, out: &mut [u8], at: usize) -> usize
 
 // The answer's first line, or none for a tally, which no line asks for.
 pub fn write_answer(answer: Answer, out: &mut [u8], at: usize) -> usize
-    requires { ⌜ (answer-in-range answer ≡ true) × (at + 201 ≤ length (now out)) ⌝ }
-    ensures { λ r. ⌜ Put (now (out .entry)) (now (out .exit)) at r (answer-line answer) × (r ≤ at + 201) ⌝ }
+    requires { ⌜ (answer-in-range answer ≡ true) × (at + answer-room ≤ length (now out)) ⌝ }
+    ensures { λ r. ⌜ Put (now (out .entry)) (now (out .exit)) at r (answer-line answer) × (r ≤ at + answer-room) ⌝ }
 {
     match answer {
         Answer::Refused(question) => write_record(Record::Refused(question), out, at),

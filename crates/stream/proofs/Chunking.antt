@@ -2,20 +2,21 @@
 use mathlib.Core.Path.{_≡_, refl, sym, ap, ap₂, _∙_, subst, subst⁻¹}
 use mathlib.Core.Bool.{Bool, true, false, cond}
 use mathlib.Core.List.{List, [], _∷_, _++_, append-assoc, append-nil}
-use Prim.Native.Nat.{ℕ, suc, _≤_}
+use Prim.Native.Nat.{ℕ, suc, _+_, _-_, _≤_}
 use native.Mathlib.Omega.{arith}
-use lib.Dec.{eqb}
-use lib.ListN.{length, take, drop, take-append-drop}
+use lib.Dec.{leb, eqb}
+use lib.ListN.{length, take, drop, replicate, take-append-drop, length-append}
 use lib.Seq.{take-append-seam}
 use borrow.Author.Tests.{eqb-true, le-leb}
 use Rattle.day.specs.declared.Day.{Day}
 use Rattle.day.specs.Day.{blank}
 use Rattle.reply.specs.Reply.{reply, next}
-use Rattle.reply.specs.Session.{Session, longer, ended, after-byte, fed, upto}
+use Rattle.lines.specs.Limits.{line-buffer}
+use Rattle.reply.specs.Session.{Session, reply-room, longer, ended, after-byte, fed, consumed-count, upto}
 use Rattle.reply.proofs.Sessions.{cut-reply, cut-next, fed-append, byte-plain, byte-end}
 use Rattle.stream.specs.declared.feed.Stream.{Stream}
 use Rattle.stream.specs.declared.feed.Fed.{Fed}
-use Rattle.stream.specs.Stream.{finished, session, new-stream, session-of, silent, Holds, Finishes}
+use Rattle.stream.specs.Stream.{finished, session, new-stream, session-of, silent, Comes-to, Feeds, Finishes}
 use Rattle.stream.specs.Chunking.{joined, Plain, All-plain, after-lines, replies, Split, Feeding, Takes}
 use Rattle.stream.specs.Chunking.{stream-after, written, last-reply, Any-input, Any-chunking}
 use Rattle.batch.proofs.Rests.{rest-fed}
@@ -48,12 +49,38 @@ fed-said x (b ∷ l) = go (eqb b 10) refl (fed-said (ended x) l) (fed-said (ende
 -- In blocks.
 
 -- what is put at the front is what was said
-pub front-said : {y : Session} {d e : List ℕ} {k : Stream} {n : ℕ} → Holds y d e k n → take n e ≡ y .output
-front-said {y} {d} {e} {k} {n} h = ap₂ (λ (i : ℕ) (l : List ℕ). take i l) (h .length-is) (h .front) ∙ take-append-seam (y .output) (drop (length (y .output)) d)
+pub front-said : {y : Session} {n : ℕ} {d e : List ℕ} {r : Fed} → Comes-to y n d e r → take (r .written) e ≡ y .output
+front-said {y} {n} {d} h =
+    ap₂ (λ (b : Fed) (l : List ℕ). take (b .written) l) (h .back-is) (h .out-is)
+    ∙ take-append-seam (y .output) (drop (length (y .output)) d)
 
 -- the next block begins where the last one left off, its answers handed over
-pub session-next : {y : Session} {d e : List ℕ} {k : Stream} {n : ℕ} → Holds y d e k n → session-of k ≡ silent y
-session-next h = ap₂ (λ (s : Day) (l : List ℕ). record { day = s; pending = l; output = [] }) (h .day) (h .pending)
+pub session-next : {y : Session} {n : ℕ} {d e : List ℕ} {r : Fed} → Comes-to y n d e r → session-of (r .stream) ≡ silent y
+session-next {y} h =
+    ap (λ (b : Fed). session-of (b .stream)) (h .back-is)
+    ∙ ap (λ (l : List ℕ). record { day = y .day; pending = l; output = [] })
+    (take-append-seam (y .pending) (replicate (line-buffer - length (y .pending)) 0))
+
+-- places lie inside
+pub count-inside : (n : ℕ) (x : Session) (l : List ℕ) → consumed-count n x l ≤ length l
+unfolding consumed-count
+count-inside n x [] = omega arith
+count-inside n x (b ∷ l) = go (leb (length (x .output) + reply-room) n) (count-inside n (after-byte x b) l)
+  where
+    go : (t : Bool) {m : ℕ} → m ≤ length l → cond t (suc m) 0 ≤ suc (length l)
+    go true h = omega arith
+    go false h = omega arith
+
+pub taken-inside : (k : Stream) (l d e : List ℕ) (r : Fed) → Feeds k l d e r → r .consumed ≤ length l
+taken-inside k l d e r h =
+    let c = ap (λ (b : Fed). b .consumed) (h .back-is) in
+    omega (arith, c, count-inside (length d) (session-of k) l)
+
+pub written-inside : {y : Session} {n : ℕ} {d e : List ℕ} {r : Fed} → Comes-to y n d e r → r .written ≤ length e
+written-inside {y} {n} {d} h =
+    let w = ap (λ (b : Fed). b .written) (h .back-is) in
+    let e = ap length (h .out-is) in
+    omega (arith, w, e, length-append (y .output) (drop (length (y .output)) d))
 
 -- all that is written, with the end of input, is what the whole input says
 module _ (d e : List ℕ) (r : Fed) (room : 16384 ≤ length d) where
@@ -61,14 +88,18 @@ module _ (d e : List ℕ) (r : Fed) (room : 16384 ≤ length d) where
       → written fs ++ take (r .written) e ≡ fed (session-of k) l .output ++ finished (silent (fed (session-of k) l)) .output
   unfolding fed
   all-written k l [] t h =
-      front-said (subst (λ (b : Bool). Holds (cond b (finished (session-of k)) (session-of k)) d e (r .stream) (r .written)) (le-leb 16384 (length d) room) (h .holds))
+      front-said
+      (subst (λ (b : Bool). Comes-to (cond b (finished (session-of k)) (session-of k)) 0 d e r)
+      (le-leb 16384 (length d) room) h)
       ∙ ap (λ (m : List ℕ). fed (session-of k) m .output ++ finished (silent (fed (session-of k) m)) .output) (sym t)
   all-written k l (f ∷ fs) t h =
       let x = session-of k in
       let n = f .back .consumed in
       let y = fed x (take n (f .block)) in
       let m = drop n (f .block) ++ f .later in
-      let o : Holds y (f .before) (f .after) (f .back .stream) (f .back .written) = subst⁻¹ (λ (i : ℕ). Holds (fed x (take i (f .block))) (f .before) (f .after) (f .back .stream) (f .back .written)) (t .1 .consumed) (t .1 .holds) in
+      let o : Comes-to y n (f .before) (f .after) (f .back) =
+      subst⁻¹ (λ (i : ℕ). Comes-to (fed x (take i (f .block))) i (f .before) (f .after) (f .back))
+      (ap (λ (b : Fed). b .consumed) (t .1 .back-is)) (t .1) in
       let z : fed x l ≡ with-said (fed (silent y) m) (y .output ++ fed (silent y) m .output) =
       ap (fed x) (t .0 ∙ ap (λ (w : List ℕ). w ++ f .later) (sym (take-append-drop n (f .block))) ∙ append-assoc (take n (f .block)) (drop n (f .block)) (f .later))
       ∙ fed-append x (take n (f .block)) m

@@ -12,7 +12,8 @@ use lib.Seq.{take-length}
 use Rattle.buffer.specs.Buffer.{Put}
 use Rattle.day.specs.declared.Day.{Day}
 use Rattle.reply.specs.Session.{Session, longer, fed, consumed-count, upto}
-use Rattle.reply.proofs.Over.{part-is, put-none}
+use Rattle.buffer.proofs.Over.{part-is}
+use Rattle.buffer.proofs.Puts.{put-none}
 use Rattle.reply.proofs.Sessions.{consumed-nil}
 use Rattle.batch.specs.Contracts.{Position, line-of, Progress}
 use Rattle.batch.proofs.Rests.{rest-fed, consumed-stop, consumed-rest}

@@ -1,22 +1,26 @@
 -- What a stream holds after a run over a block, and at the end of input.
-use mathlib.Core.Path.{_≡_, refl, sym, ap, _∙_, subst, subst⁻¹}
+use mathlib.Core.Path.{_≡_, refl, sym, ap, ap₂, _∙_, subst, subst⁻¹}
 use mathlib.Core.Bool.{Bool, true, false, cond}
 use mathlib.Core.List.{List, [], _∷_, _++_}
-use Prim.Native.Nat.{ℕ, min, _+_, _≤_, _<_}
+use Prim.Native.Nat.{ℕ, min, _+_, _-_, _≤_, _<_}
 use native.Mathlib.Omega.{arith}
 use lib.Dec.{leb}
-use lib.ListN.{length, take, drop}
+use lib.ListN.{length, take, drop, replicate}
 use lib.Seq.{take-all, length-take-le}
 use borrow.Author.Tests.{leb-true, leb-false}
 use Rattle.buffer.specs.Buffer.{Put}
 use Rattle.buffer.proofs.Over.{over-front}
+use Rattle.lines.specs.Limits.{line-buffer}
+use Rattle.campaigns.specs.declared.Head.{Head}
 use Rattle.day.specs.declared.Day.{Day}
+use Rattle.day.specs.Parts.{head-of}
 use Rattle.batch.specs.Contracts.{Position}
 use Rattle.reply.specs.Session.{Session, ended, fed, consumed-count}
 use Rattle.reply.proofs.Sessions.{byte-end}
 use Rattle.stream.specs.declared.feed.Stream.{Stream}
 use Rattle.stream.specs.declared.feed.Fed.{Fed}
-use Rattle.stream.specs.Stream.{ended-if, finished, session, session-of, Holds, Feeds, Finishes}
+use Rattle.stream.specs.Stream.{ended-if, finished, session, session-of, buffered, handed-back, answered-in}
+use Rattle.stream.specs.Stream.{stream-at, Feeds, Finishes}
 use Rattle.stream.specs.Contracts.{Runs}
 
 -- no more than 201 bytes are held
@@ -41,24 +45,36 @@ front-is {d} {e} {w} p h = p .here ∙ over-front d w (omega (arith, p .next))
 kept-length : (n : ℕ) (h w : List ℕ) → n ≤ 201 → length h ≡ 201 → take n h ≡ w → n ≡ length w
 kept-length n h w few e q = sym (ap (λ (l : List ℕ). length l) (sym q) ∙ length-take-le n h (omega arith))
 
--- a run over the block l from the state that k holds; s is the state after it
-module _ (k : Stream) (l d e : List ℕ) (n : ℕ) (t : Position) (g : List ℕ) (s : Day) where
-  pub feeds : n ≡ min (k .kept) 201 → length (k .pending) ≡ 201 → length g ≡ 201 → (x : Day) → x ≡ k .day → Runs (session x (k .pending) n) l d e t g → s ≡ t .day
-      → Feeds k l d e (record { stream = record { day = s; pending = g; kept = t .kept }; consumed = t .from; written = t .at })
-  feeds q h w x f p z =
-      let y : session x (k .pending) n ≡ session-of k = ap (λ (a : Day). session a (k .pending) n) f ∙ session-is k n q h in
-      let r = subst (λ (v : Session). Runs v l d e t g) y p in
+-- and zero bytes stand behind them
+cleared-is : (n : ℕ) (h w : List ℕ) → take n h ≡ w → n ≡ length w
+    → take n h ++ replicate (line-buffer - n) 0 ≡ buffered w
+cleared-is n h w q k = ap₂ (λ (l : List ℕ) (i : ℕ). l ++ replicate (line-buffer - i) 0) q k
+
+-- what is handed back, field by field
+abbrev back : Day → (pending : List ℕ) → (kept consumed written : ℕ) → Fed
+back s g k c w = record { stream = record { day = s; pending = g; kept = k }; consumed = c; written = w }
+
+back-from : (y : Session) (n : ℕ) {s : Day} {g : List ℕ} {k c w : ℕ} → s ≡ y .day → g ≡ buffered (y .pending)
+    → k ≡ length (y .pending) → c ≡ n → w ≡ length (y .output) → back s g k c w ≡ handed-back y n
+back-from y n a b e f h = rw (a, b, e, f, h)
+
+-- a run over the block l from the state that k holds
+module _ (k : Stream) (l d e : List ℕ) (n : ℕ) (t : Position) (g : List ℕ) where
+  pub feeds : n ≡ min (k .kept) 201 → length (k .pending) ≡ 201 → length g ≡ 201 → (x : Day) → x ≡ k .day
+      → Runs (session x (k .pending) n) l d e t g → {p : List ℕ}
+      → p ≡ take (t .kept) g ++ replicate (line-buffer - t .kept) 0
+      → Feeds k l d e (back (t .day) p (t .kept) (t .from) (t .at))
+  feeds q h w x f a c =
+      let same : session x (k .pending) n ≡ session-of k =
+      ap (λ (s : Day). session s (k .pending) n) f ∙ session-is k n q h in
+      let r = subst (λ (v : Session). Runs v l d e t g) same a in
+      let y = fed (session-of k) (take (consumed-count (length d) (session-of k) l) l) in
+      let kept : t .kept ≡ length (y .pending) = kept-length (t .kept) g (y .pending) (r .few) w (r .pending) in
+      let told : t .at ≡ length (y .output) = omega (arith, r .put .next) in
       record {
-        consumed = r .from;
-        inside = r .inside;
-        holds = record {
-          day = z ∙ r .day;
-          pending = r .pending;
-          kept-is = kept-length (t .kept) g _ (r .few) w (r .pending);
-          length-is = omega (arith, r .put .next);
-          front = front-is (r .put) (r .fits);
-          fits = omega (arith, r .fits, r .put .same);
-        };
+        back-is =
+            back-from y _ (r .day) (c ∙ cleared-is (t .kept) g (y .pending) (r .pending) kept) kept (r .from) told;
+        out-is = front-is (r .put) (r .fits);
       }
 
 finished-none : (x : Session) → x .pending ≡ [] → finished x ≡ x
@@ -90,39 +106,66 @@ fed-none x = refl
 
 module _ (k : Stream) (d : List ℕ) where
   -- with no byte pending nothing is done
-  pub finishes-idle : (n : ℕ) → n ≡ min (k .kept) 201 → n ≡ 0 → Finishes k d d (record { stream = record { day = k .day; pending = k .pending; kept = 0 }; consumed = 0; written = 0 })
-  finishes-idle n q z = record { consumed = refl; holds = go (leb 16384 (length d)) }
-    where
-      none : k .kept ≡ 0
-      none = omega (arith, q)
-
-      empty : session-of k .pending ≡ []
-      empty = ap (λ (i : ℕ). take i (k .pending)) none
-
-      unchanged : Holds (session-of k) d d (record { day = k .day; pending = k .pending; kept = 0 }) 0
-      unchanged = record {
-        day = refl;
-        pending = sym empty;
-        kept-is = sym (ap (λ (l : List ℕ). length l) empty);
-        length-is = refl;
-        front = refl;
-        fits = omega arith;
+  pub finishes-idle : k .kept ≡ 0 → {p : List ℕ} → p ≡ replicate line-buffer 0
+      → Finishes k d d (back (k .day) p 0 0 0)
+  finishes-idle none q =
+      record {
+        back-is = back-from idle 0 refl q refl refl refl ∙ ap (λ (y : Session). handed-back y 0) (sym come);
+        out-is = ap (λ (y : Session). answered-in y d) (sym come);
       }
+    where
+      idle : Session
+      idle = record { day = k .day; pending = []; output = [] }
 
-      go : (b : Bool) → Holds (cond b (finished (session-of k)) (session-of k)) d d (record { day = k .day; pending = k .pending; kept = 0 }) 0
-      go true = subst⁻¹ (λ (x : Session). Holds x d d (record { day = k .day; pending = k .pending; kept = 0 }) 0) (finished-none (session-of k) empty) unchanged
-      go false = unchanged
+      same : session-of k ≡ idle
+      same = ap (λ (i : ℕ). session (k .day) (k .pending) i) none
+
+      either : (b : Bool) → cond b (finished (session-of k)) (session-of k) ≡ idle
+      either true = ap finished same ∙ finished-none idle refl
+      either false = same
+
+      come : cond (leb 16384 (length d)) (finished (session-of k)) (session-of k) ≡ idle
+      come = either (leb 16384 (length d))
 
   -- else byte 10 ends the line
-  pub finishes-fed : {e : List ℕ} (r : Fed) → 0 < length (session-of k .pending) → Feeds k (10 ∷ []) d e r → Finishes k d e (record { stream = r .stream; consumed = 0; written = r .written })
-  finishes-fed {e} r some f = record { consumed = refl; holds = go (leb 16384 (length d)) refl }
+  pub finishes-fed : {e : List ℕ} (r : Fed) → 0 < length (session-of k .pending) → Feeds k (10 ∷ []) d e r
+      → Finishes k d e (record { stream = r .stream; consumed = 0; written = r .written })
+  finishes-fed {e} r some f =
+      record {
+        back-is = ap none-taken (f .back-is) ∙ ap (λ (y : Session). handed-back y 0) (come refl);
+        out-is = f .out-is ∙ ap (λ (y : Session). answered-in y d) (come refl);
+      }
     where
       x : Session
       x = session-of k
 
-      moved : (b : Bool) (y : Session) → fed x (take (cond b 1 0) (10 ∷ [])) ≡ y → leb 16384 (length d) ≡ b → Holds y d e (r .stream) (r .written)
-      moved b y p q = subst (λ (z : Session). Holds z d e (r .stream) (r .written)) (ap (λ (i : ℕ). fed x (take i (10 ∷ []))) (end-counted x (length d) b q) ∙ p) (f .holds)
+      none-taken : Fed → Fed
+      none-taken r = record { stream = r .stream; consumed = 0; written = r .written }
 
-      go : (b : Bool) → leb 16384 (length d) ≡ b → Holds (cond b (finished x) x) d e (r .stream) (r .written)
-      go true q = moved true (finished x) (fed-end x ∙ sym (finished-some x some)) q
-      go false q = moved false x (fed-none x) q
+      come : {b : Bool} → leb 16384 (length d) ≡ b
+          → fed x (take (consumed-count (length d) x (10 ∷ [])) (10 ∷ [])) ≡ cond b (finished x) x
+      come {b} q = ap (λ (i : ℕ). fed x (take i (10 ∷ []))) (end-counted x (length d) b q) ∙ ending b
+        where
+          ending : (b : Bool) → fed x (take (cond b 1 0) (10 ∷ [])) ≡ cond b (finished x) x
+          ending true = fed-end x ∙ sym (finished-some x some)
+          ending false = fed-none x
+
+-- a stream whose arrays are lent, its head taken out
+lent-is : (k : Stream) {h : Head} → h ≡ head-of (k .day)
+    → stream-at h (k .day .terms) (k .day .counts) (k .pending) (k .kept) ≡ k
+lent-is k e = ap (λ (h : Head). stream-at h (k .day .terms) (k .day .counts) (k .pending) (k .kept)) e
+
+-- what is done to it in place, by value
+module _ (k : Stream) {h : Head} (same : h ≡ head-of (k .day)) (d e : List ℕ) {m r : Fed} (back-is : r ≡ m) where
+  abbrev lent : Stream
+  lent = stream-at h (k .day .terms) (k .day .counts) (k .pending) (k .kept)
+
+  pub feeds-by-value : (l : List ℕ) → Feeds lent l d e m → Feeds k l d e r
+  feeds-by-value l f =
+      subst (λ (s : Stream). Feeds s l d e r) (lent-is k same)
+      (record { back-is = back-is ∙ f .back-is; out-is = f .out-is })
+
+  pub finishes-by-value : Finishes lent d e m → Finishes k d e r
+  finishes-by-value f =
+      subst (λ (s : Stream). Finishes s d e r) (lent-is k same)
+      (record { back-is = back-is ∙ f .back-is; out-is = f .out-is })

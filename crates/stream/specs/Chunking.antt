@@ -6,7 +6,7 @@ use lib.ListN.{length, take, drop}
 use Rattle.day.specs.declared.Day.{Day}
 use Rattle.day.specs.Day.{blank}
 use Rattle.reply.specs.Reply.{reply, next}
-use Rattle.reply.specs.Session.{Session, fed, upto}
+use Rattle.reply.specs.Session.{Session, reply-room, fed, upto}
 use Rattle.stream.specs.declared.feed.Stream.{Stream}
 use Rattle.stream.specs.declared.feed.Fed.{Fed}
 use Rattle.stream.specs.Stream.{finished, silent, new-stream, session-of, Feeds, Finishes}
@@ -85,6 +85,6 @@ Any-input =
 abbrev pub Any-chunking : Type 0
 Any-chunking =
     (input : List ℕ) (fs : List Feeding) → Takes new-stream input fs
-    → (d e : List ℕ) (r : Fed) → 16384 ≤ length d → Finishes (stream-after new-stream fs) d e r
+    → (d e : List ℕ) (r : Fed) → reply-room ≤ length d → Finishes (stream-after new-stream fs) d e r
     → (lines : List (List ℕ)) (rest : List ℕ) → All-plain lines → Plain rest → joined lines rest ≡ input
     → written fs ++ take (r .written) e ≡ replies blank lines ++ last-reply (after-lines blank lines) rest

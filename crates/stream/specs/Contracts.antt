@@ -3,6 +3,7 @@ use mathlib.Core.Path.{_≡_}
 use mathlib.Core.List.{List}
 use Prim.Native.Nat.{ℕ, _≤_}
 use lib.ListN.{length, take}
+use Rattle.lines.specs.Limits.{line-buffer}
 use Rattle.buffer.specs.Buffer.{Put}
 use Rattle.reply.specs.Session.{Session, fed, consumed-count}
 use Rattle.batch.specs.Contracts.{Position}
@@ -16,4 +17,4 @@ pub record Runs (x : Session) (l d e : List ℕ) (r : Position) (g : List ℕ) :
   pub pending : take (r .kept) g ≡ fed x (consumed-bytes x l d) .pending
   pub put : Put d e 0 (r .at) (fed x (consumed-bytes x l d) .output)
   pub fits : r .at ≤ length d
-  pub few : r .kept ≤ 201
+  pub few : r .kept ≤ line-buffer

@@ -2,15 +2,17 @@
 use mathlib.Core.Path.{_≡_}
 use mathlib.Core.Bool.{cond}
 use mathlib.Core.List.{List, [], _∷_, _++_}
-use Prim.Native.Nat.{ℕ, _+_, _≤_, _<_}
+use Prim.Native.Nat.{ℕ, _-_}
 use lib.Dec.{leb}
-use lib.ListN.{length, take, drop}
-use Rattle.finite.specs.Finite.{table}
+use lib.ListN.{length, take, drop, replicate}
+use Rattle.lines.specs.Limits.{line-buffer}
+use Rattle.campaigns.specs.declared.Head.{Head}
 use Rattle.day.specs.declared.Day.{Day}
-use Rattle.day.specs.Day.{blank}
-use Rattle.reply.specs.Session.{Session, ended, fed, consumed-count}
+use Rattle.day.specs.Day.{blank, state-of}
+use Rattle.reply.specs.Session.{Session, reply-room, ended, fed, consumed-count}
 use Rattle.stream.specs.declared.feed.Stream.{Stream}
 use Rattle.stream.specs.declared.feed.Fed.{Fed}
+use Rattle.stream.specs.declared.feed.Moved.{Moved}
 
 -- At the end of input a line without byte 10 counts if it has bytes.
 abbrev pub ended-if : List ℕ → Session → Session
@@ -24,10 +26,6 @@ finished x = ended-if (x .pending) x
 abbrev pub session : Day → (bytes : List ℕ) → (kept : ℕ) → Session
 session s l n = record { day = s; pending = take n l; output = [] }
 
--- the stream that a program begins with: the blank state, and a line buffer of 201 zero bytes
-abbrev pub new-stream : Stream
-new-stream = record { day = blank; pending = table 201 (λ i. 0); kept = 0 }
-
 abbrev pub session-of : Stream → Session
 session-of k = session (k .day) (k .pending) (k .kept)
 
@@ -35,26 +33,50 @@ session-of k = session (k .day) (k .pending) (k .kept)
 abbrev pub silent : Session → Session
 silent x = record { day = x .day; pending = x .pending; output = [] }
 
--- the stream k holds y, whose answers stand at the front of the buffer d, which became e
-pub record Holds (y : Session) (d e : List ℕ) (k : Stream) (written : ℕ) : Type 0 where
-  pub day : k .day ≡ y .day
-  pub pending : take (k .kept) (k .pending) ≡ y .pending
-  pub kept-is : k .kept ≡ length (y .pending)
-  pub length-is : written ≡ length (y .output)
-  pub front : e ≡ y .output ++ drop (length (y .output)) d
-  pub fits : written ≤ length e
+-- the bytes l at the front of a line buffer, zero bytes behind them
+abbrev pub buffered : List ℕ → List ℕ
+buffered l = l ++ replicate (line-buffer - length l) 0
+
+-- the stream that holds y
+abbrev pub stream-of : Session → Stream
+stream-of y = record { day = y .day; pending = buffered (y .pending); kept = length (y .pending) }
+
+-- the stream that a program begins with: the blank state, and a line buffer of 201 zero bytes
+abbrev pub new-stream : Stream
+new-stream = stream-of (session blank [] 0)
+
+-- what is handed back where the stream has come to y and n bytes of the block were taken
+abbrev pub handed-back : Session → (n : ℕ) → Fed
+handed-back y n = record { stream = stream-of y; consumed = n; written = length (y .output) }
+
+-- the buffer d with the answers at its front
+abbrev pub answered-in : Session → (d : List ℕ) → List ℕ
+answered-in y d = y .output ++ drop (length (y .output)) d
+
+-- both: r is handed back, and the buffer d became e
+pub record Comes-to (y : Session) (n : ℕ) (d e : List ℕ) (r : Fed) : Type 0 where
+  pub back-is : r ≡ handed-back y n
+  pub out-is : e ≡ answered-in y d
 
 -- the bytes that are taken of the input l
 abbrev pub consumed-bytes : Session → (l d : List ℕ) → List ℕ
 consumed-bytes x l d = take (consumed-count (length d) x l) l
 
--- what feeding a block hands back
-pub record Feeds (k : Stream) (l d e : List ℕ) (r : Fed) : Type 0 where
-  pub consumed : r .consumed ≡ consumed-count (length d) (session-of k) l
-  pub inside : r .consumed ≤ length l
-  pub holds : Holds (fed (session-of k) (consumed-bytes (session-of k) l d)) d e (r .stream) (r .written)
+-- feeding a block
+abbrev pub Feeds : Stream → (l d e : List ℕ) → Fed → Type 0
+Feeds k l d e r =
+    let x = session-of k in
+    Comes-to (fed x (consumed-bytes x l d)) (consumed-count (length d) x l) d e r
 
--- what the end of input hands back: without the room nothing is done
-pub record Finishes (k : Stream) (d e : List ℕ) (r : Fed) : Type 0 where
-  pub consumed : r .consumed ≡ 0
-  pub holds : Holds (cond (leb 16384 (length d)) (finished (session-of k)) (session-of k)) d e (r .stream) (r .written)
+-- the end of input: without the room nothing is answered
+abbrev pub Finishes : Stream → (d e : List ℕ) → Fed → Type 0
+Finishes k d e r =
+    Comes-to (cond (leb reply-room (length d)) (finished (session-of k)) (session-of k)) 0 d e r
+
+-- a stream in lent memory, and what it has become
+abbrev pub stream-at : Head → (terms counts pending : List ℕ) → (kept : ℕ) → Stream
+stream-at h t n p k = record { day = state-of h t n; pending = p; kept = k }
+
+abbrev pub fed-at : Moved → (terms counts pending : List ℕ) → Fed
+fed-at m t n p =
+    record { stream = stream-at (m .head) t n p (m .kept); consumed = m .consumed; written = m .written }

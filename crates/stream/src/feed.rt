@@ -5,28 +5,40 @@ use batch::run_batch;
 use campaigns::Head;
 use day::Day;
 use day::ops::prepare;
+use lines::slots::LINE_BUFFER;
 use reply::ROOM;
 use reply::line::Turn;
 ghost use mathlib.Core.Path.{_≡_};
-ghost use Prim.Native.Nat.{min, _≤_};
-ghost use lib.ListN.{length};
-ghost use Rattle.campaigns.specs.Contracts.{Room};
+ghost use mathlib.Core.List.{_++_};
+ghost use Prim.Native.Nat.{min, _-_, _≤_};
+ghost use lib.ListN.{length, take, replicate};
+ghost use Rattle.campaigns.specs.Inner.{Room};
+ghost use Rattle.lines.specs.Limits.{line-buffer};
 ghost use Rattle.day.specs.Day.{state-of};
-ghost use Rattle.day.specs.Contracts.{Ready};
+ghost use Rattle.day.specs.Parts.{Ready};
 ghost use Rattle.batch.specs.Contracts.{position};
-ghost use Rattle.stream.specs.Stream.{new-stream, session, Feeds, Finishes};
+ghost use Rattle.stream.specs.Stream.{new-stream, session, stream-at, fed-at, Feeds, Finishes};
 ghost use Rattle.stream.specs.Contracts.{Runs};
 
-// The state, and the first bytes of a line that has not ended: so many are kept, 201 at most.
+// The state, and the first bytes of a line that has not ended: so many are kept, 201 at most. What feeding hands back
+// has zero bytes behind them.
 pub struct Stream {
     pub day: Day,
-    pub pending: [u8; 201],
+    pub pending: [u8; LINE_BUFFER],
     pub kept: usize,
 }
 
 // The stream after a block, how many bytes of the block were taken, and how many bytes answer them.
 pub struct Fed {
     pub stream: Stream,
+    pub consumed: usize,
+    pub written: usize,
+}
+
+// The same of a stream in lent memory: the head of its state, and how many bytes of a line are kept.
+pub struct Moved {
+    pub head: Head,
+    pub kept: usize,
     pub consumed: usize,
     pub written: usize,
 }
@@ -41,12 +53,12 @@ fn run<'a>(
     terms: &'a mut [u32; 128],
     counts: &'a mut [u16; 256],
 ) -> Cursor
-    requires { ⌜ (first .kept ≤ 201) × (length (now pending) ≡ 201) × (first .from ≡ 0) × (first .turn .at ≡ 0) ⌝ }
+    requires { ⌜ (first .kept ≤ line-buffer) × (length (now pending) ≡ line-buffer) × (first .from ≡ 0) × (first .turn .at ≡ 0) ⌝ }
     requires { ⌜ Ready (first .turn .sound) (first .turn .head) (now list) (now terms) (now counts) ⌝ }
     ensures { λ r. ⌜ Runs (session (state-of (first .turn .head) (now (terms .entry)) (now (counts .entry)))
         (now (pending .entry)) (first .kept)) (now (input .entry)) (now (out .entry)) (now (out .exit))
         (position r (now (terms .exit)) (now (counts .exit))) (now (pending .exit))
-        × (length (now (pending .exit)) ≡ 201) ⌝ }
+        × (length (now (pending .exit)) ≡ line-buffer) ⌝ }
 {
     let t = run_batch(first, pending, input, out, list, terms, counts);
     let from = t.from;
@@ -62,11 +74,11 @@ fn run<'a>(
     }
 }
 
-fn at_most_201(n: usize) -> usize
-    ensures { λ r. ⌜ r ≡ min n 201 ⌝ }
+fn at_most_held(n: usize) -> usize
+    ensures { λ r. ⌜ r ≡ min n line-buffer ⌝ }
 {
-    if n > 201 {
-        return 201;
+    if n > LINE_BUFFER {
+        return LINE_BUFFER;
     }
     n
 }
@@ -90,19 +102,108 @@ fn begin<'a>(
     }
 }
 
-// The state of a head and its arrays.
-fn day_of(head: Head, terms: [u32; 128], counts: [u16; 256]) -> Day
-    ensures { λ r. ⌜ r ≡ state-of head terms counts ⌝ }
+// Zero bytes behind the first n.
+fn clear(pending: &mut [u8], n: usize)
+    requires { ⌜ (n ≤ line-buffer) × (length (now pending) ≡ line-buffer) ⌝ }
+    ensures { λ _. ⌜ now (pending .exit) ≡ take n (now (pending .entry)) ++ replicate (line-buffer - n) 0 ⌝ }
 {
+    let mut i = n;
+    while i < pending.len() {
+        pending[i] = 0;
+        i += 1;
+    }
+}
+
+// A block of input, as far as out has room for the longest answer.
+pub fn feed_in_place<'a>(
+    head: Head,
+    kept: usize,
+    pending: &mut [u8],
+    input: &[u8],
+    out: &mut [u8],
+    terms: &'a mut [u32; 128],
+    counts: &'a mut [u16; 256],
+) -> Moved
+    requires { ⌜ (length (now pending) ≡ line-buffer) × Room (now terms) (now counts) ⌝ }
+    ensures { λ r. ⌜ Feeds (stream-at head (now (terms .entry)) (now (counts .entry)) (now (pending .entry)) kept)
+        (now (input .entry)) (now (out .entry)) (now (out .exit))
+        (fed-at r (now (terms .exit)) (now (counts .exit)) (now (pending .exit))) ⌝ }
+{
+    let mut list: [u64; 33] = [0; 33];
+    let turn = begin(head, &mut list, terms, counts);
+    let first = Cursor {
+        turn: turn,
+        kept: at_most_held(kept),
+        from: 0,
+    };
+    let t = run(first, pending, input, out, &mut list, terms, counts);
+    let last = t.turn;
+    let next = last.head;
+    clear(pending, t.kept);
+    Moved {
+        head: next,
+        kept: t.kept,
+        consumed: t.from,
+        written: last.at,
+    }
+}
+
+// The end of input: a last line without byte 10 counts if it has bytes. It is answered as if that byte followed.
+pub fn finish_in_place<'a>(
+    head: Head,
+    kept: usize,
+    pending: &mut [u8],
+    out: &mut [u8],
+    terms: &'a mut [u32; 128],
+    counts: &'a mut [u16; 256],
+) -> Moved
+    requires { ⌜ (length (now pending) ≡ line-buffer) × Room (now terms) (now counts) ⌝ }
+    ensures { λ r. ⌜ Finishes (stream-at head (now (terms .entry)) (now (counts .entry)) (now (pending .entry)) kept)
+        (now (out .entry)) (now (out .exit))
+        (fed-at r (now (terms .exit)) (now (counts .exit)) (now (pending .exit))) ⌝ }
+{
+    if kept == 0 {
+        clear(pending, 0);
+        return Moved {
+            head: head,
+            kept: 0,
+            consumed: 0,
+            written: 0,
+        };
+    }
+    let r = feed_in_place(head, kept, pending, b"\n", out, terms, counts);
+    let next = r.head;
+    Moved {
+        head: next,
+        kept: r.kept,
+        consumed: 0,
+        written: r.written,
+    }
+}
+
+// What a stream in lent memory has become, by value.
+fn fed_of(moved: Moved, terms: [u32; 128], counts: [u16; 256], pending: [u8; LINE_BUFFER]) -> Fed
+    ensures { λ r. ⌜ r ≡ fed-at moved terms counts pending ⌝ }
+{
+    let head = moved.head;
     let phase = head.phase;
     let plan = head.plan;
-    Day {
+    let day = Day {
         phase: phase,
         plan: plan,
         count: head.count,
         accepted: head.accepted,
         terms: terms,
         counts: counts,
+    };
+    Fed {
+        stream: Stream {
+            day: day,
+            pending: pending,
+            kept: moved.kept,
+        },
+        consumed: moved.consumed,
+        written: moved.written,
     }
 }
 
@@ -114,7 +215,7 @@ impl Stream {
         let day = Day::blank();
         Stream {
             day: day,
-            pending: [0; 201],
+            pending: [0; LINE_BUFFER],
             kept: 0,
         }
     }
@@ -127,58 +228,34 @@ impl Stream {
         let mut terms = day.terms;
         let mut counts = day.counts;
         let mut pending = self.pending;
-        let mut list: [u64; 33] = [0; 33];
-        let turn = begin(day.head(), &mut list, &terms, &counts);
-        let first = Cursor {
-            turn: turn,
-            kept: at_most_201(self.kept),
-            from: 0,
-        };
-        let t = run(
-            first,
+        let moved = feed_in_place(
+            day.head(),
+            self.kept,
             &mut pending,
             input,
             out,
-            &mut list,
             &mut terms,
             &mut counts,
         );
-        let last = t.turn;
-        Fed {
-            stream: Stream {
-                day: day_of(last.head, terms, counts),
-                pending: pending,
-                kept: t.kept,
-            },
-            consumed: t.from,
-            written: last.at,
-        }
+        fed_of(moved, terms, counts, pending)
     }
 
-    // The end of input: a last line without byte 10 counts if it has bytes. It is answered as if that byte followed.
+    // The end of input; without room for the longest answer the line stays pending.
     pub fn finish(self, out: &mut [u8]) -> Fed
         ensures { λ r. ⌜ Finishes self (now (out .entry)) (now (out .exit)) r ⌝ }
     {
         let day = self.day;
-        let pending = self.pending;
-        let n = at_most_201(self.kept);
-        if n == 0 {
-            return Fed {
-                stream: Stream {
-                    day: day,
-                    pending: pending,
-                    kept: 0,
-                },
-                consumed: 0,
-                written: 0,
-            };
-        }
-        let fed = self.feed(b"\n", out);
-        let next = fed.stream;
-        Fed {
-            stream: next,
-            consumed: 0,
-            written: fed.written,
-        }
+        let mut terms = day.terms;
+        let mut counts = day.counts;
+        let mut pending = self.pending;
+        let moved = finish_in_place(
+            day.head(),
+            self.kept,
+            &mut pending,
+            out,
+            &mut terms,
+            &mut counts,
+        );
+        fed_of(moved, terms, counts, pending)
     }
 }

@@ -12,7 +12,8 @@ use Rattle.day.specs.declared.Answer.{Answer}
 use Rattle.day.specs.declared.Answer.the-variants.{Refused as refusing, Done as done, Played as played, Nobody as no-one, Tallied as tallied, Closing as closing}
 use Rattle.reply.specs.Reply.{answer-line}
 use Rattle.reply.specs.Contracts.{answer-in-range}
-use Rattle.reply.proofs.Over.{line-most, put-none}
+use Rattle.buffer.proofs.Puts.{put-none}
+use Rattle.reply.proofs.Writes.{line-most}
 use Rattle.reply.proofs.answer.write_answer.Statement.{statement}
 use Rattle.reply.proofs.answer.write_answer.Tie as tie
 

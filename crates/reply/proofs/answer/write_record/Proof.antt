@@ -13,8 +13,8 @@ use Rattle.writer.specs.declared.Writing.{Writing}
 use Rattle.writer.specs.declared.Writing.the-variants.{Length, Refusal}
 use Rattle.writer.specs.Writing.{line, writing, written}
 use Rattle.buffer.specs.Buffer.{over, Put}
-use Rattle.reply.proofs.Over.{over-part, part-is, line-most, writing-is, written-is}
-use Rattle.buffer.proofs.Over.{over-length}
+use Rattle.buffer.proofs.Over.{over-length, over-part, part-is}
+use Rattle.reply.proofs.Writes.{line-most, writing-is, written-is}
 use Rattle.reply.proofs.answer.write_record.Statement.{statement}
 use Rattle.reply.proofs.answer.write_record.Tie as tie
 

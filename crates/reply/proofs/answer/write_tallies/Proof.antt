@@ -10,7 +10,8 @@ use Rattle.buffer.specs.Buffer.{Put}
 use Rattle.campaigns.specs.declared.Campaign.{Campaign}
 use Rattle.campaigns.specs.Campaign.{campaign-at}
 use Rattle.reply.specs.Reply.{tally-record, tallies}
-use Rattle.reply.proofs.Over.{line-most, put-none, put-then}
+use Rattle.buffer.proofs.Puts.{put-none, put-then}
+use Rattle.reply.proofs.Writes.{line-most}
 use Rattle.reply.proofs.answer.write_tallies.Statement.{statement}
 use Rattle.reply.proofs.answer.write_tallies.Tie as tie
 

@@ -1,0 +1,34 @@
+-- Writing a record that is in its ranges, where there is room for the longest answer.
+use mathlib.Core.Path.{_≡_, sym}
+use mathlib.Core.Bool.{true}
+use mathlib.Core.List.{List, [], _∷_}
+use Prim.Native.Nat.{ℕ, _≤_}
+use native.Mathlib.Omega.{arith}
+use lib.ListN.{length, length-append}
+use borrow.Author.Tests.{le-leb}
+use Rattle.lines.specs.Limits.{answer-room}
+use Rattle.lines.specs.Form.{text, in-range}
+use Rattle.lines.specs.declared.Record.{Record}
+use Rattle.lines.proofs.Choice.{text-most}
+use Rattle.writer.specs.declared.Writing.the-variants.{Length}
+use Rattle.writer.specs.Writing.{line, question, writing, written}
+use Rattle.buffer.specs.Buffer.{over}
+use Rattle.buffer.proofs.Over.{over-front}
+
+pub line-most : (r : Record) → length (line r) ≤ answer-room
+unfolding line
+line-most r = omega (arith, length-append (text r) (10 ∷ []), text-most r)
+
+-- writing a record that is in its ranges into a buffer that has room
+module _ (r : Record) (d : List ℕ) (h : in-range r ≡ true) (k : answer-room ≤ length d) where
+  no-question : question r d ≡ 0
+  unfolding question
+  no-question = rw (h, le-leb (length (line r)) (length d) (omega (arith, line-most r)))
+
+  pub writing-is : writing r d ≡ Length (length (line r))
+  unfolding writing
+  writing-is = rw no-question
+
+  pub written-is : written r d ≡ over d 0 (line r)
+  unfolding written
+  written-is = rw no-question (sym (over-front d (line r) (omega (arith, line-most r))))
