@@ -1,15 +1,15 @@
 -- Standard input and output, as far as contracts reach: no contract can say what a read put into the block, or what a
--- write made of its bytes. A wire counts the reads, the bytes that they gave and the bytes that were told, modulo 2^64,
--- and only `src/wire.rt` can make one.
+-- write made of its bytes. A wire holds the stream that its input is fed to, and counts the reads, the bytes that they
+-- gave and the bytes that were told, modulo 2^64; only `src/wire.rt` can make one.
 use mathlib.Core.Path.{_≡_}
 use mathlib.Core.Bool.{Bool, true, false}
 use mathlib.Core.List.{List}
 use Prim.Native.Nat.{ℕ, _+_, _%_, _^_, _≤_}
 use lib.Dec.{eqb}
 use lib.ListN.{length, take}
-use Rattle.reply.specs.Session.{fed}
+use Rattle.reply.specs.Session.{Session, fed}
 use Rattle.stream.specs.declared.feed.Stream.{Stream}
-use Rattle.stream.specs.Stream.{finished, session-of}
+use Rattle.stream.specs.Stream.{finished, new-stream, session-of, silent}
 use Rattle.pumpday.specs.declared.wire.Wire.{Wire}
 use Rattle.pumpday.specs.declared.wire.Got.{Got}
 
@@ -18,26 +18,32 @@ abbrev pub counted : ℕ → List ℕ → ℕ
 counted n l = (n + length l) % 2 ^ 64
 
 abbrev pub new-wire : Wire
-new-wire = record { reads = 0; got = 0; told = 0; ended = false; failed = false; sent = true }
+new-wire = record { stream = new-stream; reads = 0; got = 0; told = 0; ended = false; failed = false; sent = true }
 
--- One read, after which the block is l. Whether it failed is what C answered, and free.
+-- One read, after which the block is l. Whether it failed is what C answered, and free, but that a read that failed
+-- gave nothing.
 pub record Reads (w : Wire) (l : List ℕ) (r : Got) : Type 0 where
   pub inside : r .n ≤ length l
+  pub stream-is : r .wire .stream ≡ w .stream
   pub reads-is : r .wire .reads ≡ (w .reads + 1) % 2 ^ 64
   pub got-is : r .wire .got ≡ counted (w .got) (take (r .n) l)
   pub told-is : r .wire .told ≡ w .told
   pub ended-is : r .wire .ended ≡ eqb (r .n) 0
+  pub failed-ends : r .wire .failed ≡ true → r .wire .ended ≡ true
   pub sent-is : r .wire .sent ≡ w .sent
 
--- what is due from the stream k: the answers to the bytes l, or at the end of input the answer to a last line
-abbrev pub due : Stream → List ℕ → (end : Bool) → List ℕ
-due k l false = fed (session-of k) l .output
-due k l true = finished (session-of k) .output
+-- what the stream k has come to by the bytes l, or at the end of input; its output is due
+abbrev pub due : Stream → List ℕ → (end : Bool) → Session
+due k l false = fed (session-of k) l
+due k l true = finished (session-of k)
 
--- The bytes l told. Whether they went is what C answered: it is free, but that a failure before stays one.
-pub record Tells (w : Wire) (l : List ℕ) (r : Wire) : Type 0 where
+-- The stream has come to y, and the answers of y were told. Whether they went is what C answered: it is free, but that
+-- a failure before stays one.
+pub record Tells (w : Wire) (y : Session) (r : Wire) : Type 0 where
+  pub stream-is : session-of (r .stream) ≡ silent y
   pub reads-is : r .reads ≡ w .reads
   pub got-is : r .got ≡ w .got
-  pub told-is : r .told ≡ counted (w .told) l
+  pub told-is : r .told ≡ counted (w .told) (y .output)
   pub ended-is : r .ended ≡ w .ended
+  pub failed-is : r .failed ≡ w .failed
   pub sent-before : r .sent ≡ true → w .sent ≡ true

@@ -1,96 +1,88 @@
--- A run, block after block. The loop's invariant: the stream and the wire stand where the blocks that reads gave have
--- led (`Reached`). A turn leaves it for a write that failed, for a read that gave nothing, or with one block more.
+-- A run, block after block. The loop's invariant: the wire stands where the blocks that reads gave have led (`Reached`).
+-- A turn leaves it for a write that failed, for a read that gave nothing, or with one block more.
 use mathlib.Core.Path.{_≡_, refl, sym, _∙_, subst}
 use Prim.Native.Nat.{_-_, _^_}
 use native.Mathlib.Omega.{arith}
 use lib.ListN.{length}
 use borrow.Author.Tests.{not-true, not-false}
-use Rattle.stream.specs.declared.feed.Stream.{Stream}
 use Rattle.pumpday.specs.declared.wire.Wire.{Wire}
 use Rattle.pumpday.proofs.Pumps.{Reached, reached-none, reached-more, ran-unsent, ran-spent, ran-through}
 use Rattle.pumpday.proofs.run.Statement.{statement}
 use Rattle.pumpday.proofs.run.Tie as tie
 
 abbrev Inv-loop : tie.InvT-loop
-Inv-loop block₀ out₀ stream₀ wire₀ turns₀ block out stream wire turns =
-    (length block ≡ length block₀) × (length out ≡ length out₀) × Reached stream wire turns
+Inv-loop block₀ out₀ wire₀ turns₀ block out wire turns =
+    (length block ≡ length block₀) × (length out ≡ length out₀) × Reached wire turns
 
 abbrev μ-loop : tie.MeasureT-loop
-μ-loop block₀ out₀ stream₀ wire₀ turns₀ block out stream wire turns = turns
+μ-loop block₀ out₀ wire₀ turns₀ block out wire turns = turns
 
 loop-holds : tie.Need-loop-holds Inv-loop μ-loop
-loop-holds c = (
-  refl,
-  refl,
-  subst (λ (w : Wire). Reached (c .before .new .result) w (2 ^ 64 - 1)) (sym (c .new2 .ensures))
-      (subst (λ (k : Stream). Reached k _ (2 ^ 64 - 1)) (sym (c .before .new .ensures)) reached-none),
-)
+loop-holds c =
+    (refl, refl, subst (λ (w : Wire). Reached w (2 ^ 64 - 1)) (sym (c .new .ensures)) reached-none)
 
--- where the function began, of a turn that has read
-abbrev begin : tie.After-read-block Inv-loop μ-loop → tie.Start Inv-loop μ-loop
-begin c = c .before .before .before .before .before .before .before .before .before
+-- where the function began and what the loop knows, of a turn that has read
+abbrev begin : tie.After-turn Inv-loop μ-loop → tie.Start Inv-loop μ-loop
+begin c = c .before .before .before .before .before .before .before .before
 
--- the buffers after a read
-same-block : (c : tie.After-read-block Inv-loop μ-loop)
-    → length (c .read-block .last .1 .1 .0) ≡ length (begin c .args .block .now)
-same-block c = c .read-block .kept .1 .1 .0 ∙ c .before .before .before .before .loop .inv .0
+abbrev reached : (c : tie.After-turn Inv-loop μ-loop) → let o = c .before .before .before .before .loop in
+    Reached (o .wire) (o .turns)
+reached c = c .before .before .before .before .loop .inv .2
 
-same-out : (c : tie.After-read-block Inv-loop μ-loop)
-    → length (c .read-block .last .1 .1 .1 .0) ≡ length (begin c .args .out .now)
-same-out c = c .read-block .kept .1 .1 .1 .0 ∙ c .before .before .before .before .loop .inv .1
+-- the buffers after it
+same-block : (c : tie.After-turn Inv-loop μ-loop)
+    → length (c .turn .last .1 .0) ≡ length (begin c .args .block .now)
+same-block c = c .turn .kept .1 .0 ∙ c .before .before .before .before .loop .inv .0
+
+same-out : (c : tie.After-turn Inv-loop μ-loop) → length (c .turn .last .1 .1 .0) ≡ length (begin c .args .out .now)
+same-out c = c .turn .kept .1 .1 .0 ∙ c .before .before .before .before .loop .inv .1
 
 -- a write failed
 returns : tie.Need-returns Inv-loop μ-loop
 returns c =
-    let r = c .before .before .before .before .before .before .before .before in
+    let r = c .before .before .before .before .before .before in
     let s = c .before .sent in
-    ran-unsent (r .before .before .before .before .loop .inv .2) (r .read-block .ensures)
-    (sym (s .ensures) ∙ not-true (s .result) (c .if1 .taken))
+    ran-unsent (reached r) (r .turn .ensures) (sym (s .ensures) ∙ not-true (s .result) (c .if1 .taken))
 
 -- the end of input
 returns-2 : tie.Need-returns-2 Inv-loop μ-loop
 returns-2 c =
     let ending = c .before .before .before .before in
     let going = ending .before .before in
-    let r = going .before .before .before .before .before .before .before .before in
+    let r = going .before .before .before .before .before .before in
     let s = going .before .sent in
-    ran-through (r .before .before .before .before .loop .inv .2) (r .read-block .ensures)
-    (sym (s .ensures) ∙ not-false (s .result) (going .if1 .left))
-    (sym (ending .before .ended .ensures) ∙ ending .if2 .taken)
-    (c .before .before .finish .ensures)
+    ran-through (reached r) (r .turn .ensures) (sym (s .ensures) ∙ not-false (s .result) (going .if1 .left))
+    (sym (ending .before .ended .ensures) ∙ ending .if2 .taken) (c .before .before .finish .ensures)
 
 loop-again : tie.Need-loop-again Inv-loop μ-loop
 loop-again c =
     let going = c .before .before in
-    let r = going .before .before .before .before .before .before .before .before in
+    let r = going .before .before .before .before .before .before in
     let s = going .before .sent in
     let sent = sym (s .ensures) ∙ not-false (s .result) (going .if1 .left) in
-    let more = sym (c .before .ended .ensures) ∙ c .if2 .left in (
-      same-block r,
-      same-out r,
-      reached-more (r .before .before .before .before .loop .inv .2) (r .read-block .ensures) sent more (omega arith),
-    )
+    let more = sym (c .before .ended .ensures) ∙ c .if2 .left in
+    (same-block r, same-out r, reached-more (reached r) (r .turn .ensures) sent more (omega arith))
 
 -- room for the longest answer, before a read and at the end of input
-read-room : tie.Need-read-block-requires Inv-loop μ-loop
-read-room c κs =
+turn-room : tie.Need-turn-requires Inv-loop μ-loop
+turn-room c κs =
     let o = c .before .before .before in
-    omega (arith, o .loop .inv .1, o .before .before .before .before .before .pre)
+    omega (arith, o .loop .inv .1, o .before .before .before .before .pre)
+
+-- the turn that has read, of a run at the end of input
+abbrev at-end : tie.After-finish Inv-loop μ-loop → tie.After-turn Inv-loop μ-loop
+at-end c = c .before .before .before .before .before .before .before .before .before .before
 
 finish-room : tie.Need-finish-requires Inv-loop μ-loop
 finish-room c κs =
-    let r = c .before .before .before .before .before .before .before .before .before .before .before in
+    let r = c .before .before .before .before .before .before .before .before .before in
     omega (arith, same-out r, begin r .pre)
-
--- the turn that has read, of a run at the end of input
-abbrev at-end : tie.After-finish Inv-loop μ-loop → tie.After-read-block Inv-loop μ-loop
-at-end c = c .before .before .before .before .before .before .before .before .before .before .before .before
 
 same-length-3 : tie.Need-same-length-3 Inv-loop μ-loop
 same-length-3 c = same-block (at-end (c .before .before))
 
 same-length-4 : tie.Need-same-length-4 Inv-loop μ-loop
-same-length-4 c = c .before .before .finish .kept .1 .1 .0 ∙ same-out (at-end (c .before .before))
+same-length-4 c = c .before .before .finish .kept .1 .0 ∙ same-out (at-end (c .before .before))
 
 pub run-spec : {M : Type 1} → statement M
 run-spec =
@@ -99,12 +91,11 @@ run-spec =
     Inv-loop
     μ-loop
     (λ c κs. tt)
-    (λ c κs. tt)
     loop-holds
-    read-room
+    turn-room
     (λ c κs. tt)
-    (λ c. same-block (c .before .before .before .before .before .before .before .before))
-    (λ c. same-out (c .before .before .before .before .before .before .before .before))
+    (λ c. same-block (c .before .before .before .before .before .before))
+    (λ c. same-out (c .before .before .before .before .before .before))
     returns
     (λ c κs. tt)
     finish-room

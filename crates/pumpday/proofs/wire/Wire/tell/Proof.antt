@@ -1,7 +1,10 @@
 -- What is written is counted, and a write that failed before stays known: both tests go through only together.
-use mathlib.Core.Path.{refl}
+use mathlib.Core.Path.{refl, ap, _∙_}
+use mathlib.Core.List.{List}
+use Prim.Native.Nat.{ℕ}
 use borrow.Author.Needs.{needs}
 use Rattle.finite.proofs.Tests.{both-left}
+use Rattle.pumpday.specs.Wires.{counted}
 use Rattle.pumpday.proofs.wire.Wire.tell.Statement.{statement}
 use Rattle.pumpday.proofs.wire.Wire.tell.Tie as tie
 
@@ -9,10 +12,13 @@ returns : tie.Need-returns
 returns c =
     let s = c .before .before .before .before .before in
     record {
+      stream-is = s .pre .1;
       reads-is = refl;
       got-is = refl;
-      told-is = c .before .wrapping-add-u64 .ensures;
+      told-is =
+          c .before .wrapping-add-u64 .ensures ∙ ap (λ (l : List ℕ). counted (s .args .self .told) l) (s .pre .0);
       ended-is = refl;
+      failed-is = refl;
       sent-before = λ e. both-left (s .args .self .sent) (c .before .before .write-all .result) e;
     }
 

@@ -3,8 +3,8 @@ use mathlib.Core.Path.{sym}
 use lib.Seq.{length-take-le}
 use borrow.Author.Needs.{needs}
 use Rattle.pumpday.proofs.Pumps.{taken-is}
-use Rattle.pumpday.proofs.read_block.Statement.{statement}
-use Rattle.pumpday.proofs.read_block.Tie as tie
+use Rattle.pumpday.proofs.wire.Wire.turn.Statement.{statement}
+use Rattle.pumpday.proofs.wire.Wire.turn.Tie as tie
 
 slice-aggregate-answer-block : tie.Need-slice-aggregate-answer-block
 slice-aggregate-answer-block c =
@@ -13,11 +13,11 @@ slice-aggregate-answer-block c =
 
 returns : tie.Need-returns
 returns c =
-    let r = c .before .before .before .before .before .before .before .before .read in
-    taken-is (r .ensures) (c .before .before .answer-block .ensures)
+    let r = c .before .before .before .before .before .before .before .before .before .read in
+    taken-is (r .ensures) (c .before .before .before .answer-block .ensures)
 
-pub read-block-spec : {M : Type 1} → statement M
-read-block-spec =
+pub turn-spec : {M : Type 1} → statement M
+turn-spec =
     tie.close
     (tie.spec
     (λ c κs. search needs)

@@ -1,5 +1,5 @@
--- The block, part by part. The loop's invariant: the bytes before the place were taken and their answers told (`Took`).
--- With room for the longest answer a part takes a byte at least, so that fewer and fewer bytes are left.
+-- The block, part by part. The loop's invariant: the bytes before the place were taken and their answers told
+-- (`Tells`). With room for the longest answer a part takes a byte at least, so that fewer and fewer bytes are left.
 use mathlib.Core.Path.{_≡_, refl, sym, _∙_}
 use Prim.Native.Nat.{_≤_, _-_}
 use native.Mathlib.Omega.{arith}
@@ -8,26 +8,28 @@ use mir.Syntax.{w64}
 use mir.Val.{Fits}
 use borrow.Author.Needs.{needs}
 use borrow.Author.Tests.{not-true}
-use Rattle.pumpday.specs.Contracts.{Took}
-use Rattle.pumpday.proofs.Pumps.{took-none, part-less, part-more, stopped}
-use Rattle.pumpday.proofs.answer_block.Statement.{statement}
-use Rattle.pumpday.proofs.answer_block.Tie as tie
+use Rattle.reply.specs.Session.{reply-room}
+use Rattle.pumpday.specs.Wires.{Tells}
+use Rattle.pumpday.specs.Contracts.{by}
+use Rattle.pumpday.proofs.Pumps.{tells-none, part-less, part-more, stopped}
+use Rattle.pumpday.proofs.wire.Wire.answer_block.Statement.{statement}
+use Rattle.pumpday.proofs.wire.Wire.answer_block.Tie as tie
 
 abbrev Inv-loop : tie.InvT-loop
 Inv-loop block out₀ t₀ out t =
     (length out ≡ length out₀) × (t .from ≤ length block)
-    × Took (t₀ .wire) (t₀ .stream) (take (t .from) block) (t .stream) (t .wire)
+    × Tells (t₀ .wire) (by (t₀ .wire) (take (t .from) block)) (t .wire)
 
 abbrev μ-loop : tie.MeasureT-loop
 μ-loop block out₀ t₀ out t = length block - t .from
 
-told-fits : (s : tie.Start Inv-loop μ-loop) → Fits w64 (s .args .wire .told)
+told-fits : (s : tie.Start Inv-loop μ-loop) → Fits w64 (s .args .self .told)
 told-fits s = search needs
 
 loop-holds : tie.Need-loop-holds Inv-loop μ-loop
 loop-holds c =
     let s = c .before .before in
-    (refl, omega arith, took-none (s .args .wire) (s .args .stream) (told-fits s .fits))
+    (refl, omega arith, tells-none (s .args .self) (told-fits s .fits))
 
 loop-less : tie.Need-loop-less Inv-loop μ-loop
 loop-less c =
@@ -36,7 +38,7 @@ loop-less c =
     let o = turn .loop in
     let p = c .before .before .answer-part in
     let h = c .before .before .before .before .before .before .before .if1 .taken in
-    let room : 16384 ≤ length (o .out) = omega (arith, o .inv .0, s .pre) in
+    let room : reply-room ≤ length (o .out) = omega (arith, o .inv .0, s .pre) in
     omega (arith, part-less (s .args .block .now) (o .out) (o .t) (p .result) (p .ensures) h room, h)
 
 loop-again : tie.Need-loop-again Inv-loop μ-loop
@@ -45,18 +47,18 @@ loop-again c =
     let s = turn .before .before .before in
     let o = turn .loop in
     let p = c .before .before .answer-part in (
-      p .kept .1 .1 .1 .1 .0 ∙ o .inv .0,
+      p .kept .1 .1 .1 .0 ∙ o .inv .0,
       p .ensures .inside,
-      part-more (s .args .block .now) (o .out) (o .t) (p .result) (p .ensures) (s .args .wire) (s .args .stream)
-          (o .inv .2),
+      part-more (s .args .block .now) (o .out) (o .t) (p .result) (p .ensures) (s .args .self) (o .inv .2),
     )
 
 -- a write failed
 returns : tie.Need-returns Inv-loop μ-loop
 returns c =
-    let i = c .before .before .before .before .before .loop .inv in
-    let s = c .before .sent in
-    stopped (i .1) (i .2) (sym (s .ensures) ∙ not-true (s .result) (c .if2 .taken))
+    let turn = c .before .before .before .before .before in
+    let a = turn .before .before .before .args in
+    let o = turn .loop in
+    stopped (a .self) (a .block .now) (o .inv .1) (o .inv .2) (not-true (o .t .wire .sent) (c .if2 .taken))
 
 pub answer-block-spec : {M : Type 1} → statement M
 answer-block-spec =
@@ -65,11 +67,10 @@ answer-block-spec =
     Inv-loop
     μ-loop
     loop-holds
-    (λ c κs. tt)
     (λ c. c .before .before .before .before .before .loop .inv .0)
     returns
     (λ c κs. c .before .before .before .before .before .before .loop .inv .1)
     loop-less
     loop-again
     (λ c. c .before .before .loop .inv .0)
-    (λ c. let i = c .before .before .loop .inv in record { inside = i .1; took = i .2; all = λ s. omega arith }))
+    (λ c. let i = c .before .before .loop .inv in record { inside = i .1; tells = i .2; all = λ s. omega arith }))
