@@ -3,6 +3,7 @@ use batch::Cursor;
 use batch::keep;
 use batch::run_batch;
 use campaigns::Head;
+use campaigns::entry::sized;
 use day::Day;
 use day::ops::prepare;
 use lines::slots::LINE_BUFFER;
@@ -124,11 +125,14 @@ pub fn feed_in_place<'a>(
     terms: &'a mut [u32; 128],
     counts: &'a mut [u16; 256],
 ) -> Moved
-    requires { ⌜ (length (now pending) ≡ line-buffer) × Room (now terms) (now counts) ⌝ }
+    requires { ⌜ length (now pending) ≡ line-buffer ⌝ }
     ensures { λ r. ⌜ Feeds (stream-at head (now (terms .entry)) (now (counts .entry)) (now (pending .entry)) kept)
         (now (input .entry)) (now (out .entry)) (now (out .exit))
         (fed-at r (now (terms .exit)) (now (counts .exit)) (now (pending .exit))) ⌝ }
 {
+    let all_terms = *terms;
+    let all_counts = *counts;
+    sized(all_terms, all_counts);
     let mut list: [u64; 33] = [0; 33];
     let turn = begin(head, &mut list, terms, counts);
     let first = Cursor {
@@ -157,7 +161,7 @@ pub fn finish_in_place<'a>(
     terms: &'a mut [u32; 128],
     counts: &'a mut [u16; 256],
 ) -> Moved
-    requires { ⌜ (length (now pending) ≡ line-buffer) × Room (now terms) (now counts) ⌝ }
+    requires { ⌜ length (now pending) ≡ line-buffer ⌝ }
     ensures { λ r. ⌜ Finishes (stream-at head (now (terms .entry)) (now (counts .entry)) (now (pending .entry)) kept)
         (now (out .entry)) (now (out .exit))
         (fed-at r (now (terms .exit)) (now (counts .exit)) (now (pending .exit))) ⌝ }

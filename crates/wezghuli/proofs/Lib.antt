@@ -1,3 +1,4 @@
 pub mod Stored
 pub mod Lines
-pub mod Faithful
+pub mod Streamed
+pub mod Promised

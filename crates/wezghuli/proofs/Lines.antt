@@ -1,12 +1,8 @@
--- What reading and writing a line leave in the lent memory, from what the reader and the writer answer; and the last
--- form's number.
+-- What reading and writing a line leave in the lent memory, from what the reader and the writer answer.
 use mathlib.Core.Path.{_≡_, refl, ap, sym, _∙_}
 use mathlib.Core.Bool.{true, false}
 use mathlib.Core.List.{List, [], _∷_}
-use Prim.Native.Nat.{ℕ, suc, _≤_}
-use lib.Dec.{leb}
-use borrow.Author.Tests.{leb-true}
-use native.Mathlib.Omega.{arith}
+use Prim.Native.Nat.{ℕ}
 use Rattle.lines.specs.declared.Record.{Record}
 use Rattle.lines.specs.declared.Reading.{Reading}
 use Rattle.lines.specs.declared.Reading.the-variants.{Got, Refusal}
@@ -15,17 +11,10 @@ use Rattle.lines.specs.Reading.{reading}
 use Rattle.writer.specs.declared.Writing.{Writing}
 use Rattle.writer.specs.declared.Writing.the-variants as answer
 use Rattle.writer.specs.Writing.{writing, written, number}
-use Rattle.wezghuli.specs.Encoding.{is-form, record-of, record-words}
-use Rattle.wezghuli.specs.Library.{no-form, read-status, read-into, record-after, write-status, line-after}
+use Rattle.encoding.specs.Encoding.{no-form, is-form, record-of, record-words}
+use Rattle.wezghuli.specs.Library.{read-status, read-into, record-after, write-status, line-after}
 use Rattle.wezghuli.specs.Library.{length-told, length-after}
 use Rattle.wezghuli.proofs.Stored.{pick-first, pick-second}
-
--- a number that is not one of those below it is above them
-pub next : (f n : ℕ) → n ≤ f → (f ≡ n → ⊥) → suc n ≤ f
-next f n a b = omega arith
-
-pub last : (f : ℕ) → leb f 10 ≡ true → 10 ≤ f → f ≡ 10
-last f a b = omega (arith, leb-true f 10 a)
 
 -- a line that reads as a record, and one that does not
 pub was-read : (l w w' : List ℕ) (x : Reading) (r : Record) → x ≡ reading l → x ≡ Got r → w' ≡ record-words r →

@@ -9,9 +9,9 @@ use Rattle.day.specs.declared.Outcome.{Outcome}
 use Rattle.day.specs.declared.Step.{Step}
 use Rattle.day.specs.Day.{state-of}
 use Rattle.day.specs.Calls.{Call, call, number}
-use Rattle.day.specs.InPlace.{outcome-of}
-use Rattle.wezghuli.specs.Encoding.{is-head, head-of, head-words, answer-words}
-use Rattle.wezghuli.specs.Library.{Memory, memory, no-head, status, after, outcome, stored}
+use Rattle.day.specs.Parts.{outcome-of}
+use Rattle.encoding.specs.Encoding.{no-head, is-head, head-of, head-words, answer-after}
+use Rattle.wezghuli.specs.Library.{Memory, memory, status, after, outcome, stored}
 
 pub pick-first : {A : Type 0} (b : Bool) (x y z : A) → b ≡ true → z ≡ x → z ≡ cond b x y
 pick-first b x y z e h = rw e h
@@ -23,7 +23,7 @@ pub misused : (k : Call) (m : Memory) → is-head (m .head) ≡ false → (no-he
 unfolding status after
 misused k m e = (
   pick-second (is-head (m .head)) (number (outcome k m .answer)) no-head no-head e refl,
-  pick-second (is-head (m .head)) (stored (outcome k m)) m m e refl,
+  pick-second (is-head (m .head)) (stored (outcome k m) (m .answer)) m m e refl,
 )
 
 module _ (k : Call) (h t n a : List ℕ) (given : is-head h ≡ true) (head : Head) (head-is : head ≡ head-of h) where
@@ -31,13 +31,14 @@ module _ (k : Call) (h t n a : List ℕ) (given : is-head h ≡ true) (head : He
   before = memory h t n a
 
   pub called : (s : Step) (t' n' h' a' : List ℕ) (r : ℕ) → outcome-of s t' n' ≡ call (state-of head t n) k →
-      (r ≡ number (s .answer)) × (h' ≡ head-words (s .head)) × (a' ≡ answer-words (s .answer)) →
+      (r ≡ number (s .answer)) × (h' ≡ head-words (s .head)) × (a' ≡ answer-after (s .answer) a) →
       (r ≡ status k before) × (memory h' t' n' a' ≡ after k before)
   unfolding status after
   called s t' n' h' a' r done (r-is, h-is, a-is) =
       let e : outcome-of s t' n' ≡ outcome k before = done ∙ ap (λ (x : Head). call (state-of x t n) k) head-is in
-      let m : memory h' t' n' a' ≡ stored (outcome-of s t' n') = rw (h-is, a-is) in (
+      let m : memory h' t' n' a' ≡ stored (outcome-of s t' n') a = rw (h-is, a-is) in (
         pick-first (is-head h) (number (outcome k before .answer)) no-head r given
             (r-is ∙ ap (λ (o : Outcome). number (o .answer)) e),
-        pick-first (is-head h) (stored (outcome k before)) before (memory h' t' n' a') given (m ∙ ap stored e),
+        pick-first (is-head h) (stored (outcome k before) a) before (memory h' t' n' a') given
+            (m ∙ ap (λ (o : Outcome). stored o a) e),
       )

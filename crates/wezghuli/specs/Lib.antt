@@ -1,3 +1,2 @@
-pub mod Encoding
 pub mod Library
 pub mod Promises

@@ -2,12 +2,14 @@
 use mathlib.Core.Bool.{cond}
 use mathlib.Core.List.{List, [], _∷_}
 use Prim.Native.Nat.{ℕ}
+use lib.Dec.{leb, eqb}
+use lib.ListN.{length, getD}
 use Rattle.day.specs.declared.Day.{Day}
 use Rattle.day.specs.declared.Outcome.{Outcome}
 use Rattle.day.specs.Day.{state-of}
 use Rattle.day.specs.Calls.{Call, call, number}
 use Rattle.day.specs.Calls.Call.{open-plan, add-campaign, show-view}
-use Rattle.day.specs.Day as states
+use Rattle.day.specs.Parts as parts
 use Rattle.lines.specs.declared.Reading.{Reading}
 use Rattle.lines.specs.declared.Reading.the-variants as reading
 use Rattle.lines.specs.OneText as read
@@ -15,14 +17,11 @@ use Rattle.lines.specs.Reading as lines
 use Rattle.writer.specs.declared.Writing.{Writing}
 use Rattle.writer.specs.declared.Writing.the-variants as writing
 use Rattle.writer.specs.Writing as writer
-use Rattle.wezghuli.specs.Encoding.{is-head, head-of, head-words, answer-words, is-form, record-of, record-words}
-
--- the statuses of misuse
-abbrev pub no-head : ℕ
-no-head = 100
-
-abbrev pub no-form : ℕ
-no-form = 101
+use Rattle.encoding.specs.Encoding.{no-head, no-form, is-head, head-of, head-words, answer-after, is-form, record-of}
+use Rattle.encoding.specs.Encoding.{record-words, no-stream, no-room, is-stream, stream-words}
+use Rattle.reply.specs.Session.{Session, reply-room, fed, consumed-count}
+use Rattle.stream.specs.declared.feed.Stream.{Stream}
+use Rattle.stream.specs.Stream.{finished, session-of, stream-of, stream-at, consumed-bytes, answered-in}
 
 -- the calls of numbers
 abbrev pub opening : (depth width : ℕ) → Call
@@ -51,16 +50,17 @@ state m = state-of (head-of (m .head)) (m .terms) (m .counts)
 abbrev pub outcome : Call → Memory → Outcome
 outcome c m = call (state m) c
 
--- an outcome, stored
-abbrev pub stored : Outcome → Memory
-stored o = memory (head-words (states.head-of (o .day))) (o .day .terms) (o .day .counts) (answer-words (o .answer))
+-- an outcome, stored where the answer a was
+abbrev pub stored : Outcome → (a : List ℕ) → Memory
+stored o a =
+    memory (head-words (parts.head-of (o .day))) (o .day .terms) (o .day .counts) (answer-after (o .answer) a)
 
--- an operation: 0, the number of the question that failed, or 100 with everything as it was
+-- an operation: 0; the number of the question that failed, with everything as it was; or 100, with everything as it was
 unfoldable pub status : Call → Memory → ℕ
 status c m = cond (is-head (m .head)) (number (outcome c m .answer)) no-head
 
 unfoldable pub after : Call → Memory → Memory
-after c m = cond (is-head (m .head)) (stored (outcome c m)) m
+after c m = cond (is-head (m .head)) (stored (outcome c m) (m .answer)) m
 
 -- reading a line: 0, or the number of the question that failed with the record as it was
 abbrev pub read-status : (line : List ℕ) → ℕ
@@ -86,3 +86,42 @@ length-told (writing.Refusal q) l = l
 
 abbrev pub length-after : (words out length : List ℕ) → List ℕ
 length-after w d l = cond (is-form w) (length-told (writer.writing (record-of w) d) l) l
+
+-- what is lent to a stream: its state, the first bytes of an unfinished line, its words, and the buffer for answers
+pub record Lent : Type 0 where
+  pub head : List ℕ
+  pub terms : List ℕ
+  pub counts : List ℕ
+  pub pending : List ℕ
+  pub words : List ℕ
+  pub out : List ℕ
+
+abbrev pub lent : (head terms counts pending words out : List ℕ) → Lent
+lent h t n p w d = record { head = h; terms = t; counts = n; pending = p; words = w; out = d }
+
+-- the stream in it
+abbrev pub stream-in : Lent → Stream
+stream-in m = stream-at (head-of (m .head)) (m .terms) (m .counts) (m .pending) (getD (m .words) 0 0)
+
+-- 0, or what is missing, with everything as it was
+unfoldable pub stream-status : (head words : List ℕ) → (room : ℕ) → ℕ
+stream-status h w n =
+    cond (is-head h) (cond (is-stream w) (cond (leb reply-room n) 0 no-room) no-stream) no-head
+
+abbrev pub status-in : Lent → ℕ
+status-in m = stream-status (m .head) (m .words) (length (m .out))
+
+-- the stream has come to y, n bytes of the block were taken, and the answers stand at the front of the buffer d
+abbrev pub come-to : Session → (n : ℕ) → (d : List ℕ) → Lent
+come-to y n d =
+    lent (head-words (parts.head-of (y .day))) (y .day .terms) (y .day .counts) (stream-of y .pending)
+    (stream-words (length (y .pending)) n (length (y .output))) (answered-in y d)
+
+unfoldable pub feed-after : (input : List ℕ) → Lent → Lent
+feed-after l m =
+    let x = session-of (stream-in m) in
+    cond (eqb (status-in m) 0)
+    (come-to (fed x (consumed-bytes x l (m .out))) (consumed-count (length (m .out)) x l) (m .out)) m
+
+unfoldable pub finish-after : Lent → Lent
+finish-after m = cond (eqb (status-in m) 0) (come-to (finished (session-of (stream-in m))) 0 (m .out)) m

@@ -1,34 +1,31 @@
--- What the encodings and the statuses promise to a caller, besides the contracts: what is written reads back,
--- operations in turn are calls in turn, and misuse is told apart from every refusal.
+-- What the functions promise to a caller, besides their contracts: operations in turn are calls in turn, blocks in turn
+-- are handed to one stream, and misuse is told apart from every refusal.
 use mathlib.Core.Path.{_≡_}
 use mathlib.Core.Bool.{true}
-use mathlib.Core.List.{List, [], _∷_}
+use mathlib.Core.List.{List}
 use Prim.Native.Nat.{ℕ, _<_}
-use Rattle.campaigns.specs.declared.Head.{Head}
-use Rattle.day.specs.declared.Answer.{Answer}
+use lib.ListN.{getD}
 use Rattle.day.specs.Calls.{Call, call}
-use Rattle.lines.specs.declared.Record.{Record}
-use Rattle.wezghuli.specs.Encoding.{is-head, head-of, head-words, answer-words, is-form, record-of, record-words}
+use Rattle.stream.specs.declared.feed.Fed.{Fed}
+use Rattle.stream.specs.Stream.{Feeds, Finishes}
+use Rattle.encoding.specs.Encoding.{is-head, is-form}
 use Rattle.wezghuli.specs.Library.{Memory, state, status, after, read-status, write-status}
+use Rattle.wezghuli.specs.Library.{Lent, stream-in, status-in, feed-after, finish-after}
 
--- six words
-abbrev pub six : (a b c d e f : ℕ) → List ℕ
-six a b c d e f = a ∷ b ∷ c ∷ d ∷ e ∷ f ∷ []
+-- what the lent memory says that a stream handed back
+abbrev pub handed-in : Lent → Fed
+handed-in m =
+    record { stream = stream-in m; consumed = getD (m .words) 1 0; written = getD (m .words) 2 0 }
 
 pub record Promises : Type 0 where
-  -- a head's words are a head's and give it back; six words that are a head are the words of the head that they give
-  pub head-is : (h : Head) → is-head (head-words h) ≡ true
-  pub head-back : (h : Head) → head-of (head-words h) ≡ h
-  pub words-back : (a b c d e f : ℕ) → is-head (six a b c d e f) ≡ true →
-      head-words (head-of (six a b c d e f)) ≡ six a b c d e f
-  -- no two answers share their words
-  pub answer-once : (a b : Answer) → answer-words a ≡ answer-words b → a ≡ b
-  -- a record's words are a record's and give it back
-  pub form-is : (r : Record) → is-form (record-words r) ≡ true
-  pub record-back : (r : Record) → record-of (record-words r) ≡ r
   -- an operation leaves a head, and the state that the call hands back
   pub head-stays : (k : Call) (m : Memory) → is-head (m .head) ≡ true → is-head (after k m .head) ≡ true
   pub next-state : (k : Call) (m : Memory) → is-head (m .head) ≡ true → state (after k m) ≡ call (state m) k .day
+  -- a block and the end of input leave what the stream hands back, so that `Chunking.Any-chunking` speaks of them
+  pub feeds : (l : List ℕ) (m : Lent) → status-in m ≡ 0
+      → Feeds (stream-in m) l (m .out) (feed-after l m .out) (handed-in (feed-after l m))
+  pub finishes : (m : Lent) → status-in m ≡ 0
+      → Finishes (stream-in m) (m .out) (finish-after m .out) (handed-in (finish-after m))
   -- no refusal has the status of a misuse
   pub call-refusal : (k : Call) (m : Memory) → is-head (m .head) ≡ true → status k m < 100
   pub read-refusal : (line : List ℕ) → read-status line < 100

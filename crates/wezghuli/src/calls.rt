@@ -1,20 +1,20 @@
 // The blank state and the six operations, on a state in lent memory.
-use crate::STATUS_NO_HEAD;
-use crate::encoding::answer_words;
-use crate::encoding::head_of;
-use crate::encoding::head_words;
-use crate::encoding::is_head;
-use crate::encoding::number_of;
 use campaigns::Plan;
 use campaigns::Terms;
 use campaigns::View;
 use day::Step;
+use encoding::STATUS_NO_HEAD;
+use encoding::answer_after;
+use encoding::head_of;
+use encoding::head_words;
+use encoding::is_head;
+use encoding::number_of;
 ghost use mathlib.Core.Path.{_≡_};
 ghost use Rattle.day.specs.Day.{blank};
 ghost use Rattle.day.specs.Calls.{number};
 ghost use Rattle.day.specs.Calls.Call.{start-day, ask-tally, close-day};
-ghost use Rattle.day.specs.Day.{head-of};
-ghost use Rattle.wezghuli.specs.Encoding.{head-words, answer-words};
+ghost use Rattle.day.specs.Parts.{head-of};
+ghost use Rattle.encoding.specs.Encoding.{head-words, answer-after};
 ghost use Rattle.wezghuli.specs.Library.{opening, adding, showing, memory, after, status};
 
 // The blank state: Closed, depth 1, width 1, no campaigns.
@@ -33,16 +33,17 @@ pub extern "C" fn wezghuli_blank<'a>(
     *counts = [0; 256];
 }
 
-// The head and the answer of a step, written; its status.
+// The head and the answer of a step, written; its status. A refusal leaves the answer as it was.
 fn store<'a>(step: Step, head: &'a mut [u64; 6], answer: &'a mut [u64; 5]) -> u64
-    ensures { λ r. ⌜ (r ≡ number (step .answer))
-        × (now (head .exit) ≡ head-words (step .head)) × (now (answer .exit) ≡ answer-words (step .answer)) ⌝ }
+    ensures { λ r. ⌜ (r ≡ number (step .answer)) × (now (head .exit) ≡ head-words (step .head))
+        × (now (answer .exit) ≡ answer-after (step .answer) (now (answer .entry))) ⌝ }
 {
     let next = step.head;
-    let told = step.answer;
+    let given = step.answer;
+    let before = *answer;
     *head = head_words(next);
-    *answer = answer_words(told);
-    number_of(told)
+    *answer = answer_after(given, before);
+    number_of(given)
 }
 
 // Opens a plan, with no campaigns, in Filling.
@@ -68,7 +69,7 @@ pub extern "C" fn wezghuli_open<'a>(
         depth: depth,
         width: width,
     };
-    let step = day::in_place::open(head_of(head), plan, terms, counts);
+    let step = day::six::open(head_of(head), plan, terms, counts);
     store(step, head, answer)
 }
 
@@ -95,7 +96,7 @@ pub extern "C" fn wezghuli_add<'a>(
         price: price,
         budget: budget,
     };
-    let step = day::in_place::add(head_of(head), added, terms, counts);
+    let step = day::six::add(head_of(head), added, terms, counts);
     store(step, head, answer)
 }
 
@@ -116,7 +117,7 @@ pub extern "C" fn wezghuli_start<'a>(
     if !is_head(head) {
         return STATUS_NO_HEAD;
     }
-    let step = day::in_place::start(head_of(head), terms, counts);
+    let step = day::six::start(head_of(head), terms, counts);
     store(step, head, answer)
 }
 
@@ -138,7 +139,7 @@ pub extern "C" fn wezghuli_view<'a>(
     if !is_head(head) {
         return STATUS_NO_HEAD;
     }
-    let step = day::in_place::view(head_of(head), View { set: set }, terms, counts);
+    let step = day::six::view(head_of(head), View { set: set }, terms, counts);
     store(step, head, answer)
 }
 
@@ -160,7 +161,7 @@ pub extern "C" fn wezghuli_tally<'a>(
     if !is_head(head) {
         return STATUS_NO_HEAD;
     }
-    let step = day::in_place::tally(head_of(head), campaign, terms, counts);
+    let step = day::six::tally(head_of(head), campaign, terms, counts);
     store(step, head, answer)
 }
 
@@ -181,6 +182,6 @@ pub extern "C" fn wezghuli_close<'a>(
     if !is_head(head) {
         return STATUS_NO_HEAD;
     }
-    let step = day::in_place::close(head_of(head), terms, counts);
+    let step = day::six::close(head_of(head), terms, counts);
     store(step, head, answer)
 }

@@ -1,7 +1,9 @@
 // Reading and writing a line, a record crossing as six words.
-use crate::encoding::is_form;
-use crate::encoding::record_of;
-use crate::encoding::record_words;
+use encoding::STATUS_ACCEPTED;
+use encoding::STATUS_NO_FORM;
+use encoding::is_form;
+use encoding::record_of;
+use encoding::record_words;
 use lines::Reading;
 use writer::Writing;
 ghost use mathlib.Core.Path.{_≡_};
@@ -16,7 +18,7 @@ pub extern "C" fn wezghuli_read_line<'a>(line: &'a [u8], words: &'a mut [u64; 6]
     match lines::read_line(line) {
         Reading::Got(r) => {
             *words = record_words(r);
-            crate::STATUS_ACCEPTED
+            STATUS_ACCEPTED
         }
         Reading::Refusal(question) => question,
     }
@@ -34,12 +36,12 @@ pub extern "C" fn wezghuli_write_line<'a>(
         × (now (length .exit) ≡ length-after (now (words .entry)) (now (out .entry)) (now (length .entry))) ⌝ }
 {
     if !is_form(words) {
-        return crate::STATUS_NO_FORM;
+        return STATUS_NO_FORM;
     }
     match writer::write_line(record_of(words), out) {
         Writing::Length(n) => {
             *length = [n as u64];
-            crate::STATUS_ACCEPTED
+            STATUS_ACCEPTED
         }
         Writing::Refusal(question) => question,
     }

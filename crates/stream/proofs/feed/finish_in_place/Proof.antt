@@ -45,7 +45,7 @@ returns-2 c =
     let k = stream s in
     let r = called .feed-in-place in
     finishes-fed k (s .args .out .now) _
-    (omega (arith, length-take (k .kept) (k .pending), s .pre .0, some .if1 .left)) (r .ensures)
+    (omega (arith, length-take (k .kept) (k .pending), s .pre, some .if1 .left)) (r .ensures)
 
 pub finish-in-place-spec : {M : Type 1} → statement M
 finish-in-place-spec =

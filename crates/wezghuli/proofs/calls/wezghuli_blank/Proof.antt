@@ -1,8 +1,8 @@
 -- `wezghuli_blank` meets its contract: what `day::blank` says of its head and of arrays of zeros, field by field.
 use mathlib.Core.Path.{ap, _∙_}
 use Rattle.day.specs.declared.Day.{Day}
-use Rattle.day.specs.Day.{head-of}
-use Rattle.wezghuli.specs.Encoding.{head-words}
+use Rattle.day.specs.Parts.{head-of}
+use Rattle.encoding.specs.Encoding.{head-words}
 use borrow.Author.Needs.{needs}
 use Rattle.wezghuli.proofs.calls.wezghuli_blank.Statement.{statement}
 use Rattle.wezghuli.proofs.calls.wezghuli_blank.Tie as tie

@@ -1,8 +1,8 @@
 -- `phase_of` meets its contract: the tag is 0, or it is not and is 1, or it is neither.
 use borrow.Author.Tests.{eq-eqb, ne-eqb}
-use Rattle.wezghuli.specs.Encoding.{phase-of}
-use Rattle.wezghuli.proofs.encoding.phase_of.Statement.{statement}
-use Rattle.wezghuli.proofs.encoding.phase_of.Tie as tie
+use Rattle.encoding.specs.Encoding.{phase-of}
+use Rattle.encoding.proofs.phase_of.Statement.{statement}
+use Rattle.encoding.proofs.phase_of.Tie as tie
 
 returns : tie.Need-returns
 unfolding phase-of

@@ -1,9 +1,9 @@
 -- `record_words` meets its contract: each arm's words are computed.
 use Rattle.lines.specs.Form.{numbers}
-use Rattle.wezghuli.specs.Encoding.{padded, record-words}
+use Rattle.encoding.specs.Encoding.{padded, record-words}
 use borrow.Author.Needs.{needs}
-use Rattle.wezghuli.proofs.encoding.record_words.Statement.{statement}
-use Rattle.wezghuli.proofs.encoding.record_words.Tie as tie
+use Rattle.encoding.proofs.record_words.Statement.{statement}
+use Rattle.encoding.proofs.record_words.Tie as tie
 
 enum-known-r : tie.Need-enum-known-r
 enum-known-r c = search needs

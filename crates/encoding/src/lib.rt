@@ -1,15 +1,31 @@
-// Heads, answers and records as words.
-use crate::STATUS_ACCEPTED;
+// Statuses, heads, answers, records and streams as words.
 use campaigns::Head;
 use campaigns::Phase;
 use campaigns::Plan;
 use day::Answer;
 use lines::Record;
+use lines::slots::LINE_BUFFER;
 ghost use mathlib.Core.Path.{_≡_};
 ghost use mathlib.Core.Bool.{true};
 ghost use Rattle.day.specs.Calls.{number};
-ghost use Rattle.wezghuli.specs.Encoding.{is-head, phase-of, tag-of, held-by, head-of, head-words, answer-words};
-ghost use Rattle.wezghuli.specs.Encoding.{is-form, record-of, record-words};
+ghost use Rattle.encoding.specs.Encoding.{is-head, phase-of, tag-of, held-by, head-of, head-words};
+ghost use Rattle.encoding.specs.Encoding.{answer-after, is-form, record-of, record-words, is-stream};
+
+// A status: 0 where a call is accepted, the number of the question that failed where it is refused, and from 100 on
+// where what was lent is no state, no record, no stream or too little. No refusal has a number above 99.
+pub const STATUS_ACCEPTED: u64 = 0;
+
+// The six words are no head of a state.
+pub const STATUS_NO_HEAD: u64 = 100;
+
+// The first word of a record is no form's number.
+pub const STATUS_NO_FORM: u64 = 101;
+
+// More bytes of a line are kept than there are.
+pub const STATUS_NO_STREAM: u64 = 102;
+
+// There is no room for the longest answer.
+pub const STATUS_NO_ROOM: u64 = 103;
 
 // The words of a head.
 pub const HEAD_PHASE: usize = 0;
@@ -32,8 +48,6 @@ pub const PHASE_RUNNING: u64 = 1;
 pub const PHASE_CLOSED: u64 = 2;
 
 // The first word of an answer.
-pub const ANSWER_REFUSED: u64 = 0;
-
 pub const ANSWER_DONE: u64 = 1;
 
 pub const ANSWER_PLAYED: u64 = 2;
@@ -43,6 +57,13 @@ pub const ANSWER_NOBODY: u64 = 3;
 pub const ANSWER_TALLIED: u64 = 4;
 
 pub const ANSWER_CLOSING: u64 = 5;
+
+// The words of a stream.
+pub const STREAM_KEPT: usize = 0;
+
+pub const STREAM_TAKEN: usize = 1;
+
+pub const STREAM_WRITTEN: usize = 2;
 
 // The first word of a record.
 pub const FORM_PLAN: u64 = 0;
@@ -141,12 +162,13 @@ pub fn head_words(head: Head) -> [u64; 6]
     ]
 }
 
-// The five words of an answer: its kind and four values, 0 where it has fewer.
-pub fn answer_words(answer: Answer) -> [u64; 5]
-    ensures { λ r. ⌜ r ≡ answer-words answer ⌝ }
+// The five words of an answer: its kind and four values, 0 where it has fewer. A refusal has none, and leaves those that
+// were there: its number is the status.
+pub fn answer_after(answer: Answer, before: [u64; 5]) -> [u64; 5]
+    ensures { λ r. ⌜ r ≡ answer-after answer before ⌝ }
 {
     match answer {
-        Answer::Refused(question) => [ANSWER_REFUSED, question, 0, 0, 0],
+        Answer::Refused(_) => before,
         Answer::Done => [ANSWER_DONE, 0, 0, 0, 0],
         Answer::Played { campaign, paid } => [ANSWER_PLAYED, campaign, paid, 0, 0],
         Answer::Nobody => [ANSWER_NOBODY, 0, 0, 0, 0],
@@ -265,4 +287,11 @@ pub fn record_words(r: Record) -> [u64; 6]
             named,
         } => [FORM_TALLY, campaign, plays, turns, age, named],
     }
+}
+
+// Whether no more bytes of a line are kept than there are.
+pub fn is_stream(words: &[u64; 3]) -> bool
+    ensures { λ r. ⌜ r ≡ is-stream (now (words .entry)) ⌝ }
+{
+    words[STREAM_KEPT] <= LINE_BUFFER as u64
 }

@@ -1,7 +1,7 @@
 -- `head_of` meets its contract, its phase being what `phase_of` says.
 use borrow.Author.Needs.{needs}
-use Rattle.wezghuli.proofs.encoding.head_of.Statement.{statement}
-use Rattle.wezghuli.proofs.encoding.head_of.Tie as tie
+use Rattle.encoding.proofs.head_of.Statement.{statement}
+use Rattle.encoding.proofs.head_of.Tie as tie
 
 element-copy-out-phase-of : tie.Need-element-copy-out-phase-of
 element-copy-out-phase-of c = search needs

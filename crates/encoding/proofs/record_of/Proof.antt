@@ -4,11 +4,11 @@ use lib.ListN.{getD}
 use native.Mathlib.Omega.{arith}
 use lib.Seq.{getD-drop}
 use Rattle.lines.specs.Reading.{forms, made}
-use Rattle.wezghuli.specs.Encoding.{record-of}
-use Rattle.wezghuli.proofs.Lines.{next, last}
+use Rattle.encoding.specs.Encoding.{record-of}
+use Rattle.encoding.proofs.Forms.{next, last}
 use borrow.Author.Needs.{needs}
-use Rattle.wezghuli.proofs.encoding.record_of.Statement.{statement}
-use Rattle.wezghuli.proofs.encoding.record_of.Tie as tie
+use Rattle.encoding.proofs.record_of.Statement.{statement}
+use Rattle.encoding.proofs.record_of.Tie as tie
 
 -- the start, seen from the last arm
 abbrev start : tie.After-t21 → tie.Start

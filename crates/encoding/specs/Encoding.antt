@@ -1,4 +1,4 @@
--- Heads, answers and records as words: the one definition of each encoding.
+-- Statuses, heads, answers, records and streams as words: the one definition of each encoding.
 use mathlib.Core.Bool.{Bool, cond, _&&_, _||_}
 use mathlib.Core.List.{List, [], _∷_, _++_}
 use Prim.Native.Nat.{ℕ}
@@ -12,6 +12,7 @@ use Rattle.day.specs.declared.Answer.the-variants.{Refused, Done, Played, Nobod
 use Rattle.day.specs.Calls.{values}
 use Rattle.lines.specs.declared.Record.{Record}
 use Rattle.lines.specs.declared.Record.the-variants as form
+use Rattle.lines.specs.Limits.{line-buffer}
 use Rattle.lines.specs.Form.{numbers}
 use Rattle.lines.specs.Reading.{forms, made}
 
@@ -51,17 +52,17 @@ head-of w = record {
   accepted = getD w 5 0;
 }
 
--- an answer: its kind and its values
-abbrev pub kind-of : Answer → ℕ
-kind-of (Refused q) = 0
-kind-of Done = 1
-kind-of (Played i p) = 2
-kind-of Nobody = 3
-kind-of (Tallied p t a n) = 4
-kind-of (Closing t c f) = 5
+-- an answer: its kind and its values. A refusal has no words and leaves w: its number is the status.
+abbrev pub answer-words : (kind : ℕ) → Answer → List ℕ
+answer-words k a = k ∷ padded 4 (values a)
 
-unfoldable pub answer-words : Answer → List ℕ
-answer-words a = kind-of a ∷ padded 4 (values a)
+unfoldable pub answer-after : Answer → (w : List ℕ) → List ℕ
+answer-after (Refused q) w = w
+answer-after Done w = answer-words 1 Done
+answer-after (Played i p) w = answer-words 2 (Played i p)
+answer-after Nobody w = answer-words 3 Nobody
+answer-after (Tallied p t a n) w = answer-words 4 (Tallied p t a n)
+answer-after (Closing t c f) w = answer-words 5 (Closing t c f)
 
 -- a record: its form's number, which is its place among the forms, and its numbers
 abbrev pub form-of : Record → ℕ
@@ -86,3 +87,23 @@ is-form w = leb (getD w 0 0) 10
 
 unfoldable pub record-of : List ℕ → Record
 record-of w = made (getD forms (getD w 0 0) form.Start) (drop 1 w)
+
+-- a stream: how many bytes of a line are kept, and of its last block how many were taken and how many answer them
+abbrev pub is-stream : List ℕ → Bool
+is-stream w = leb (getD w 0 0) line-buffer
+
+abbrev pub stream-words : (kept taken written : ℕ) → List ℕ
+stream-words k t w = k ∷ t ∷ w ∷ []
+
+-- the statuses of misuse
+abbrev pub no-head : ℕ
+no-head = 100
+
+abbrev pub no-form : ℕ
+no-form = 101
+
+abbrev pub no-stream : ℕ
+no-stream = 102
+
+abbrev pub no-room : ℕ
+no-room = 103

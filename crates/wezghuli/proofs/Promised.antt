@@ -1,0 +1,175 @@
+-- The promises of `specs/Promises`: what is stored reads back, since the encodings are faithful; a status is the number
+-- of an answer, and the numbers of all questions are below 100.
+use mathlib.Core.Path.{_≡_, refl, ap, sym, _∙_, subst}
+use mathlib.Core.Bool.{Bool, true, false, cond}
+use mathlib.Core.List.{List, [], _∷_}
+use Prim.Native.Nat.{ℕ, zero, suc, _<_}
+use native.Mathlib.Omega.{arith}
+use lib.Dec.{leb, eqb}
+use lib.ListN.{length}
+use borrow.Author.Tests.{eq-eqb}
+use Rattle.campaigns.specs.declared.Head.{Head}
+use Rattle.campaigns.specs.Choice.{Choice}
+use Rattle.campaigns.specs.Choice.Choice.{nobody, plays}
+use Rattle.day.specs.declared.Day.{Day}
+use Rattle.day.specs.declared.Outcome.{Outcome}
+use Rattle.day.specs.Day.{state-of}
+use Rattle.day.specs.Calls.{Call, call, number, answered, result, told, offers, player, Question, question, questions}
+use Rattle.day.specs.Calls.{first-no}
+use Rattle.day.specs.Calls.Call.{open-plan, add-campaign, start-day, show-view, ask-tally, close-day}
+use Rattle.day.specs.Parts as parts
+use Rattle.lines.specs.declared.Record.{Record}
+use Rattle.lines.specs.Form.{in-range}
+use Rattle.lines.specs.OneText as read
+use Rattle.lines.proofs.Inverse.{one-text}
+use Rattle.writer.specs.Writing as writer
+use Rattle.writer.proofs.Numbers.{tells}
+use Rattle.reply.specs.Session.{Session, reply-room, fed, consumed-count}
+use Rattle.stream.specs.declared.feed.Fed.{Fed}
+use Rattle.stream.specs.declared.feed.Stream.{Stream}
+use Rattle.stream.specs.Stream.{finished, session-of, stream-at, stream-of, consumed-bytes, handed-back, answered-in}
+use Rattle.stream.specs.Stream.{Comes-to, Feeds, Finishes}
+use Rattle.encoding.specs.Encoding.{is-head, is-form, record-of}
+use Rattle.encoding.proofs.Faithful.{faithful}
+use Rattle.wezghuli.specs.Library.{Memory, state, outcome, stored, status, after, read-status, write-status}
+use Rattle.wezghuli.specs.Library.{Lent, stream-in, status-in, come-to, feed-after, finish-after}
+use Rattle.wezghuli.specs.Promises.{Promises, handed-in}
+use Rattle.wezghuli.proofs.Stored.{pick-first}
+use Rattle.wezghuli.proofs.Streamed.{has-room}
+
+-- operations in turn
+after-is : (k : Call) (m : Memory) → is-head (m .head) ≡ true → after k m ≡ stored (outcome k m) (m .answer)
+unfolding after
+after-is k m e =
+    let s = stored (outcome k m) (m .answer) in
+    sym (pick-first (is-head (m .head)) s m s e refl)
+
+stored-state : (o : Outcome) (a : List ℕ) → state (stored o a) ≡ o .day
+stored-state o a =
+    ap (λ (h : Head). state-of h (o .day .terms) (o .day .counts)) (faithful .head-back (parts.head-of (o .day)))
+
+head-stays : (k : Call) (m : Memory) → is-head (m .head) ≡ true → is-head (after k m .head) ≡ true
+head-stays k m e = ap (λ (x : Memory). is-head (x .head)) (after-is k m e) ∙ faithful .head-is (parts.head-of (outcome k m .day))
+
+next-state : (k : Call) (m : Memory) → is-head (m .head) ≡ true → state (after k m) ≡ call (state m) k .day
+next-state k m e = ap state (after-is k m e) ∙ stored-state (outcome k m) (m .answer)
+
+-- blocks in turn
+come-back : (y : Session) (n : ℕ) (d : List ℕ) → handed-in (come-to y n d) ≡ handed-back y n
+come-back y n d =
+    ap (λ (h : Head).
+    record {
+      stream = stream-at h (y .day .terms) (y .day .counts) (stream-of y .pending) (length (y .pending));
+      consumed = n;
+      written = length (y .output);
+    })
+    (faithful .head-back (parts.head-of (y .day)))
+
+-- memory in which a stream has come to y
+comes : (y : Session) (n : ℕ) (d : List ℕ) (m : Lent) → m ≡ come-to y n d → Comes-to y n d (m .out) (handed-in m)
+comes y n d m e =
+    record { back-is = ap handed-in e ∙ come-back y n d; out-is = ap (λ (x : Lent). x .out) e }
+
+feeds : (l : List ℕ) (m : Lent) → status-in m ≡ 0
+    → Feeds (stream-in m) l (m .out) (feed-after l m .out) (handed-in (feed-after l m))
+unfolding feed-after
+feeds l m e =
+    let x = session-of (stream-in m) in
+    let y = fed x (consumed-bytes x l (m .out)) in
+    let n = consumed-count (length (m .out)) x l in
+    let c = come-to y n (m .out) in
+    comes y n (m .out) (feed-after l m)
+    (sym (pick-first (eqb (status-in m) 0) c m c (eq-eqb (status-in m) 0 e) refl))
+
+finishes : (m : Lent) → status-in m ≡ 0
+    → Finishes (stream-in m) (m .out) (finish-after m .out) (handed-in (finish-after m))
+unfolding finish-after
+finishes m e =
+    let x = session-of (stream-in m) in
+    let c = come-to (finished x) 0 (m .out) in
+    subst (λ (b : Bool). Comes-to (cond b (finished x) x) 0 (m .out) (finish-after m .out) (handed-in (finish-after m)))
+    (sym (has-room m e))
+    (comes (finished x) 0 (m .out) (finish-after m)
+    (sym (pick-first (eqb (status-in m) 0) c m c (eq-eqb (status-in m) 0 e) refl)))
+
+-- the numbers of questions
+small : (b : Bool) (x y : ℕ) → x < 100 → y < 100 → cond b x y < 100
+small true x y p q = p
+small false x y p q = q
+
+told-number : (x : ℕ → ℕ) (c : Choice) → number (told x c) ≡ 0
+told-number x nobody = refl
+told-number x (plays m) = refl
+
+accepted-number : (s : Day) (k : Call) → number (result s k .answer) ≡ 0
+accepted-number s (open-plan pl) = refl
+accepted-number s (add-campaign t) = refl
+accepted-number s start-day = refl
+accepted-number s (show-view w) = told-number (offers s w) (player s w)
+accepted-number s (ask-tally i) = refl
+accepted-number s close-day = refl
+
+-- questions with numbers below 100, and the first of them that fails
+data Low : List Question → Type 0 where
+  none : Low []
+  then : (q : ℕ) {b : Bool} {qs : List Question} → q < 100 → Low qs → Low (question q b ∷ qs)
+
+low-small : {qs : List Question} → Low qs → first-no qs < 100
+unfolding first-no
+low-small none = omega arith
+low-small (then q {b} {qs} p r) = small b (first-no qs) q (low-small r) p
+
+low : (s : Day) (k : Call) → Low (questions s k)
+low s (open-plan pl) =
+    then 1 (omega arith) (then 2 (omega arith) (then 3 (omega arith)
+    (then 4 (omega arith) (then 5 (omega arith) none))))
+low s (add-campaign t) =
+    then 1 (omega arith) (then 6 (omega arith) (then 7 (omega arith)
+    (then 8 (omega arith) (then 9 (omega arith) (then 10 (omega arith) none)))))
+low s start-day = then 1 (omega arith) (then 6 (omega arith) none)
+low s (show-view w) =
+    then 1 (omega arith) (then 11 (omega arith) (then 12 (omega arith)
+    (then 13 (omega arith) (then 14 (omega arith) none))))
+low s (ask-tally i) = then 1 (omega arith) (then 15 (omega arith) none)
+low s close-day = then 1 (omega arith) (then 11 (omega arith) none)
+
+answer-small : (q : ℕ) (s : Day) (o : Outcome) → q < 100 → number (o .answer) ≡ 0 →
+    number (answered q s o .answer) < 100
+answer-small zero s o p e = omega arith
+answer-small (suc q) s o p e = p
+
+call-small : (s : Day) (k : Call) → number (call s k .answer) < 100
+unfolding call
+call-small s k =
+    answer-small (first-no (questions s k)) s (result s k) (low-small (low s k)) (accepted-number s k)
+
+call-refusal : (k : Call) (m : Memory) → is-head (m .head) ≡ true → status k m < 100
+unfolding status
+call-refusal k m e = rw e (call-small (state m) k)
+
+-- reading and writing
+says-small : {l : List ℕ} {q : ℕ} {v : List ℕ} → read.Says l q v → q < 100
+says-small (read.a-text r i) = omega arith
+says-small (read.too-long p) = omega arith
+says-small (read.no-text p n) = omega arith
+
+write-small : (r : Record) (d : List ℕ) → writer.number (writer.writing r d) < 100
+unfolding writer.question
+write-small r d =
+    let fits = leb (length (writer.line r)) (length d) in
+    subst (λ (q : ℕ). q < 100) (sym (tells r d .number-is))
+    (small (in-range r) (cond fits 0 18) 17 (small fits 0 18 (omega arith) (omega arith)) (omega arith))
+
+write-refusal : (w d : List ℕ) → is-form w ≡ true → write-status w d < 100
+write-refusal w d e = rw e (write-small (record-of w) d)
+
+pub promises : Promises
+promises = record {
+  head-stays = head-stays;
+  next-state = next-state;
+  feeds = feeds;
+  finishes = finishes;
+  call-refusal = call-refusal;
+  read-refusal = λ l. says-small (one-text .says l);
+  write-refusal = write-refusal;
+}
