@@ -13,7 +13,7 @@ use Rattle.buffer.proofs.Over.{over-front}
 use Rattle.lines.specs.Limits.{line-buffer}
 use Rattle.campaigns.specs.declared.Head.{Head}
 use Rattle.day.specs.declared.Day.{Day}
-use Rattle.day.specs.Parts.{head-of}
+use Rattle.day.specs.Day.{head-of}
 use Rattle.batch.specs.Contracts.{Position}
 use Rattle.reply.specs.Session.{Session, ended, fed, consumed-count}
 use Rattle.reply.proofs.Sessions.{byte-end}

@@ -14,10 +14,11 @@ use Rattle.campaigns.specs.Choice.Choice.{nobody, plays}
 use Rattle.day.specs.declared.Day.{Day}
 use Rattle.day.specs.declared.Outcome.{Outcome}
 use Rattle.day.specs.Day.{state-of}
-use Rattle.day.specs.Calls.{Call, call, number, answered, result, told, offers, player, Question, question, questions}
-use Rattle.day.specs.Calls.{first-no}
+use Rattle.questions.specs.Questions.{Question, question}
+use Rattle.day.specs.Calls.{Call, call, number, answered, result, view-answer, offers, player, questions}
+use Rattle.questions.specs.Questions.{first-failed}
 use Rattle.day.specs.Calls.Call.{open-plan, add-campaign, start-day, show-view, ask-tally, close-day}
-use Rattle.day.specs.Parts as parts
+use Rattle.day.specs.Day as states
 use Rattle.lines.specs.declared.Record.{Record}
 use Rattle.lines.specs.Form.{in-range}
 use Rattle.lines.specs.OneText as read
@@ -46,10 +47,10 @@ after-is k m e =
 
 stored-state : (o : Outcome) (a : List ℕ) → state (stored o a) ≡ o .day
 stored-state o a =
-    ap (λ (h : Head). state-of h (o .day .terms) (o .day .counts)) (faithful .head-back (parts.head-of (o .day)))
+    ap (λ (h : Head). state-of h (o .day .terms) (o .day .counts)) (faithful .head-back (states.head-of (o .day)))
 
 head-stays : (k : Call) (m : Memory) → is-head (m .head) ≡ true → is-head (after k m .head) ≡ true
-head-stays k m e = ap (λ (x : Memory). is-head (x .head)) (after-is k m e) ∙ faithful .head-is (parts.head-of (outcome k m .day))
+head-stays k m e = ap (λ (x : Memory). is-head (x .head)) (after-is k m e) ∙ faithful .head-is (states.head-of (outcome k m .day))
 
 next-state : (k : Call) (m : Memory) → is-head (m .head) ≡ true → state (after k m) ≡ call (state m) k .day
 next-state k m e = ap state (after-is k m e) ∙ stored-state (outcome k m) (m .answer)
@@ -63,7 +64,7 @@ come-back y n d =
       consumed = n;
       written = length (y .output);
     })
-    (faithful .head-back (parts.head-of (y .day)))
+    (faithful .head-back (states.head-of (y .day)))
 
 -- memory in which a stream has come to y
 comes : (y : Session) (n : ℕ) (d : List ℕ) (m : Lent) → m ≡ come-to y n d → Comes-to y n d (m .out) (handed-in m)
@@ -97,7 +98,7 @@ small : (b : Bool) (x y : ℕ) → x < 100 → y < 100 → cond b x y < 100
 small true x y p q = p
 small false x y p q = q
 
-told-number : (x : ℕ → ℕ) (c : Choice) → number (told x c) ≡ 0
+told-number : (x : ℕ → ℕ) (c : Choice) → number (view-answer x c) ≡ 0
 told-number x nobody = refl
 told-number x (plays m) = refl
 
@@ -114,10 +115,10 @@ data Low : List Question → Type 0 where
   none : Low []
   then : (q : ℕ) {b : Bool} {qs : List Question} → q < 100 → Low qs → Low (question q b ∷ qs)
 
-low-small : {qs : List Question} → Low qs → first-no qs < 100
-unfolding first-no
+low-small : {qs : List Question} → Low qs → first-failed qs < 100
+unfolding first-failed
 low-small none = omega arith
-low-small (then q {b} {qs} p r) = small b (first-no qs) q (low-small r) p
+low-small (then q {b} {qs} p r) = small b (first-failed qs) q (low-small r) p
 
 low : (s : Day) (k : Call) → Low (questions s k)
 low s (open-plan pl) =
@@ -141,7 +142,7 @@ answer-small (suc q) s o p e = p
 call-small : (s : Day) (k : Call) → number (call s k .answer) < 100
 unfolding call
 call-small s k =
-    answer-small (first-no (questions s k)) s (result s k) (low-small (low s k)) (accepted-number s k)
+    answer-small (first-failed (questions s k)) s (result s k) (low-small (low s k)) (accepted-number s k)
 
 call-refusal : (k : Call) (m : Memory) → is-head (m .head) ≡ true → status k m < 100
 unfolding status

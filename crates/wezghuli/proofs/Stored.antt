@@ -9,7 +9,7 @@ use Rattle.day.specs.declared.Outcome.{Outcome}
 use Rattle.day.specs.declared.Step.{Step}
 use Rattle.day.specs.Day.{state-of}
 use Rattle.day.specs.Calls.{Call, call, number}
-use Rattle.day.specs.Parts.{outcome-of}
+use Rattle.day.specs.InPlace.{outcome-of}
 use Rattle.encoding.specs.Encoding.{no-head, is-head, head-of, head-words, answer-after}
 use Rattle.wezghuli.specs.Library.{Memory, memory, status, after, outcome, stored}
 

@@ -9,7 +9,7 @@ use lib.Dec.{leb, eqb}
 use lib.ListN.{length, getD}
 use borrow.Author.Tests.{eq-eqb, ne-eqb}
 use Rattle.campaigns.specs.declared.Head.{Head}
-use Rattle.day.specs.Parts as parts
+use Rattle.day.specs.Day as states
 use Rattle.reply.specs.Session.{Session, reply-room, fed, consumed-count}
 use Rattle.stream.specs.declared.feed.Fed.{Fed}
 use Rattle.stream.specs.declared.feed.Moved.{Moved}
@@ -46,7 +46,7 @@ finish-misused m r e none =
 -- what is handed back, stored
 abbrev stored-in : Fed → (out : List ℕ) → Lent
 stored-in r d =
-    lent (head-words (parts.head-of (r .stream .day))) (r .stream .day .terms) (r .stream .day .counts)
+    lent (head-words (states.head-of (r .stream .day))) (r .stream .day .terms) (r .stream .day .counts)
     (r .stream .pending) (stream-words (r .stream .kept) (r .consumed) (r .written)) d
 
 module _ (h t n p w d : List ℕ) (r : ℕ) (is-0 : r ≡ 0) (told : r ≡ status-in (lent h t n p w d))

@@ -9,7 +9,7 @@ use Rattle.day.specs.declared.Outcome.{Outcome}
 use Rattle.day.specs.Day.{state-of}
 use Rattle.day.specs.Calls.{Call, call, number}
 use Rattle.day.specs.Calls.Call.{open-plan, add-campaign, show-view}
-use Rattle.day.specs.Parts as parts
+use Rattle.day.specs.Day as states
 use Rattle.lines.specs.declared.Reading.{Reading}
 use Rattle.lines.specs.declared.Reading.the-variants as reading
 use Rattle.lines.specs.OneText as read
@@ -53,7 +53,7 @@ outcome c m = call (state m) c
 -- an outcome, stored where the answer a was
 abbrev pub stored : Outcome → (a : List ℕ) → Memory
 stored o a =
-    memory (head-words (parts.head-of (o .day))) (o .day .terms) (o .day .counts) (answer-after (o .answer) a)
+    memory (head-words (states.head-of (o .day))) (o .day .terms) (o .day .counts) (answer-after (o .answer) a)
 
 -- an operation: 0; the number of the question that failed, with everything as it was; or 100, with everything as it was
 unfoldable pub status : Call → Memory → ℕ
@@ -114,7 +114,7 @@ status-in m = stream-status (m .head) (m .words) (length (m .out))
 -- the stream has come to y, n bytes of the block were taken, and the answers stand at the front of the buffer d
 abbrev pub come-to : Session → (n : ℕ) → (d : List ℕ) → Lent
 come-to y n d =
-    lent (head-words (parts.head-of (y .day))) (y .day .terms) (y .day .counts) (stream-of y .pending)
+    lent (head-words (states.head-of (y .day))) (y .day .terms) (y .day .counts) (stream-of y .pending)
     (stream-words (length (y .pending)) n (length (y .output))) (answered-in y d)
 
 unfoldable pub feed-after : (input : List ℕ) → Lent → Lent

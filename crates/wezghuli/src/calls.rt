@@ -13,7 +13,7 @@ ghost use mathlib.Core.Path.{_≡_};
 ghost use Rattle.day.specs.Day.{blank};
 ghost use Rattle.day.specs.Calls.{number};
 ghost use Rattle.day.specs.Calls.Call.{start-day, ask-tally, close-day};
-ghost use Rattle.day.specs.Parts.{head-of};
+ghost use Rattle.day.specs.Day.{head-of};
 ghost use Rattle.encoding.specs.Encoding.{head-words, answer-after};
 ghost use Rattle.wezghuli.specs.Library.{opening, adding, showing, memory, after, status};
 
@@ -69,7 +69,7 @@ pub extern "C" fn wezghuli_open<'a>(
         depth: depth,
         width: width,
     };
-    let step = day::six::open(head_of(head), plan, terms, counts);
+    let step = day::in_place::open(head_of(head), plan, terms, counts);
     store(step, head, answer)
 }
 
@@ -96,7 +96,7 @@ pub extern "C" fn wezghuli_add<'a>(
         price: price,
         budget: budget,
     };
-    let step = day::six::add(head_of(head), added, terms, counts);
+    let step = day::in_place::add(head_of(head), added, terms, counts);
     store(step, head, answer)
 }
 
@@ -117,7 +117,7 @@ pub extern "C" fn wezghuli_start<'a>(
     if !is_head(head) {
         return STATUS_NO_HEAD;
     }
-    let step = day::six::start(head_of(head), terms, counts);
+    let step = day::in_place::start(head_of(head), terms, counts);
     store(step, head, answer)
 }
 
@@ -139,7 +139,7 @@ pub extern "C" fn wezghuli_view<'a>(
     if !is_head(head) {
         return STATUS_NO_HEAD;
     }
-    let step = day::six::view(head_of(head), View { set: set }, terms, counts);
+    let step = day::in_place::view(head_of(head), View { set: set }, terms, counts);
     store(step, head, answer)
 }
 
@@ -161,7 +161,7 @@ pub extern "C" fn wezghuli_tally<'a>(
     if !is_head(head) {
         return STATUS_NO_HEAD;
     }
-    let step = day::six::tally(head_of(head), campaign, terms, counts);
+    let step = day::in_place::tally(head_of(head), campaign, terms, counts);
     store(step, head, answer)
 }
 
@@ -182,6 +182,6 @@ pub extern "C" fn wezghuli_close<'a>(
     if !is_head(head) {
         return STATUS_NO_HEAD;
     }
-    let step = day::six::close(head_of(head), terms, counts);
+    let step = day::in_place::close(head_of(head), terms, counts);
     store(step, head, answer)
 }
