@@ -7,9 +7,8 @@
  * reads and writes only what it is lent, and returns a status:
  *
  *   0           accepted
- *   1 to 99     refused: the number of the first question that failed; the state is as it was, and of what else was
- *               lent only an answer is written, which says the same
- *   100 and up  misuse: what was lent is no state or no record; not one byte of it is changed
+ *   1 to 99     refused: the number of the first question that failed; not one byte of what was lent is changed
+ *   100 and up  misuse: what was lent is no state, no record, no stream or too little; not one byte of it is changed
  *
  * What the caller owes is what C itself asks: each pointer leads to as many elements as its parameter says, aligned as
  * its type asks, no two of them overlap, and nobody else writes to them during the call. A pointer to no bytes (of
@@ -33,6 +32,10 @@ extern "C" {
 #define WEZGHULI_STATUS_NO_HEAD 100
 /* The first word of a record is above WEZGHULI_FORM_TALLY. */
 #define WEZGHULI_STATUS_NO_FORM 101
+/* The first word of a stream is above WEZGHULI_LINE_BUFFER. */
+#define WEZGHULI_STATUS_NO_STREAM 102
+/* The buffer for answers is shorter than WEZGHULI_REPLY_ROOM. */
+#define WEZGHULI_STATUS_NO_ROOM 103
 
 /* The limits of a plan and its campaigns; money is in cents. */
 #define WEZGHULI_MAX_DEPTH 32
@@ -44,6 +47,9 @@ extern "C" {
 /* The longest line that is read, without its byte 10, and the room that every written line fits, with it. */
 #define WEZGHULI_MAX_LINE 200
 #define WEZGHULI_LINE_ROOM 201
+/* How many bytes of an unfinished line are kept, and the room for the longest answer to a line. */
+#define WEZGHULI_LINE_BUFFER 201
+#define WEZGHULI_REPLY_ROOM 16384
 
 /* A state, in memory of the caller. It may be copied, stored and sent as it is; its numbers are in the machine's byte
  * order. A state whose bytes were changed by somebody else is refused with 1 or 100 by every operation but
@@ -75,8 +81,7 @@ typedef struct {
 #define WEZGHULI_PHASE_RUNNING 1
 #define WEZGHULI_PHASE_CLOSED 2
 
-/* answer[0]; the values stand in answer[1] to answer[4], and 0 where there are fewer. */
-#define WEZGHULI_ANSWER_REFUSED 0 /* the question's number */
+/* answer[0]; the values stand in answer[1] to answer[4], and 0 where there are fewer. A refusal writes none. */
 #define WEZGHULI_ANSWER_DONE 1
 #define WEZGHULI_ANSWER_PLAYED 2  /* campaign, paid */
 #define WEZGHULI_ANSWER_NOBODY 3
@@ -95,6 +100,18 @@ typedef struct {
 #define WEZGHULI_FORM_REFUSED 8 /* the question's number */
 #define WEZGHULI_FORM_CLOSED 9  /* takings, total claim, full */
 #define WEZGHULI_FORM_TALLY 10  /* campaign, plays, turns, age, named */
+
+/* A stream of lines beside a state: the first bytes of a line that has not ended. One that has none begins as
+ * {{0}, {0}}; it may be copied, stored and sent as a state may. The library writes zero bytes behind those it keeps. */
+typedef struct {
+    uint64_t words[3];    /* see WEZGHULI_STREAM_.. */
+    uint8_t pending[201]; /* the first words[WEZGHULI_STREAM_KEPT] of them are kept */
+} wezghuli_stream;
+
+/* The words of a stream. */
+#define WEZGHULI_STREAM_KEPT 0    /* bytes of an unfinished line */
+#define WEZGHULI_STREAM_TAKEN 1   /* of the last block */
+#define WEZGHULI_STREAM_WRITTEN 2 /* bytes of the answers to it */
 
 /* Writes the blank state, whatever was there: Closed, depth 1, width 1, no campaigns, no views, no takings. A day
  * begins with it, or with any sound state that is Closed. It cannot fail and has no status. */
@@ -141,6 +158,20 @@ uint64_t wezghuli_read_line(const uint8_t *line, size_t line_len, uint64_t words
  * Refused, with out and length as they were: 17 a number is out of its range, 18 the line does not fit out.
  * WEZGHULI_STATUS_NO_FORM where words[0] is no form. */
 uint64_t wezghuli_write_line(const uint64_t words[6], uint8_t *out, size_t out_len, uint64_t length[1]);
+
+/* Feeds a block of input to the stream. Each line that ends in it, at its byte 10, is answered as the program answers it:
+ * the answers stand one behind the other at the front of out, each line of them with its byte 10, and later bytes of out
+ * keep their values. What is left of the block is kept for the next one. words[WEZGHULI_STREAM_TAKEN] bytes of input
+ * were taken: all of them, unless there was no longer room for the longest answer; hand the rest over again, with an
+ * empty buffer. words[WEZGHULI_STREAM_WRITTEN] bytes of out are answers. Refusals are answers too, and no status.
+ * WEZGHULI_STATUS_NO_HEAD, WEZGHULI_STATUS_NO_STREAM, WEZGHULI_STATUS_NO_ROOM, in this order. */
+uint64_t wezghuli_feed(uint64_t head[6], uint32_t terms[128], uint16_t counts[256],
+    uint8_t pending[201], uint64_t words[3], const uint8_t *input, size_t input_len, uint8_t *out, size_t out_len);
+
+/* Ends the input: a last line without byte 10 is answered, if it has bytes, and nothing is kept any more.
+ * Statuses as wezghuli_feed. */
+uint64_t wezghuli_finish(uint64_t head[6], uint32_t terms[128], uint16_t counts[256],
+    uint8_t pending[201], uint64_t words[3], uint8_t *out, size_t out_len);
 
 #ifdef __cplusplus
 }

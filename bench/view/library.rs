@@ -70,11 +70,10 @@ impl Day {
 
     pub fn view(&mut self, set: u64) -> Answer {
         let (h, t, n, a) = self.lent();
-        unsafe { wezghuli_view(h, t, n, set, a) };
-        match self.answer {
-            [0, question, ..] => Answer::Refused(question),
-            [2, campaign, paid, ..] => Answer::Played(campaign, paid),
-            _ => Answer::Nobody,
+        match (unsafe { wezghuli_view(h, t, n, set, a) }, self.answer) {
+            (0, [2, campaign, paid, ..]) => Answer::Played(campaign, paid),
+            (0, _) => Answer::Nobody,
+            (question, _) => Answer::Refused(question),
         }
     }
 

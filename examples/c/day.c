@@ -21,9 +21,10 @@ static const char *const LISTING[] = {
 
 /* The form of an answer's line. A tally's line also names its campaign: see print_tally. */
 static const uint64_t ANSWER_FORMS[] = {
-    [WEZGHULI_ANSWER_REFUSED] = WEZGHULI_FORM_REFUSED, [WEZGHULI_ANSWER_DONE] = WEZGHULI_FORM_OK,
-    [WEZGHULI_ANSWER_PLAYED] = WEZGHULI_FORM_PLAY,     [WEZGHULI_ANSWER_NOBODY] = WEZGHULI_FORM_NOBODY,
-    [WEZGHULI_ANSWER_TALLIED] = WEZGHULI_FORM_TALLY,   [WEZGHULI_ANSWER_CLOSING] = WEZGHULI_FORM_CLOSED,
+    [WEZGHULI_ANSWER_DONE] = WEZGHULI_FORM_OK,
+    [WEZGHULI_ANSWER_PLAYED] = WEZGHULI_FORM_PLAY,
+    [WEZGHULI_ANSWER_NOBODY] = WEZGHULI_FORM_NOBODY,
+    [WEZGHULI_ANSWER_CLOSING] = WEZGHULI_FORM_CLOSED,
 };
 
 static int print_record(const uint64_t words[6])
@@ -46,6 +47,13 @@ static int print_answer(const uint64_t answer[5])
     return print_record(words);
 }
 
+static int print_refusal(uint64_t question)
+{
+    uint64_t words[6] = {WEZGHULI_FORM_REFUSED, question, 0, 0, 0, 0};
+
+    return print_record(words);
+}
+
 /* The tally of one campaign. */
 static int print_tally(wezghuli_day *day, uint64_t campaign)
 {
@@ -53,7 +61,7 @@ static int print_tally(wezghuli_day *day, uint64_t campaign)
     uint64_t status = wezghuli_tally(day->head, day->terms, day->counts, campaign, answer);
 
     if (status != WEZGHULI_STATUS_ACCEPTED)
-        return print_answer(answer);
+        return print_refusal(status);
     uint64_t words[6] = {WEZGHULI_FORM_TALLY, campaign, answer[1], answer[2], answer[3], answer[4]};
     return print_record(words);
 }
@@ -73,7 +81,6 @@ static uint64_t call(wezghuli_day *day, const uint64_t words[6], uint64_t answer
     case WEZGHULI_FORM_CLOSE:
         return wezghuli_close(day->head, day->terms, day->counts, answer);
     default:
-        memcpy(answer, (uint64_t[5]){WEZGHULI_ANSWER_REFUSED, 17}, sizeof(uint64_t[5]));
         return 17;
     }
 }
@@ -82,16 +89,17 @@ static uint64_t call(wezghuli_day *day, const uint64_t words[6], uint64_t answer
 static int answer_line(wezghuli_day *day, const char *line)
 {
     uint64_t words[6];
-    uint64_t answer[5] = {0};
+    uint64_t answer[5];
     uint64_t status = wezghuli_read_line((const uint8_t *)line, strlen(line), words);
 
-    if (status != WEZGHULI_STATUS_ACCEPTED)
-        return print_answer((uint64_t[5]){WEZGHULI_ANSWER_REFUSED, status});
-    status = call(day, words, answer);
+    if (status == WEZGHULI_STATUS_ACCEPTED)
+        status = call(day, words, answer);
     if (status >= WEZGHULI_STATUS_NO_HEAD) {
         fprintf(stderr, "this memory holds no state: status %llu\n", (unsigned long long)status);
         return 1;
     }
+    if (status != WEZGHULI_STATUS_ACCEPTED)
+        return print_refusal(status);
     if (print_answer(answer))
         return 1;
     if (answer[0] == WEZGHULI_ANSWER_CLOSING)

@@ -59,7 +59,6 @@ mod c {
 
 const STATUS_NO_HEAD: u64 = 100;
 const HEAD_CAMPAIGNS: usize = 4;
-const ANSWER_REFUSED: u64 = 0;
 const ANSWER_CLOSING: u64 = 5;
 const FORM_PLAN: u64 = 0;
 const FORM_CAMPAIGN: u64 = 1;
@@ -74,15 +73,8 @@ const FORM_CLOSED: u64 = 9;
 const FORM_TALLY: u64 = 10;
 const LINE_ROOM: usize = 201;
 
-/// The form of each kind of answer, by its number.
-const ANSWER_FORMS: [u64; 6] = [
-    FORM_REFUSED,
-    FORM_OK,
-    FORM_PLAY,
-    FORM_NOBODY,
-    FORM_TALLY,
-    FORM_CLOSED,
-];
+/// The form of each kind of answer, which are numbered from 1.
+const ANSWER_FORMS: [u64; 5] = [FORM_OK, FORM_PLAY, FORM_NOBODY, FORM_TALLY, FORM_CLOSED];
 
 type Answer = [u64; 5];
 type Record = [u64; 6];
@@ -110,8 +102,9 @@ impl Day {
         day
     }
 
-    /// The answer to the call that a record asks for; an output form asks for none.
-    fn call(&mut self, words: Record) -> Answer {
+    /// The answer to the call that a record asks for, or the number of the question that failed; an output form asks for
+    /// none.
+    fn call(&mut self, words: Record) -> Result<Answer, u64> {
         let mut answer = [0; 5];
         let (h, t, n) = (
             self.head.as_mut_ptr(),
@@ -126,11 +119,14 @@ impl Day {
                 FORM_START => c::wezghuli_start(h, t, n, a),
                 FORM_VIEW => c::wezghuli_view(h, t, n, words[1], a),
                 FORM_CLOSE => c::wezghuli_close(h, t, n, a),
-                _ => return [ANSWER_REFUSED, 17, 0, 0, 0],
+                _ => return Err(17),
             }
         };
         assert!(status < STATUS_NO_HEAD, "this memory holds no state");
-        answer
+        match status {
+            0 => Ok(answer),
+            question => Err(question),
+        }
     }
 
     fn tally(&mut self, campaign: u64) -> Record {
@@ -180,7 +176,7 @@ fn print(words: Record) {
 }
 
 fn print_answer(a: Answer) {
-    print([ANSWER_FORMS[a[0] as usize], a[1], a[2], a[3], a[4], 0]);
+    print([ANSWER_FORMS[a[0] as usize - 1], a[1], a[2], a[3], a[4], 0]);
 }
 
 const LISTING: &str = "\
@@ -200,9 +196,12 @@ const LISTING: &str = "\
 fn main() {
     let mut day = Day::blank();
     for line in LISTING.lines() {
-        let answer = match read(line) {
-            Ok(words) => day.call(words),
-            Err(question) => [ANSWER_REFUSED, question, 0, 0, 0],
+        let answer = match read(line).and_then(|words| day.call(words)) {
+            Ok(answer) => answer,
+            Err(question) => {
+                print([FORM_REFUSED, question, 0, 0, 0, 0]);
+                continue;
+            }
         };
         print_answer(answer);
         if answer[0] == ANSWER_CLOSING {

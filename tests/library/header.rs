@@ -35,14 +35,14 @@ pub fn functions(text: &str) -> BTreeMap<String, String> {
         .collect()
 }
 
-/// The fields of `wezghuli_day`.
-pub fn fields(text: &str) -> Option<String> {
+/// The fields of `wezghuli_NAME`.
+pub fn fields(text: &str, name: &str) -> Option<String> {
     let text = without_comments(text);
-    let (_, rest) = text.split_once("typedef struct {")?;
-    let (fields, name) = rest.split_once('}')?;
-    name.trim_start()
-        .starts_with("wezghuli_day;")
-        .then(|| spaced(fields))
+    let end = format!("wezghuli_{name};");
+    text.split("typedef struct {").skip(1).find_map(|rest| {
+        let (fields, after) = rest.split_once('}')?;
+        after.trim_start().starts_with(&end).then(|| spaced(fields))
+    })
 }
 
 /// The macros that are numbers, by what follows `WEZGHULI_`.

@@ -9,7 +9,7 @@ use std::fs;
 use std::process::exit;
 
 /// Constants of the header that the source has no name for: where columns begin, and the lengths of lines.
-const BY_BEHAVIOUR: [&str; 8] = [
+const BY_BEHAVIOUR: [&str; 10] = [
     "TERMS_PRICE",
     "TERMS_BUDGET",
     "COUNTS_PLAYS",
@@ -18,6 +18,8 @@ const BY_BEHAVIOUR: [&str; 8] = [
     "COUNTS_NAMED",
     "MAX_LINE",
     "LINE_ROOM",
+    "LINE_BUFFER",
+    "REPLY_ROOM",
 ];
 
 /// Programs in Rust that declare functions of the library.
@@ -28,6 +30,9 @@ const RUST: [&str; 5] = [
     "bench/lines.rs",
     "bench/view/library.rs",
 ];
+
+/// The sources of the library itself: its functions, and its constants.
+const LIBRARY: [&str; 2] = ["crates/wezghuli/src", "crates/encoding/src"];
 
 /// What is compared.
 #[derive(Clone)]
@@ -63,12 +68,12 @@ fn texts() -> Texts {
         .expect("the folder crates")
         .flatten()
         .map(|c| c.path().join("src").to_string_lossy().into_owned())
-        .filter(|c| !c.contains("/wezghuli/"))
+        .filter(|c| !LIBRARY.contains(&c.as_str()))
         .collect();
     crates.sort();
     Texts {
         header: read("include/wezghuli.h"),
-        library: sources("crates/wezghuli/src"),
+        library: LIBRARY.map(sources).concat(),
         below: crates.iter().map(|c| sources(c)).collect(),
         rust: RUST.map(|path| (path, read(path))).to_vec(),
     }
@@ -114,7 +119,7 @@ fn compare(texts: &Texts) -> Findings {
         found.same(name, declared.get(name).cloned(), due);
     }
     let fields = exported.get("wezghuli_blank").map(|f| f.fields_in_c());
-    found.same("wezghuli_day", header::fields(&texts.header), fields);
+    found.same("wezghuli_day", header::fields(&texts.header, "day"), fields);
 
     let own = source::constants(&texts.library);
     let below = source::constants(&texts.below);

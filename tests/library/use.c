@@ -1,5 +1,6 @@
-/* What the header says and the source has no name for, tried: where columns begin, the lengths of lines, misuse, and the
- * stack that each function takes, found by running it on a stack that was painted before. */
+/* What the header says and the source has no name for, tried: where columns begin, the lengths of lines, misuse, refusals,
+ * a stream in blocks of every length, and the stack that each function takes, found by running it on a stack that was
+ * painted before. */
 #define _XOPEN_SOURCE 700
 #include <stdint.h>
 #include <stdio.h>
@@ -13,6 +14,7 @@
 
 _Static_assert(WEZGHULI_LINE_ROOM == WEZGHULI_MAX_LINE + 1, "the longest line that is read, and its byte 10");
 _Static_assert(sizeof(wezghuli_day) == 1072, "a state has no gaps");
+_Static_assert(sizeof ((wezghuli_stream *)0)->pending == WEZGHULI_LINE_BUFFER, "an unfinished line");
 
 static unsigned passed, failed;
 
@@ -90,6 +92,118 @@ static void lengths(void)
     expect(memcmp(longest, words, sizeof words) == 0, "as what was written");
 }
 
+/* Each question that an operation asks, failed: the status says which and not one byte changes. */
+static void refusals(void)
+{
+    uint64_t given[5] = {11, 12, 13, 14, 15};
+
+    run_day();
+    wezghuli_day before = day;
+    memcpy(answer, given, sizeof answer);
+    expect(wezghuli_open(day.head, day.terms, day.counts, 2, 2, answer) == 2, "a running day is not opened");
+    expect(wezghuli_add(day.head, day.terms, day.counts, 5, 10, answer) == 6, "nor filled");
+    expect(wezghuli_start(day.head, day.terms, day.counts, answer) == 6, "nor started");
+    expect(wezghuli_view(day.head, day.terms, day.counts, 8, answer) == 13, "a view of no campaign");
+    expect(wezghuli_tally(day.head, day.terms, day.counts, 3, answer) == 15, "a tally of none");
+    expect(memcmp(&before, &day, sizeof day) == 0, "a refusal leaves the state");
+    expect(memcmp(given, answer, sizeof answer) == 0, "and the answer");
+    day.counts[WEZGHULI_COUNTS_PLAYS + 2] = 99;
+    before = day;
+    expect(wezghuli_close(day.head, day.terms, day.counts, answer) == 1, "a state that is not sound");
+    expect(memcmp(&before, &day, sizeof day) == 0 && memcmp(given, answer, sizeof answer) == 0, "is left as it was");
+}
+
+/* A stream: input in blocks of every length, each byte of what is lent afterwards, and misuse. */
+static const char INPUT[] = "(plan (depth 2) (width 2))\n(campaign (price 5) (budget 10))\n(start)\n(view 0)\n\n(close)";
+static const char OUTPUT[] = "(ok)\n(ok)\n(ok)\n(play 0 (paid 5))\n(refused 17)\n"
+                             "(closed (takings 5) (claim 15) (full 20))\n(tally 0 (plays 1) (turns 1) (age 0) (named 1))\n";
+
+static wezghuli_stream stream;
+static uint8_t room[WEZGHULI_REPLY_ROOM + 512];
+static uint8_t told[1024];
+static size_t told_len;
+
+static uint64_t feed(const void *input, size_t length, size_t out_len)
+{
+    return wezghuli_feed(day.head, day.terms, day.counts, stream.pending, stream.words, input, length, room, out_len);
+}
+
+static uint64_t finish(size_t out_len)
+{
+    return wezghuli_finish(day.head, day.terms, day.counts, stream.pending, stream.words, room, out_len);
+}
+
+/* Keeps the answers; what lies behind them in the buffer and behind the bytes kept of a line is as it should be. */
+static int kept_apart(void)
+{
+    size_t length = stream.words[WEZGHULI_STREAM_WRITTEN];
+    int clean = 1;
+
+    memcpy(told + told_len, room, length);
+    told_len += length;
+    for (size_t i = length; i < sizeof room; i++)
+        clean &= room[i] == 'o';
+    for (size_t i = stream.words[WEZGHULI_STREAM_KEPT]; i < sizeof stream.pending; i++)
+        clean &= stream.pending[i] == 0;
+    memset(room, 'o', length);
+    return clean;
+}
+
+static int answered(size_t block, size_t out_len)
+{
+    size_t at = 0, length = strlen(INPUT);
+    int good = 1;
+
+    wezghuli_blank(day.head, day.terms, day.counts);
+    memset(&stream, 0, sizeof stream);
+    memset(room, 'o', sizeof room);
+    told_len = 0;
+    while (at < length) {
+        good &= feed(INPUT + at, length - at < block ? length - at : block, out_len) == 0 && kept_apart();
+        at += stream.words[WEZGHULI_STREAM_TAKEN];
+    }
+    good &= finish(out_len) == 0 && kept_apart() && stream.words[WEZGHULI_STREAM_KEPT] == 0;
+    good &= finish(out_len) == 0 && stream.words[WEZGHULI_STREAM_WRITTEN] == 0;
+    return good && told_len == strlen(OUTPUT) && memcmp(told, OUTPUT, told_len) == 0;
+}
+
+static int left_alone(uint64_t status, uint64_t head, uint64_t kept, size_t out_len)
+{
+    wezghuli_day before;
+    wezghuli_stream was;
+
+    run_day();
+    memset(&stream, 'p', sizeof stream);
+    memset(room, 'o', sizeof room);
+    day.head[WEZGHULI_HEAD_PHASE] = head;
+    stream.words[WEZGHULI_STREAM_KEPT] = kept;
+    before = day;
+    was = stream;
+    int good = feed("(start)\n", 8, out_len) == status && finish(out_len) == status;
+    for (size_t i = 0; i < sizeof room; i++)
+        good &= room[i] == 'o';
+    return good && memcmp(&before, &day, sizeof day) == 0 && memcmp(&was, &stream, sizeof stream) == 0;
+}
+
+static void streams(void)
+{
+    for (size_t block = 1; block <= strlen(INPUT); block++) {
+        expect(answered(block, WEZGHULI_REPLY_ROOM), "blocks of any length are answered alike");
+        expect(answered(block, sizeof room), "with any room");
+    }
+    expect(left_alone(WEZGHULI_STATUS_NO_HEAD, 3, WEZGHULI_LINE_BUFFER + 1, 0), "no head is told first");
+    expect(left_alone(WEZGHULI_STATUS_NO_STREAM, 1, WEZGHULI_LINE_BUFFER + 1, 0), "then no stream");
+    expect(left_alone(WEZGHULI_STATUS_NO_STREAM, 1, UINT64_MAX, sizeof room), "of any count");
+    expect(left_alone(WEZGHULI_STATUS_NO_ROOM, 1, WEZGHULI_LINE_BUFFER, WEZGHULI_REPLY_ROOM - 1), "then no room");
+
+    run_day();
+    memset(&stream, 'x', sizeof stream);
+    stream.words[WEZGHULI_STREAM_KEPT] = WEZGHULI_LINE_BUFFER;
+    expect(feed("\n(view 2)\n", 10, WEZGHULI_REPLY_ROOM) == 0, "a line that is too long");
+    expect(stream.words[WEZGHULI_STREAM_TAKEN] == 1, "one answer fills the least buffer");
+    expect(stream.words[WEZGHULI_STREAM_WRITTEN] == 13 && memcmp(room, "(refused 16)\n", 13) == 0, "it gets 16");
+}
+
 /* Words that are no head or no record: the status says so and not one byte changes. */
 static void misuse(void)
 {
@@ -138,6 +252,8 @@ static void closes(void) { wezghuli_close(day.head, day.terms, day.counts, answe
 static const char *text;
 static uint64_t record[6], length[1];
 static uint8_t out[WEZGHULI_LINE_ROOM];
+static void feeds(void) { feed(INPUT, strlen(INPUT), sizeof room); }
+static void finishes(void) { finish(sizeof room); }
 static void reads(void) { wezghuli_read_line((const uint8_t *)text, strlen(text), record); }
 static void writes(void) { wezghuli_write_line(record, out, sizeof out, length); }
 
@@ -196,6 +312,12 @@ static void stacks(void)
     text = "(view 0 1 2 3 4 5 6 7 8 9 10 11 12 13 14 15 16 17 18 19 20 21 22 23 24 25 26 27 28 29 30 31 63)";
     measure("read_line", reads);
     measure("write_line", writes);
+    wezghuli_blank(day.head, day.terms, day.counts);
+    memset(&stream, 0, sizeof stream);
+    measure("feed", feeds);
+    expect(stream.words[WEZGHULI_STREAM_KEPT] == 7, "the measured block was fed");
+    measure("finish", finishes);
+    expect(day.head[WEZGHULI_HEAD_PHASE] == WEZGHULI_PHASE_CLOSED, "and its last line answered");
     printf("stack at most %zu bytes of %d\n", most, STACK_LIMIT);
 }
 
@@ -204,6 +326,8 @@ int main(void)
     columns();
     lengths();
     misuse();
+    refusals();
+    streams();
     stacks();
     printf("%u passed, %u failed\n", passed, failed);
     return failed != 0;

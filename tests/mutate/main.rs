@@ -18,7 +18,7 @@ use std::io::Write;
 use std::path::{Path, PathBuf};
 use std::process::Command;
 
-const CRATES: [&str; 15] = [
+const CRATES: [&str; 16] = [
     "sets",
     "powers",
     "campaigns",
@@ -33,6 +33,7 @@ const CRATES: [&str; 15] = [
     "stream",
     "replay",
     "pumpday",
+    "encoding",
     "wezghuli",
 ];
 

@@ -48,7 +48,8 @@ pub fn outcome(day: &Day, call: Call) -> (u64, Lent) {
     };
     let mut after = lent(&next).expect("a call of a state that fits hands back one that fits");
     after.answer = match answer {
-        Answer::Refused(question) => [0, question, 0, 0, 0],
+        // a refusal leaves what was there
+        Answer::Refused(_) => after.answer,
         Answer::Ok => [1, 0, 0, 0, 0],
         Answer::Play { campaign, paid } => [2, campaign, paid, 0, 0],
         Answer::Nobody => [3, 0, 0, 0, 0],
