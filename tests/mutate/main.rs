@@ -18,12 +18,13 @@ use std::io::Write;
 use std::path::{Path, PathBuf};
 use std::process::Command;
 
-const CRATES: [&str; 16] = [
+const CRATES: [&str; 17] = [
     "sets",
     "powers",
     "campaigns",
     "audit",
     "choice",
+    "questions",
     "day",
     "lines",
     "print",
