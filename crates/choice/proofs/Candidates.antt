@@ -8,7 +8,8 @@ use native.Mathlib.Numerals.{add-one}
 use lib.Dec.{ltb}
 use Rattle.finite.proofs.Tests.{stands, never, both-left, both-right}
 use Rattle.sets.specs.Set.{within}
-use Rattle.sets.proofs.Walk.{Next, within-not-member}
+use Rattle.sets.specs.Walk.{Next}
+use Rattle.sets.proofs.Bounds.{within-not-member}
 use Rattle.campaigns.specs.declared.Campaign.{Campaign}
 use Rattle.campaigns.specs.declared.Plan.{Plan}
 use Rattle.campaigns.specs.declared.View.{View}

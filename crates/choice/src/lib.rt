@@ -10,7 +10,8 @@ ghost use mathlib.Core.Bool.{true};
 ghost use Prim.Native.Nat.{_≤_, _<_};
 ghost use Rattle.campaigns.specs.Campaign.{priced, campaign-at};
 ghost use Rattle.campaigns.specs.Contracts.{Fits-arrays, Room, Weights};
-ghost use Rattle.choice.specs.Candidates.{no-candidate, compared, candidate-of, after-view};
+ghost use Rattle.choice.specs.Candidates.{compared, candidate-of, after-view};
+ghost use Rattle.choice.specs.Walk.{walked};
 ghost use Rattle.choice.specs.Contracts.{put, Counts, Ready};
 
 // The best candidate so far: a campaign, what it would pay, and its score. A score of 0 can be the best, so that nobody
@@ -57,8 +58,8 @@ fn store(i: usize, c: Campaign, counts: &mut [u16; 256])
     counts[i + 192] = c.named as u16;
 }
 
-// One walk over the named campaigns: each is compared with the best so far, and each is marked as one that is passed
-// over, since who plays is known at the end alone. `rest` is the set from `from` on, moved down.
+// One walk over the named campaigns, from the least to the next: each is compared with the best so far, and each is
+// marked as one that is passed over, since who plays is known at the end alone. `left` is the set that is left to walk.
 fn walk<'a>(
     view: View,
     plan: Plan,
@@ -69,9 +70,9 @@ fn walk<'a>(
     requires { ⌜ Weights plan (now weights) ⌝ }
     requires { ⌜ Room (now terms) (now counts) ⌝ }
     requires { ⌜ Ready plan view (campaign-at (now terms) (now counts)) ⌝ }
-    ensures { λ r. ⌜ r ≡ candidate-of plan view (campaign-at (now (terms .entry)) (now (counts .entry))) 64 ⌝ }
-    ensures { λ _. ⌜ Counts (after-view plan view no-candidate
-        (campaign-at (now (terms .entry)) (now (counts .entry)))) (now (terms .entry)) (now (counts .exit)) ⌝ }
+    ensures { λ r. ⌜ r ≡ walked plan view (campaign-at (now (terms .entry)) (now (counts .entry))) .best ⌝ }
+    ensures { λ _. ⌜ Counts (walked plan view (campaign-at (now (terms .entry)) (now (counts .entry))) .campaigns)
+        (now (terms .entry)) (now (counts .exit)) ⌝ }
 {
     let depth = plan.depth;
     let mut best = Candidate {
@@ -80,18 +81,15 @@ fn walk<'a>(
         paid: 0,
         score: 0,
     };
-    let mut rest = view.set;
-    let mut from: u64 = 0;
-    while rest != 0 {
-        let skip = u64::trailing_zeros(rest) as u64;
-        let i = from + skip;
+    let mut left = view.set;
+    while left != 0 {
+        let i = sets::first(left);
         let at = i as usize;
         let c = entry(at, terms, counts);
         best = compare(best, i, c, plan, weights);
         let passed = c.passed_over(depth);
         store(at, passed, counts);
-        rest = rest >> skip >> 1;
-        from = i + 1;
+        left = sets::rest(left);
     }
     best
 }

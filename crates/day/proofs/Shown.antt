@@ -7,7 +7,7 @@ use Prim.Native.Nat.{ℕ, _+_, _≤_, _<_}
 use native.Mathlib.Omega.{arith}
 use Rattle.finite.proofs.Tests.{never}
 use Rattle.sets.specs.Set.{within}
-use Rattle.sets.proofs.Walk.{within-member}
+use Rattle.sets.proofs.Bounds.{within-member}
 use Rattle.campaigns.specs.declared.Head.{Head}
 use Rattle.campaigns.specs.declared.Phase.{Phase}
 use Rattle.campaigns.specs.declared.Phase.the-variants.{Filling, Running, Closed}

@@ -12,7 +12,7 @@ use Rattle.finite.specs.Finite.{sum, count}
 use Rattle.finite.proofs.Tests.{both-right, all-of, every-of, joint-of, one-more}
 use Rattle.finite.proofs.Sums.{sum-eq, sum-zero, count-below}
 use Rattle.sets.specs.Set.{size}
-use Rattle.sets.proofs.Walk.{within-not-member}
+use Rattle.sets.proofs.Bounds.{within-not-member}
 use Rattle.campaigns.specs.declared.Campaign.{Campaign}
 use Rattle.campaigns.specs.declared.Phase.{Phase}
 use Rattle.campaigns.specs.declared.Phase.the-variants.{Filling, Running, Closed}

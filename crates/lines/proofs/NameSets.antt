@@ -4,49 +4,20 @@ use mathlib.Core.Path.{_≡_, refl, sym, ap, ap₂, _∙_}
 use mathlib.Core.Bool.{Bool, true, false, cond, not}
 use mathlib.Core.List.{List, [], _∷_, _++_, append-assoc, append-nil}
 use Prim.Native.Nat.{ℕ, zero, suc, _+_, _*_, _-_, _/_, _%_, _^_, _≤_, _<_}
-use native.Mathlib.Nat.{pow-suc, pow-zero, mod-lt, mod-one, mod-eq-of-lt, div-eq-of-lt, lt-of-lt-of-le}
-use native.Mathlib.Nat.{add-mul-div-right}
+use native.Mathlib.Nat.{pow-suc, pow-zero, mod-lt, mod-one, mod-eq-of-lt}
 use native.Mathlib.Omega.{arith}
-use lib.Dec.{ltb, eqb, lit<}
+use lib.Dec.{ltb, eqb}
 use lib.ListN.{length, length-append}
-use lib.Pow.{pow-pos, pow-mono, pow-add, mod-pow-add}
+use lib.Pow.{pow-pos, pow-mono}
 use borrow.Author.Tests.{ltb-true, ltb-false, lt-ltb, le-leb, leb-true, eqb-true, eqb-false, not-true}
 use Rattle.sets.specs.Set.{member}
+use Rattle.sets.proofs.Algebra.{mod-suc, add-low, add-top, none-above, empty-member}
 use Rattle.lines.specs.Limits.{max-campaign, set-bits}
 use Rattle.lines.specs.Numeral.{numeral}
 use Rattle.lines.specs.Form.{campaign-slot, in-slot, names-text}
 use Rattle.lines.specs.Reading.{Seen, seen, unseen, is-digit, numeral-at, ranged, with-name, and-then, names-at}
 use Rattle.lines.proofs.Digits.{clash, ranged-yes}
 use Rattle.lines.proofs.Numerals.{stops, numeral-one, numeral-more, numeral-sound, numeral-back}
-
--- Members of a sum of powers of two.
-
-module _ (v n : ℕ) where
-  -- a greater bit leaves the lower ones
-  add-low : (j : ℕ) → j < n → member (v + 2 ^ n) j ≡ member v j
-  unfolding member
-  add-low j h =
-      let k = n - (j + 1) in
-      let e : n ≡ k + 1 + j = omega arith in
-      let p : 2 ^ n ≡ 2 ^ k * 2 * 2 ^ j =
-      ap (λ (x : ℕ). 2 ^ x) e ∙ pow-add 2 (k + 1) j ∙ ap (λ (x : ℕ). x * 2 ^ j) (pow-add 2 k 1) in
-      let q : (v + 2 ^ n) / 2 ^ j ≡ v / 2 ^ j + 2 ^ k * 2 =
-      ap (λ (x : ℕ). (v + x) / 2 ^ j) p ∙ add-mul-div-right v (2 ^ k * 2) (pow-pos j) in
-      let r : (v / 2 ^ j + 2 ^ k * 2) % 2 ≡ v / 2 ^ j % 2 = omega arith in
-      ap (λ (x : ℕ). eqb x 1) (ap (λ (x : ℕ). x % 2) q ∙ r)
-
-  module _ (low : v < 2 ^ n) where
-    add-top : member (v + 2 ^ n) n ≡ true
-    unfolding member
-    add-top =
-        let e : v + 2 ^ n ≡ v + 1 * 2 ^ n = omega arith in
-        let q : (v + 2 ^ n) / 2 ^ n ≡ 1 =
-        ap (λ (x : ℕ). x / 2 ^ n) e ∙ add-mul-div-right v 1 (pow-pos n) ∙ ap (λ (x : ℕ). x + 1) (div-eq-of-lt low) in
-        ap (λ (x : ℕ). eqb (x % 2) 1) q
-
-    pub above : (j : ℕ) → n ≤ j → member v j ≡ false
-    unfolding member
-    above j h = ap (λ (x : ℕ). eqb (x % 2) 1) (div-eq-of-lt (lt-of-lt-of-le low (pow-mono h)))
 
 -- The names by their members.
 
@@ -81,11 +52,11 @@ names-snoc n v h low =
     let f : set-bits ≡ suc k + n = omega arith in
     let small : v + 2 ^ n < 2 ^ suc n = omega (arith, pow-suc 2 n) in
     ap (λ (x : ℕ). names-text x (v + 2 ^ n)) e
-    ∙ names-skip k (suc n) (v + 2 ^ n) (λ j p q. above (v + 2 ^ n) (suc n) small j p)
+    ∙ names-skip k (suc n) (v + 2 ^ n) (λ j p q. none-above (v + 2 ^ n) (suc n) small j p)
     ∙ names-here n (v + 2 ^ n) (add-top v n low)
     ∙ ap (λ (x : List ℕ). x ++ (32 ∷ numeral n))
     (names-same n (v + 2 ^ n) v (add-low v n)
-    ∙ sym (ap (λ (x : ℕ). names-text x v) f ∙ names-skip (suc k) n v (λ j p q. above v n low j p)))
+    ∙ sym (ap (λ (x : ℕ). names-text x v) f ∙ names-skip (suc k) n v (λ j p q. none-above v n low j p)))
 
 -- What is read is the names of the set.
 
@@ -145,7 +116,7 @@ unfolding names-text
 names-zero zero = refl
 names-zero (suc n) =
     ap (λ (x : List ℕ). x ++ cond (member 0 n) (32 ∷ numeral n) []) (names-zero n)
-    ∙ ap (λ (t : Bool). cond t (32 ∷ numeral n) []) (above 0 0 (lit< tt) n (omega arith))
+    ∙ ap (λ (t : Bool). cond t (32 ∷ numeral n) []) (empty-member n)
 
 pub set-sound : (l : List ℕ) (u : ℕ) (m : List ℕ) → names-at (suc set-bits) 0 l ≡ seen u m
     → (l ≡ names-text set-bits u ++ m) × (u < 2 ^ 64)
@@ -154,10 +125,6 @@ set-sound l u m e =
     (ap (λ (x : List ℕ). x ++ l) (sym (names-zero set-bits)) ∙ s .0, s .1)
 
 -- The names of a set are read as that set.
-
--- one bit more
-mod-suc : (v n : ℕ) → v % 2 ^ suc n ≡ v / 2 ^ n % 2 * 2 ^ n + v % 2 ^ n
-mod-suc v n = let e : suc n ≡ 1 + n = omega arith in ap (λ (x : ℕ). v % 2 ^ x) e ∙ mod-pow-add v 1 n
 
 mod-here : (v n : ℕ) → member v n ≡ true → v % 2 ^ n + 2 ^ n ≡ v % 2 ^ suc n
 unfolding member

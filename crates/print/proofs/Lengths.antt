@@ -11,13 +11,12 @@ use borrow.Author.Tests.{eq-eqb, ne-eqb}
 use lib.Pow.{field, mod-mod-pow}
 use Rattle.finite.specs.Finite.{one-if, count}
 use Rattle.finite.proofs.Sums.{sum-zero, sum-eq, count-suc, count-skip}
-use Rattle.sets.specs.Set.{member, size, next}
-use Rattle.sets.proofs.Walk.{next-is}
+use Rattle.sets.specs.Set.{member, size}
 use Rattle.lines.specs.Limits.{set-bits}
 use Rattle.lines.specs.Numeral.{numeral}
 use Rattle.lines.specs.Form.{names-slot, names-text, slot-text}
 use Rattle.lines.proofs.Numerals.{numeral-one, numeral-more}
-use Rattle.lines.proofs.NameSets.{above, names-skip}
+use Rattle.sets.proofs.Algebra.{none-above}
 
 -- Numerals.
 
@@ -110,7 +109,7 @@ low-member v i h =
 low-size : (v : ℕ) → size (v % 1024) ≡ count 10 (member v)
 unfolding size count
 low-size v =
-    count-skip 54 10 (member (v % 1024)) (λ i p q. above (v % 1024) 10 (omega arith) i p)
+    count-skip 54 10 (member (v % 1024)) (λ i p q. none-above (v % 1024) 10 (omega arith) i p)
     ∙ sum-eq 10 (λ i. one-if (member (v % 1024) i)) (λ i. one-if (member v i)) (λ i h. ap one-if (low-member v i h))
 
 pub names-size : (v : ℕ) → length (names-text set-bits v) + size (v % 1024) ≡ 3 * size v
@@ -128,26 +127,6 @@ count-most (suc n) p = go (p n) refl (count-most n p)
 pub size-most : (v : ℕ) → size v ≤ set-bits
 unfolding size
 size-most v = count-most set-bits (member v)
-
--- Up to the next member no name is added.
-
-pub names-next : (set a : ℕ) → a ≤ set-bits → names-text (next set a) set ≡ names-text a set
-names-next set a h =
-    let n = next-is set a h in
-    let e : next set a - a + a ≡ next set a = omega (arith, n .low) in
-    ap (λ (x : ℕ). names-text x set) (sym e) ∙ names-skip (next set a - a) a set (λ j p q. n .gap j p (omega arith))
-
-pub names-less : (k n v : ℕ) → length (names-text n v) ≤ length (names-text (k + n) v)
-unfolding names-text
-names-less zero n v = let e : 0 + n ≡ n = omega arith in omega (arith, ap (λ (x : ℕ). length (names-text x v)) e)
-names-less (suc k) n v =
-    let e : suc k + n ≡ suc (k + n) = omega arith in
-    omega (
-      arith,
-      names-less k n v,
-      ap (λ (x : ℕ). length (names-text x v)) e,
-      length-append (names-text (k + n) v) (cond (member v (k + n)) (32 ∷ numeral (k + n)) []),
-    )
 
 -- A slot.
 

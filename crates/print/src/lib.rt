@@ -9,7 +9,6 @@ ghost use Rattle.lines.specs.Limits.{set-bits, max-names};
 ghost use Rattle.lines.specs.Numeral.{numeral};
 ghost use Rattle.lines.specs.Form.{names-text, slot-text};
 ghost use Rattle.print.specs.Contracts.{max-counted, Counted};
-use lines::slots::SET_BITS;
 use lines::slots::in_slot;
 
 // Whether numbers are in the ranges of their slots, and the length of a line: as far as its slots are counted.
@@ -131,16 +130,16 @@ fn put_name(out: &mut [u8], at: usize, name: u64) -> usize
     at + 3
 }
 
-// The names of a set at the place at: from its least member to the next.
+// The names of a set at the place at, by the walk of the set: from its least member to the next.
 fn put_names(out: &mut [u8], at: usize, set: u64) -> usize
     requires { ⌜ at + length (names-text set-bits set) ≤ length (now out) ⌝ }
     ensures { λ r. ⌜ Put (now (out .entry)) (now (out .exit)) at r (names-text set-bits set) ⌝ }
 {
     let mut to = at;
-    let mut name = sets::next_from(set, 0);
-    while name < SET_BITS {
-        to = put_name(out, to, name);
-        name = sets::next_from(set, name + 1);
+    let mut left = set;
+    while left != 0 {
+        to = put_name(out, to, sets::first(left));
+        left = sets::rest(left);
     }
     to
 }

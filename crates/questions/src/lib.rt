@@ -63,7 +63,7 @@ pub fn view_question(head: Head, view: View) -> u64
         return 12;
     }
     let set = view.set;
-    if sets::next_from(set, head.count) < 64 {
+    if !sets::within(set, head.count) {
         return 13;
     }
     let named = sets::count(set);

@@ -1,2 +1,4 @@
 pub mod Bits
+pub mod Algebra
 pub mod Walk
+pub mod Bounds

@@ -1,6 +1,5 @@
 -- A set of numbers from 0 to 63 as one number: bit i stands for i.
-use mathlib.Core.Bool.{Bool, true, cond, _&&_}
-use mathlib.Core.List.{List, [], _∷_}
+use mathlib.Core.Bool.{Bool, true, cond, not, _&&_, _||_}
 use Prim.Native.Nat.{ℕ, zero, suc, _+_, _/_, _%_, _^_}
 use lib.Dec.{leb, ltb, eqb}
 use Rattle.finite.specs.Finite.{count, every, least}
@@ -21,11 +20,19 @@ within n set = every 64 (λ i. cond (member set i) (ltb i n) true)
 unfoldable pub next : ℕ → ℕ → ℕ
 next set a = least 64 (λ i. leb a i && member set i)
 
--- the walk: at most `fuel` steps, the first to the least member from a on, each later one to the least above the last
-unfoldable pub walk : (fuel : ℕ) → ℕ → ℕ → List ℕ
-walk zero set a = []
-walk (suc f) set a = cond (ltb (next set a) 64) (next set a ∷ walk f set (next set a + 1)) []
+-- the set of the numbers below n that pass the test
+unfoldable pub collect : ℕ → (ℕ → Bool) → ℕ
+collect zero p = 0
+collect (suc n) p = collect n p + cond (p n) (2 ^ n) 0
 
--- the members in rising order
-unfoldable pub members : ℕ → List ℕ
-members set = walk 64 set 0
+-- the members of a set that are not in the other
+unfoldable pub without : ℕ → ℕ → ℕ
+without set out = collect 64 (λ i. member set i && not (member out i))
+
+-- the set with i
+unfoldable pub including : ℕ → ℕ → ℕ
+including set i = collect 64 (λ j. member set j || eqb j i)
+
+-- the members above a
+unfoldable pub beyond : ℕ → ℕ → ℕ
+beyond set a = collect 64 (λ i. member set i && ltb a i)

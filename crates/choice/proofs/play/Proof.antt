@@ -10,11 +10,12 @@ use Rattle.campaigns.specs.Campaign.{campaign-at}
 use Rattle.campaigns.specs.Choice.{role-of}
 use Rattle.campaigns.specs.Contracts.{Fits-arrays, played}
 use Rattle.campaigns.specs.View.{names, pays}
-use Rattle.choice.specs.Candidates.{no-candidate, after-view}
+use Rattle.choice.specs.Candidates.{candidate-of, after-view}
 use Rattle.choice.specs.Contracts.{Counts}
 use Rattle.choice.proofs.Candidates.{candidate-able}
 use Rattle.choice.proofs.Marks.{Grown, becomes-grown, played-grown, same-counts, put-counts, played-marks}
-use Rattle.choice.proofs.Marks.{unplayed-marks}
+use Rattle.choice.proofs.Marks.{marks, unplayed-marks}
+use Rattle.choice.proofs.Steps.{walked-best, walked-counts}
 use Rattle.choice.proofs.play.Statement.{statement}
 use Rattle.choice.proofs.play.Tie as tie
 
@@ -22,23 +23,30 @@ use Rattle.choice.proofs.play.Tie as tie
 abbrev came : tie.Start → ℕ → Campaign
 came s = campaign-at (s .args .terms .now) (s .args .counts .now)
 
-abbrev walked : tie.Start → ℕ → Campaign
-walked s = after-view (s .args .plan) (s .args .view) no-candidate (came s)
+abbrev left : tie.Start → ℕ → Campaign
+left s = marks (s .args .plan) (s .args .view) (came s)
+
+best-is : (c : tie.After-walk) → let s = c .before .before in
+    c .walk .result ≡ candidate-of (s .args .plan) (s .args .view) (came s) 64
+best-is c = let s = c .before .before in c .walk .ensures .0 ∙ walked-best (s .args .plan) (s .args .view) (came s)
 
 -- who plays is named and can pay
 able : (c : tie.Then1) → let s = c .before .before .before in let m = c .before .walk .result .campaign in
     (m < 64) × (names (s .args .view) m ≡ true) × (pays (s .args .plan) (s .args .view) m (came s m) ≡ true)
 able c =
     let s = c .before .before .before in
-    let walk = c .before .walk in
-    candidate-able (s .args .plan) (s .args .view) (came s) 64 (walk .result) (walk .ensures .0) (c .if1 .taken)
+    candidate-able (s .args .plan) (s .args .view) (came s) 64 (c .before .walk .result) (best-is (c .before))
+    (c .if1 .taken)
 
 -- and marked as passed over
 marked : (c : tie.After-entry) → let d = c .before .before in
-    c .entry .result ≡ walked (d .before .before .before) (d .before .walk .result .campaign)
+    c .entry .result ≡ left (d .before .before .before) (d .before .walk .result .campaign)
 marked c =
     let d = c .before .before in
-    c .entry .ensures .0 ∙ d .before .walk .ensures .1 .at (d .before .walk .result .campaign) (able d .0)
+    let s = d .before .before .before in
+    c .entry .ensures .0
+    ∙ walked-counts (s .args .plan) (s .args .view) (came s) (d .before .walk .ensures .1) .at
+    (d .before .walk .result .campaign) (able d .0)
 
 -- the counts of the play fit the array
 fits : (c : tie.After-played) → Fits-arrays (c .played .result)
@@ -82,25 +90,24 @@ returns c =
     let pl = s .args .plan in
     let w = s .args .view in
     let t = s .args .terms .now in
-    let walk = d .before .walk in
-    let b = walk .result in
+    let b = d .before .walk .result in
     let v = c .before .before .played .result in
     let y = c .before .before .played .ensures ∙ ap played (marked (c .before .before .before)) in (
-      walk .ensures .0,
+      best-is (d .before),
       subst (Counts (after-view pl w b (came s)) t) (sym (c .store .ensures))
           (same-counts (λ j _. played-marks pl w (came s) b v y (d .if1 .taken) (able d .1) (able d .2) j)
-          (put-counts (walked s) t _ (b .campaign) v (able d .0) (walk .ensures .1)
+          (put-counts (left s) t _ (b .campaign) v (able d .0)
+          (walked-counts pl w (came s) (d .before .walk .ensures .1))
           (ap (λ (x : Campaign). x .price) y) (ap (λ (x : Campaign). x .budget) y))),
     )
 
 returns-2 : tie.Need-returns-2
 returns-2 c =
     let s = c .before .before .before in
-    let walk = c .before .walk in (
-      walk .ensures .0,
-      same-counts
-          (λ j _. unplayed-marks (s .args .plan) (s .args .view) (came s) (walk .result) (c .if1 .left) j)
-          (walk .ensures .1),
+    let b = c .before .walk .result in (
+      best-is (c .before),
+      same-counts (λ j _. unplayed-marks (s .args .plan) (s .args .view) (came s) b (c .if1 .left) j)
+          (walked-counts (s .args .plan) (s .args .view) (came s) (c .before .walk .ensures .1)),
     )
 
 pub play-spec : {M : Type 1} → statement M

@@ -1,13 +1,11 @@
--- Questions 11 to 14 in turn: a member from the count on is one that is not in the plan, and the size of the set is
--- held to the width.
+-- Questions 11 to 14 in turn: each test is its question, and where it is answered yes the next one is asked.
 use mathlib.Core.Bool.{true, _&&_}
-use mathlib.Core.Path.{_≡_, ap, sym, subst, _∙_}
-use Prim.Native.Nat.{ℕ, _<_, _≤_}
+use mathlib.Core.Path.{_≡_, ap, sym, _∙_}
+use Prim.Native.Nat.{ℕ}
 use lib.Dec.{leb, ltb}
 use borrow.Author.Needs.{needs}
 use borrow.Author.Tests.{not-true, not-false, lt-ltb, le-ltb}
 use Rattle.sets.specs.Set.{size, within}
-use Rattle.sets.proofs.Walk.{within-next, within-not}
 use Rattle.campaigns.specs.Limits.{max-views}
 use Rattle.campaigns.specs.Phase.{is-running}
 use Rattle.questions.specs.Questions.{first-failed, width-holds}
@@ -26,10 +24,7 @@ views c =
 
 inside : (c : tie.Else3) → let a = c .before .before .before .before .before .before .args in
     within (a .head .count) (a .view .set) ≡ true
-inside c =
-    let a = c .before .before .before .before .before .before .args in
-    let none = subst (λ (x : ℕ). 64 ≤ x) (c .before .next-from .ensures) (c .if3 .left) in
-    within-next (a .view .set) (a .head .count) none
+inside c = sym (c .before .within .ensures) ∙ not-false (c .before .within .result) (c .if3 .left)
 
 counted : (c : tie.After-struct-known2)
     → let a = c .before .before .before .before .before .before .before .before .args in
@@ -53,17 +48,16 @@ returns-2 c =
     let running = c .before .before in
     rw (runs running, le-ltb (running .before .before .args .head .accepted) max-views (c .if2 .taken))
 
-next-from-requires : tie.Need-next-from-requires
-next-from-requires c κs = search needs
+within-requires : tie.Need-within-requires
+within-requires c κs = search needs
 
 returns-3 : tie.Need-returns-3
 unfolding first-failed
 returns-3 c =
     let few = c .before .before in
     let running = few .before .before in
-    let a = running .before .before .args in
-    let outside = subst (λ (x : ℕ). x < 64) (c .before .next-from .ensures) (c .if3 .taken) in
-    rw (runs running, views few, within-not (a .view .set) (a .head .count) outside)
+    let outside = sym (c .before .within .ensures) ∙ not-true (c .before .within .result) (c .if3 .taken) in
+    rw (runs running, views few, outside)
 
 count-requires : tie.Need-count-requires
 count-requires c κs = search needs
@@ -97,7 +91,7 @@ view-question-spec =
     running-requires
     returns
     returns-2
-    next-from-requires
+    within-requires
     returns-3
     count-requires
     returns-4
