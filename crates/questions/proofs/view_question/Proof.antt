@@ -1,11 +1,11 @@
 -- Questions 11 to 14 in turn: a member from the count on is one that is not in the plan, and the size of the set is
 -- held to the width.
-use mathlib.Core.Bool.{true, _&&_}
-use mathlib.Core.Path.{_≡_, ap, sym, subst, _∙_}
+use mathlib.Core.Bool.{true}
+use mathlib.Core.Path.{_≡_, sym, subst, _∙_}
 use Prim.Native.Nat.{ℕ, _<_, _≤_}
-use lib.Dec.{leb, ltb}
+use lib.Dec.{ltb}
 use borrow.Author.Needs.{needs}
-use borrow.Author.Tests.{not-true, not-false, lt-ltb, le-ltb}
+use borrow.Author.Tests.{not-true, not-false, lt-ltb, le-ltb, lt-leb, le-leb}
 use Rattle.sets.specs.Set.{size, within}
 use Rattle.sets.proofs.Walk.{within-next, within-not}
 use Rattle.campaigns.specs.Limits.{max-views}
@@ -30,15 +30,6 @@ inside c =
     let a = c .before .before .before .before .before .before .args in
     let none = subst (λ (x : ℕ). 64 ≤ x) (c .before .next-from .ensures) (c .if3 .left) in
     within-next (a .view .set) (a .head .count) none
-
-counted : (c : tie.After-struct-known2)
-    → let a = c .before .before .before .before .before .before .before .before .args in
-    let r = c .before .count .result in
-    let d = a .head .plan .width in
-    let n = size (a .view .set) in (leb 1 r && leb r d) ≡ (leb 1 n && leb n d)
-counted c =
-    let a = c .before .before .before .before .before .before .before .before .args in
-    ap (λ (x : ℕ). leb 1 x && leb x (a .head .plan .width)) (c .before .count .ensures)
 
 running-requires : tie.Need-running-requires
 running-requires c κs = search needs
@@ -75,9 +66,8 @@ returns-4 c =
     let few = known .before .before in
     let running = few .before .before in
     let a = running .before .before .args in
-    let r = c .before .before .count .result in
-    let width = not-true (leb 1 r && leb r (a .head .plan .width)) (c .if4 .taken) in
-    rw (runs running, views few, inside known, sym (counted (c .before)) ∙ width)
+    let named = subst (λ (x : ℕ). a .head .plan .width < x) (c .before .before .count .ensures) (c .if4 .taken) in
+    rw (runs running, views few, inside known, lt-leb (size (a .view .set)) (a .head .plan .width) named)
 
 returns-5 : tie.Need-returns-5
 unfolding first-failed width-holds
@@ -86,9 +76,8 @@ returns-5 c =
     let few = known .before .before in
     let running = few .before .before in
     let a = running .before .before .args in
-    let r = c .before .before .count .result in
-    let width = not-false (leb 1 r && leb r (a .head .plan .width)) (c .if4 .left) in
-    rw (runs running, views few, inside known, sym (counted (c .before)) ∙ width)
+    let named = subst (λ (x : ℕ). x ≤ a .head .plan .width) (c .before .before .count .ensures) (c .if4 .left) in
+    rw (runs running, views few, inside known, le-leb (size (a .view .set)) (a .head .plan .width) named)
 
 pub view-question-spec : {M : Type 1} → statement M
 view-question-spec =
