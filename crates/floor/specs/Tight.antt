@@ -83,7 +83,7 @@ exact-days =
       width = 2;
       campaigns = 2;
       views = 0 ∷ 3 ∷ 0 ∷ 1 ∷ 0 ∷ [];
-      paid = 1;
+      players = 64 ∷ 0 ∷ 64 ∷ 64 ∷ 64 ∷ [];
       to = 64 ∷ 1 ∷ 64 ∷ 0 ∷ 64 ∷ [];
     } ∷
     []
