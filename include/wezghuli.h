@@ -136,7 +136,7 @@ uint64_t wezghuli_start(uint64_t head[6], uint32_t terms[128], uint16_t counts[2
 /* Shows a view, whose bit i names campaign i. Answers PLAYED with the campaign that plays and what this play pays, or
  * NOBODY.
  * Refused: 1 the state is not sound, 11 it is not Running, 12 4,096 views were accepted, 13 a named campaign is not in
- * the plan, 14 not from 1 to width campaigns are named. */
+ * the plan, 14 more than width campaigns are named. */
 uint64_t wezghuli_view(uint64_t head[6], uint32_t terms[128], uint16_t counts[256],
     uint64_t set, uint64_t answer[5]);
 

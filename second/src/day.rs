@@ -130,7 +130,7 @@ pub enum Answer {
         /// The price of this one play.
         paid: u64,
     },
-    /// A view was accepted and no named campaign could pay.
+    /// A view was accepted and no named campaign could pay, or none was named.
     Nobody,
     /// The counts of one campaign.
     Tally {
@@ -433,14 +433,14 @@ impl Day {
         })
     }
 
-    /// Questions 11 to 14.
+    /// Questions 11 to 14. A view may name none.
     fn check_view(&self, set: u64) -> Result<(), u64> {
         ask(self.phase == Phase::Running, refusal::NOT_RUNNING)?;
         ask(self.views < MAX_VIEWS, refusal::VIEWS_FULL)?;
         let beyond = set.checked_shr(self.count as u32).unwrap_or(0);
         ask(beyond == 0, refusal::NAME_UNKNOWN)?;
         let names = u64::from(set.count_ones());
-        ask((1..=self.width).contains(&names), refusal::NAME_COUNT)
+        ask(names <= self.width, refusal::NAME_COUNT)
     }
 
     /// The named campaign that can pay with the greatest price × W(age), the

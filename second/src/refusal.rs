@@ -26,7 +26,7 @@ pub const NOT_RUNNING: u64 = 11;
 pub const VIEWS_FULL: u64 = 12;
 /// A view names a campaign outside the plan.
 pub const NAME_UNKNOWN: u64 = 13;
-/// A view names no campaign, or more than the width.
+/// A view names more campaigns than the width.
 pub const NAME_COUNT: u64 = 14;
 /// A tally is asked of a campaign outside the plan.
 pub const NO_CAMPAIGN: u64 = 15;

@@ -90,9 +90,13 @@ impl Maker {
         (price, if r.one_in(8) { price } else { price * plays + r.below(price) })
     }
 
-    /// A set of 1 to d campaigns; often as many as d, and often the same ones, so that some age together.
+    /// A set of up to d campaigns; often as many as d, and often the same ones, so that some age together. Where there
+    /// are none, often one that the plan lacks.
     fn names(&mut self) -> u64 {
         let (count, width) = (self.state.count().clamp(1, 64), self.state.width);
+        if self.r.one_in(if self.state.count() == 0 { 2 } else { 12 }) {
+            return 0;
+        }
         let wanted = if self.r.one_in(3) { width } else { self.r.within(1, width) };
         let from = self.r.below(count);
         let near = self.r.one_in(2);
@@ -130,14 +134,17 @@ impl Maker {
 
     fn running(&mut self, full: bool) {
         let views = match self.r.below(8) {
-            _ if full => MOST_VIEWS,
+            // and one more, which is refused
+            _ if full => MOST_VIEWS + 1,
             0 => 0,
             1 => self.r.within(1, 900),
             _ => self.r.within(1, 120),
         };
+        // a day that interests nobody
+        let idle = self.r.one_in(12);
         self.refusals(3);
         for _ in 0..views {
-            let set = self.names();
+            let set = if idle { 0 } else { self.names() };
             self.call(Call::View(set));
             if self.r.one_in(40) {
                 self.refusals(2);

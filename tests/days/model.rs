@@ -1,4 +1,4 @@
-//! Document 01's answers in exact whole numbers, by neither program: what both get wrong alike differs from them.
+//! The documents' answers in exact whole numbers, by neither program: what both get wrong alike differs from them.
 
 use crate::state::{members, Call, Campaign, Phase, State};
 
@@ -72,8 +72,7 @@ impl State {
             c.turns += u64::from(ended);
             c.age = if ended { 0 } else { c.age + 1 };
         }
-        members(set).for_each(|i| self.campaigns[i].named += 1);
-        self.views += 1;
+        self.views.push(set);
         player.map(|i| (i, self.campaigns[i].price))
     }
 
@@ -92,7 +91,7 @@ impl State {
         let (takings, claim) = (self.takings(), self.claim());
         let full = self.weight(self.depth) * takings;
         let tally = |(i, c): (usize, &Campaign)| {
-            let Campaign { plays, turns, age, named, .. } = c;
+            let (Campaign { plays, turns, age, .. }, named) = (c, self.named(i));
             format!("(tally {i} (plays {plays}) (turns {turns}) (age {age}) (named {named}))\n")
         };
         let tallies: String = self.campaigns.iter().enumerate().map(tally).collect();

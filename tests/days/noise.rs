@@ -99,20 +99,21 @@ fn any_view(r: &mut Random) -> Call {
 
 fn bad_view(r: &mut Random, state: &State) -> Call {
     let (count, width) = (state.count(), state.width);
-    if state.views == MOST_VIEWS {
-        return if r.one_in(2) { Call::View(1) } else { any_view(r) };
+    if state.accepted() == MOST_VIEWS {
+        return if r.one_in(2) { Call::View(r.below(2)) } else { any_view(r) };
     }
     let beyond = |i: u64| if count < MOST_CAMPAIGNS { 1 << (count + i % (64 - count)) } else { 0 };
     let more = if count > width { (1 << (width + 1)) - 1 } else { 0 };
-    Call::View(match r.below(6) {
-        0 => 0,
-        1 => more,
-        2 => beyond(0),
-        3 if count < MOST_CAMPAIGNS => beyond(r.below(64)) | u64::from(count > 0),
-        4 => beyond(0) | more,
+    let set = match r.below(5) {
+        0 => more,
+        1 => beyond(0),
+        2 if count < MOST_CAMPAIGNS => beyond(r.below(64)) | u64::from(count > 0),
+        3 => beyond(0) | more,
         _ if count < MOST_CAMPAIGNS => 1 << 63,
         _ => u64::MAX,
-    })
+    };
+    // a view that names none is taken, and a full plan has more campaigns than any width
+    Call::View(if set == 0 { beyond(0) | more } else { set })
 }
 
 /// A line of more than 200 bytes.

@@ -34,7 +34,7 @@ fn refusals() -> Vec<(&'static str, u64, Vec<Phase>)> {
 const ORDERS: [(&str, &[u64]); 3] =
     [("plan", &[2, 3, 4, 5]), ("campaign", &[6, 7, 8, 9, 10]), ("view", &[11, 12, 13, 14])];
 
-const EVENTS: [&str; 69] = [
+const EVENTS: [&str; 73] = [
     "depth 1 taken",
     "depth 32 taken",
     "depth 0 refused",
@@ -58,7 +58,11 @@ const EVENTS: [&str; 69] = [
     "campaign 65 refused",
     "view 4096 taken",
     "view 4097 refused",
-    "no name refused",
+    "no name taken",
+    "no name taken in a day of no campaigns",
+    "no name taken beside an age",
+    "view 4096, none of them naming any, taken",
+    "view 4097, none of them naming any, refused",
     "one name taken",
     "names as the width taken",
     "one name over the width refused",
@@ -163,7 +167,7 @@ impl Seen {
         self.counts.iter().filter(|c| *c.1 == 0).map(|c| format!("not seen: {}", c.0)).collect()
     }
 
-    /// What was seen and cannot be, by document 01.
+    /// What was seen and cannot be, by the documents.
     pub fn wrong(&self) -> Vec<String> {
         let known = wanted();
         let unknown = self.counts.keys().filter(|name| !known.contains(name));
@@ -281,9 +285,8 @@ impl Seen {
     fn view_limits(&mut self, state: &State, set: u64, number: u64) {
         let (taken, count) = (number == 0, state.count());
         let (names, top) = (u64::from(set.count_ones()), 64 - u64::from(set.leading_zeros()));
-        self.mark_if(taken && state.views + 1 == MOST_VIEWS, "view 4096 taken");
+        self.mark_if(taken && state.accepted() + 1 == MOST_VIEWS, "view 4096 taken");
         self.mark_if(number == 12 && state.failed(Call::View(set)).len() == 1, "view 4097 refused");
-        self.mark_if(number == 14 && names == 0, "no name refused");
         self.mark_if(number == 14 && names == state.width + 1, "one name over the width refused");
         self.mark_if(number == 14 && names == 64, "64 names refused");
         self.mark_if(taken && names == 1, "one name taken");
@@ -293,6 +296,20 @@ impl Seen {
         self.mark_if(number == 13 && top == count + 1, "next number refused");
         self.mark_if(taken && top == 64, "name 63 taken");
         self.mark_if(number == 13 && top == 64, "name 63 refused");
+        if set == 0 {
+            self.no_name(state, number);
+        }
+    }
+
+    /// A view that names none.
+    fn no_name(&mut self, state: &State, number: u64) {
+        let (taken, never) = (number == 0, state.views.iter().all(|set| *set == 0));
+        self.mark_if(taken, "no name taken");
+        self.mark_if(taken && state.count() == 0, "no name taken in a day of no campaigns");
+        self.mark_if(taken && state.campaigns.iter().any(|c| c.age > 0), "no name taken beside an age");
+        let last = taken && state.accepted() + 1 == MOST_VIEWS;
+        self.mark_if(last && never, "view 4096, none of them naming any, taken");
+        self.mark_if(number == 12 && never, "view 4097, none of them naming any, refused");
     }
 
     /// What an accepted call does, told by the state before it.

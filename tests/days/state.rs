@@ -1,5 +1,5 @@
-//! Document 01's day: its record, its calls and the questions at the door. The generator aims by it, the model answers
-//! by it, and what was seen is told by it.
+//! The day of documents 01 and 02: its record, its calls and the questions at the door. The generator aims by it, the
+//! model answers by it, and what was seen is told by it.
 
 pub const MOST_CAMPAIGNS: u64 = 64;
 pub const MOST_VIEWS: u64 = 4_096;
@@ -78,7 +78,6 @@ pub struct Campaign {
     pub plays: u64,
     pub turns: u64,
     pub age: u64,
-    pub named: u64,
 }
 
 impl Campaign {
@@ -92,16 +91,26 @@ pub struct State {
     pub depth: u64,
     pub width: u64,
     pub campaigns: Vec<Campaign>,
-    pub views: u64,
+    /// The accepted views, each as the set of its names.
+    pub views: Vec<u64>,
 }
 
 impl State {
     pub fn blank() -> State {
-        State { phase: Phase::Blank, depth: 1, width: 1, campaigns: vec![], views: 0 }
+        State { phase: Phase::Blank, depth: 1, width: 1, campaigns: vec![], views: vec![] }
     }
 
     pub fn count(&self) -> u64 {
         self.campaigns.len() as u64
+    }
+
+    pub fn accepted(&self) -> u64 {
+        self.views.len() as u64
+    }
+
+    /// How many accepted views named a campaign.
+    pub fn named(&self, i: usize) -> usize {
+        self.views.iter().filter(|set| **set >> i & 1 == 1).count()
     }
 
     pub fn budgets(&self) -> u64 {
@@ -129,9 +138,9 @@ impl State {
             Call::Start => vec![(6, filling)],
             Call::View(set) => vec![
                 (11, running),
-                (12, self.views < MOST_VIEWS),
+                (12, self.accepted() < MOST_VIEWS),
                 (13, set.checked_shr(self.campaigns.len() as u32).unwrap_or(0) == 0),
-                (14, (1..=self.width).contains(&u64::from(set.count_ones()))),
+                (14, u64::from(set.count_ones()) <= self.width),
             ],
             Call::Close => vec![(11, running)],
         };

@@ -90,7 +90,7 @@ fn made_call(random: &mut Random, day: &Day) -> Call {
             (price, random.spread(price, MAX_BUDGET))
         }
         (3, 0..=2) => {
-            let size = 1 + random.below(day.width.min(17));
+            let size = random.below(day.width.min(17) + 1);
             (random.set(day.count.min(64), size), 0)
         }
         (4, 0..=2) => (random.below(day.count.min(64) + 1), 0),
@@ -227,7 +227,7 @@ fn days(tally: &mut Tally, seed: u64) {
         );
         day = day.start().0;
         for _ in 0..80 {
-            let set = random.set(n, day.width);
+            let set = states::names(&mut random, &day);
             tally.compare(
                 &day,
                 Call {

@@ -86,11 +86,17 @@ pub fn filled(random: &mut Random, n: u64) -> Day {
     day
 }
 
+/// A view of up to as many names as the width, now and then of none.
+pub fn names(random: &mut Random, day: &Day) -> u64 {
+    let size = if random.one_in(8) { 0 } else { day.width };
+    random.set(day.count, size)
+}
+
 /// A day that has run for some views.
 pub fn run(random: &mut Random, n: u64, views: u64) -> Day {
     let mut day = filled(random, n).start().0;
     for _ in 0..views {
-        let set = random.set(day.count, day.width);
+        let set = names(random, &day);
         day = day.view(set).0;
     }
     day

@@ -195,8 +195,7 @@ module _ (s : Day) (h : Sound s) where
     few-able e =
         le-trans (able-few (s .count) (s .plan) w (campaign s))
         (le-trans (count-below (s .count) 64 (names w) (h .few))
-        (leb-true (size (w .set)) (s .plan .width)
-        (both-right (leb 1 (size (w .set))) (leb (size (w .set)) (s .plan .width)) e)))
+        (leb-true (size (w .set)) (s .plan .width) e))
 
     sound-shown : Yes (questions s (show-view w))
         → sound (state-with Running (s .plan) (s .count) (s .accepted + 1) (shown s w)) ≡ true

@@ -103,23 +103,24 @@ cases =
     plan 2 2 gives Done ∷ campaign-of 5 9 gives Done ∷ start-day gives Done ∷ view 1 gives Played 0 5 ∷
     view 1 gives Nobody ∷ ask-tally 0 gives Tallied 1 1 0 2 ∷
     close-day gives Closing 5 15 20 ∷ close-day gives Refused 11 ∷ []) ∷
-    -- a view of none gives 14, of three where the width is 2 gives 14, and 13 is asked before; at its end a turn counts
-    -- in that same view
+    -- a view of none is accepted and played by nobody, of three where the width is 2 gives 14, and 13 is asked before; at
+    -- its end a turn counts in that same view
     answered (
     plan 2 2 gives Done ∷ campaign-of 3 9 gives Done ∷ campaign-of 2 2 gives Done ∷ campaign-of 1 1 gives Done ∷
     start-day gives Done ∷
-    view 0 gives Refused 14 ∷ view 7 gives Refused 14 ∷ view 15 gives Refused 13 ∷ ask-tally 3 gives Refused 15 ∷
-    view 5 gives Played 0 3 ∷ ask-tally 2 gives Tallied 0 0 1 1 ∷ view 5 gives Played 0 3 ∷
-    ask-tally 2 gives Tallied 0 1 0 2 ∷ []) ∷
+    view 0 gives Nobody ∷ view 7 gives Refused 14 ∷ view 15 gives Refused 13 ∷ ask-tally 3 gives Refused 15 ∷
+    view 5 gives Played 0 3 ∷ ask-tally 2 gives Tallied 0 0 1 1 ∷ view 0 gives Nobody ∷
+    ask-tally 2 gives Tallied 0 0 1 1 ∷ view 5 gives Played 0 3 ∷ ask-tally 2 gives Tallied 0 1 0 2 ∷ []) ∷
     -- a day may start with no campaigns
-    answered (plan 2 2 gives Done ∷ start-day gives Done ∷ view 0 gives Refused 14 ∷ view 1 gives Refused 13 ∷
-    close-day gives Closing 0 0 0 ∷ []) ∷
+    answered (plan 2 2 gives Done ∷ start-day gives Done ∷ view 0 gives Nobody ∷ view 1 gives Refused 13 ∷
+    close-day gives Closing 0 0 0 ∷ view 0 gives Refused 11 ∷ []) ∷
     -- a campaign is the 64th, and another gives 7
     resumed (state Filling 63 0) (campaign-of 1 1 gives Done ∷ campaign-of 1 1 gives Refused 7 ∷ []) ∷
-    -- a view is the 4,096th, and another gives 12; it is asked before 13
+    -- a view is the 4,096th, and another gives 12; it is asked before 13; a view of none counts
     resumed (state Running 1 4_095) (view 2 gives Refused 13 ∷ view 1 gives Played 0 1 ∷ view 2 gives Refused 12 ∷
     view 1 gives Refused 12 ∷ []) ∷
+    resumed (state Running 1 4_095) (view 0 gives Nobody ∷ view 0 gives Refused 12 ∷ view 1 gives Refused 12 ∷ []) ∷
     -- no call of a state with more: 1
-    resumed (state Running 1 4_097) (view 1 gives Refused 1 ∷ close-day gives Refused 1 ∷ ask-tally 0 gives Refused 1 ∷
+    resumed (state Running 1 4_097) (view 0 gives Refused 1 ∷ view 1 gives Refused 1 ∷ close-day gives Refused 1 ∷ ask-tally 0 gives Refused 1 ∷
     []) ∷
     []

@@ -77,6 +77,15 @@ exact-days =
       players = 0 ∷ 3 ∷ 6 ∷ 1 ∷ 2 ∷ 64 ∷ 64 ∷ 64 ∷ 64 ∷ [];
       to = 1 ∷ 4 ∷ 8 ∷ 7 ∷ 5 ∷ 0 ∷ 3 ∷ 6 ∷ 2 ∷ [];
     } ∷
+    -- the second day, with lifts that interest nobody
+    record {
+      depth = 1;
+      width = 2;
+      campaigns = 2;
+      views = 0 ∷ 3 ∷ 0 ∷ 1 ∷ 0 ∷ [];
+      players = 64 ∷ 0 ∷ 64 ∷ 64 ∷ 64 ∷ [];
+      to = 64 ∷ 1 ∷ 64 ∷ 0 ∷ 64 ∷ [];
+    } ∷
     []
 
 -- its calls

@@ -1,5 +1,5 @@
 -- Questions at the door: the first "no", and the questions that need no more of a state than its head.
-use mathlib.Core.Bool.{Bool, cond, _&&_}
+use mathlib.Core.Bool.{Bool, cond}
 use mathlib.Core.List.{List, [], _∷_}
 use Prim.Native.Nat.{ℕ, _+_}
 use lib.Dec.{leb, ltb}
@@ -36,9 +36,9 @@ add-questions h t b =
     question 8 (price-fits (t .price)) ∷ question 9 (budget-fits (t .price) (t .budget)) ∷
     question 10 (leb (b + t .budget) max-budget) ∷ []
 
--- question 14: are from 1 to d campaigns named
+-- question 14: are at most d campaigns named
 unfoldable pub width-holds : Head → View → Bool
-width-holds h w = leb 1 (size (w .set)) && leb (size (w .set)) (h .plan .width)
+width-holds h w = leb (size (w .set)) (h .plan .width)
 
 -- questions 11 to 14
 abbrev pub view-questions : Head → View → List Question

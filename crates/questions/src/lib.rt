@@ -66,8 +66,7 @@ pub fn view_question(head: Head, view: View) -> u64
     if !sets::within(set, head.count) {
         return 13;
     }
-    let named = sets::count(set);
-    if !((1 <= named) & (named <= head.plan.width)) {
+    if head.plan.width < sets::count(set) {
         return 14;
     }
     0

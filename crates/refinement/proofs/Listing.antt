@@ -108,3 +108,32 @@ pub cents-agrees : Day-agrees spendable (history (transcript blank cents-calls))
 cents-agrees =
     days-as-algorithm-4 spendable spendable-buys blank cents-calls (from-blank cents-calls)
     (rw cents-width (omega arith))
+
+-- Lifts that interest nobody among the views: such a slot has no neighbours, and nothing changes.
+abbrev quiet : List View
+quiet = record { set = 0 } ∷ record { set = 3 } ∷ record { set = 0 } ∷ record { set = 3 } ∷ record { set = 0 } ∷ []
+
+pub quiet-matches : matches listing (slots quiet) ≡ nobody ∷ plays 0 ∷ nobody ∷ plays 1 ∷ nobody ∷ []
+unfolding matches-from lines-3-to-11 line-4 feasible C best member sum
+quiet-matches = refl
+
+abbrev quiet-calls : List Call
+quiet-calls = open-plan plan ∷ map add-campaign terms ++ start-day ∷ map show-view quiet
+
+pub quiet-answers : history (transcript blank quiet-calls) .answers
+    ≡ Nobody ∷ Played 0 5 ∷ Nobody ∷ Played 1 3 ∷ Nobody ∷ []
+unfolding continued transcript call first-failed sound sound-record sound-plan sound-campaign priced counted uncounted
+    empty total-takings total-claim total-budgets blank width-holds size within choice best whole claim weight share
+    member sum count every table
+quiet-answers = refl
+
+pub quiet-width : history (transcript blank quiet-calls) .plan ≡ plan
+unfolding continued transcript call first-failed sound sound-record sound-plan sound-campaign priced counted uncounted
+    empty total-takings total-claim total-budgets blank width-holds size within choice best whole claim weight share
+    member sum count every table
+quiet-width = refl
+
+pub quiet-agrees : Day-agrees (λ t. t .budget) (history (transcript blank quiet-calls)) (final blank quiet-calls)
+quiet-agrees =
+    days-as-algorithm-4 (λ t. t .budget) budget-buys blank quiet-calls (from-blank quiet-calls)
+    (rw quiet-width (omega arith))

@@ -81,9 +81,9 @@ fn plan(random: &mut Random, width: u64) -> (u64, Vec<(u64, u64)>) {
     (depth, campaigns)
 }
 
-/// A random view of 1 to `width` of the `count` campaigns.
+/// A random view of at most `width` of the `count` campaigns.
 fn some_view(random: &mut Random, width: u64, count: u64) -> u64 {
-    let names = random.within(1, width);
+    let names = random.within(0, width);
     (0..names).fold(0, |set, _| set | 1 << random.below(count))
 }
 

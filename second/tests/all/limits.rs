@@ -97,6 +97,20 @@ fn fourth_view_finds_nobody() {
 }
 
 #[test]
+fn view_of_nobody_is_counted_and_changes_nothing_else() {
+    let (day, _) = running(2, 2, &[(5, 10), (3, 6)]).view(0b11);
+    let (after, answer) = day.clone().view(0);
+    assert_eq!(answer, Answer::Nobody);
+    let mut expected = day.clone();
+    expected.views = 2;
+    assert_eq!(after, expected);
+    assert!(after.is_sound());
+    assert_eq!(after.ledger(), day.ledger());
+    // The next view is answered as if nobody had lifted in between.
+    assert_eq!(after.view(0b11).1, day.view(0b11).1);
+}
+
+#[test]
 fn equal_scores_go_to_the_lower_number() {
     let (day, answer) = running(2, 2, &[(4, 8), (4, 8)]).view(0b11);
     assert_eq!(answer, play(0, 4));
@@ -154,6 +168,8 @@ fn opening_clears_the_day_before() {
 #[test]
 fn day_without_campaigns() {
     let day = running(2, 2, &[]);
+    let (day, answer) = day.view(0);
+    assert_eq!((answer, day.views), (Answer::Nobody, 1));
     let (day, answer) = day.close();
     let (takings, claim, full) = (0, 0, 0);
     assert_eq!(

@@ -132,6 +132,13 @@ fn every_refusal_a_line_can_get() {
 (start)
 (view 1)
 (view)
+(campaign (price 1) (budget 1))
+(close)
+(plan (depth 1) (width 1))
+(campaign (price 1) (budget 1))
+(campaign (price 1) (budget 1))
+(start)
+(view 0 1)
 (view 64)
 ";
     let expected = "\
@@ -149,10 +156,27 @@ fn every_refusal_a_line_can_get() {
 (refused 11)
 (ok)
 (refused 13)
+(nobody)
+(refused 6)
+(closed (takings 0) (claim 0) (full 0))
+(tally 0 (plays 0) (turns 0) (age 0) (named 0))
+(ok)
+(ok)
+(ok)
+(ok)
 (refused 14)
 (refused 17)
 ";
     check(input, expected);
+}
+
+#[test]
+fn view_of_nobody() {
+    let input = LISTING.replace("(view 0)\n", "(view)\n(view 0)\n(view)\n");
+    let expected = LISTING_ANSWERS.replace("(nobody)\n", &"(nobody)\n".repeat(3));
+    check(input, expected);
+    check("(view)\n", refusals(&[11]));
+    check("(view )\n", refusals(&[17]));
 }
 
 #[test]

@@ -142,13 +142,27 @@ fn view_with_bad_names() {
     refused(&day, Call::View(1 << 63), 13);
     refused(&day, Call::View(0b1111), 13);
     refused(&day, Call::View(u64::MAX), 13);
-    refused(&day, Call::View(0), 14);
     refused(&day, Call::View(0b111), 14);
     refused(&running(2, 2, &[]), Call::View(1), 13);
-    refused(&running(2, 2, &[]), Call::View(0), 14);
     refused(&running(8, 16, &[(1, 1); 64]), Call::View(u64::MAX), 14);
     refused(&running(8, 16, &[(1, 1); 64]), Call::View(0x1FFFF), 14);
     assert_eq!(running(8, 16, &[(1, 1); 64]).view(0xFFFF).1, play(0, 1));
+}
+
+#[test]
+fn view_of_nobody_after_the_last() {
+    // With no campaigns at all, only such views fill the day.
+    for plan in [&[][..], &[(5, 10)]] {
+        let mut day = running(2, 2, plan);
+        for _ in 0..4_096 {
+            let (next, answer) = day.view(0);
+            assert_eq!(answer, Answer::Nobody);
+            day = next;
+        }
+        assert_eq!(day.views, 4_096);
+        refused(&day, Call::View(0), 12);
+        refused(&day, Call::View(1), 12);
+    }
 }
 
 #[test]

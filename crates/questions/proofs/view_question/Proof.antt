@@ -1,10 +1,10 @@
 -- Questions 11 to 14 in turn: each test is its question, and where it is answered yes the next one is asked.
-use mathlib.Core.Bool.{true, _&&_}
-use mathlib.Core.Path.{_≡_, ap, sym, _∙_}
-use Prim.Native.Nat.{ℕ}
-use lib.Dec.{leb, ltb}
+use mathlib.Core.Bool.{true}
+use mathlib.Core.Path.{_≡_, sym, subst, _∙_}
+use Prim.Native.Nat.{ℕ, _<_, _≤_}
+use lib.Dec.{ltb}
 use borrow.Author.Needs.{needs}
-use borrow.Author.Tests.{not-true, not-false, lt-ltb, le-ltb}
+use borrow.Author.Tests.{not-true, not-false, lt-ltb, le-ltb, lt-leb, le-leb}
 use Rattle.sets.specs.Set.{size, within}
 use Rattle.campaigns.specs.Limits.{max-views}
 use Rattle.campaigns.specs.Phase.{is-running}
@@ -25,15 +25,6 @@ views c =
 inside : (c : tie.Else3) → let a = c .before .before .before .before .before .before .args in
     within (a .head .count) (a .view .set) ≡ true
 inside c = sym (c .before .within .ensures) ∙ not-false (c .before .within .result) (c .if3 .left)
-
-counted : (c : tie.After-struct-known2)
-    → let a = c .before .before .before .before .before .before .before .before .args in
-    let r = c .before .count .result in
-    let d = a .head .plan .width in
-    let n = size (a .view .set) in (leb 1 r && leb r d) ≡ (leb 1 n && leb n d)
-counted c =
-    let a = c .before .before .before .before .before .before .before .before .args in
-    ap (λ (x : ℕ). leb 1 x && leb x (a .head .plan .width)) (c .before .count .ensures)
 
 running-requires : tie.Need-running-requires
 running-requires c κs = search needs
@@ -69,9 +60,8 @@ returns-4 c =
     let few = known .before .before in
     let running = few .before .before in
     let a = running .before .before .args in
-    let r = c .before .before .count .result in
-    let width = not-true (leb 1 r && leb r (a .head .plan .width)) (c .if4 .taken) in
-    rw (runs running, views few, inside known, sym (counted (c .before)) ∙ width)
+    let named = subst (λ (x : ℕ). a .head .plan .width < x) (c .before .before .count .ensures) (c .if4 .taken) in
+    rw (runs running, views few, inside known, lt-leb (size (a .view .set)) (a .head .plan .width) named)
 
 returns-5 : tie.Need-returns-5
 unfolding first-failed width-holds
@@ -80,9 +70,8 @@ returns-5 c =
     let few = known .before .before in
     let running = few .before .before in
     let a = running .before .before .args in
-    let r = c .before .before .count .result in
-    let width = not-false (leb 1 r && leb r (a .head .plan .width)) (c .if4 .left) in
-    rw (runs running, views few, inside known, sym (counted (c .before)) ∙ width)
+    let named = subst (λ (x : ℕ). x ≤ a .head .plan .width) (c .before .before .count .ensures) (c .if4 .left) in
+    rw (runs running, views few, inside known, le-leb (size (a .view .set)) (a .head .plan .width) named)
 
 pub view-question-spec : {M : Type 1} → statement M
 view-question-spec =
