@@ -34,7 +34,8 @@ unfolding consumed-count
 consumed-stop n x [] h = refl
 consumed-stop n x (b ∷ l) h = rw (lt-leb (length (x .output) + 16384) n h)
 
-pub consumed-rest : (n : ℕ) (x : Session) (l : List ℕ) → length (x .pending) ≤ 201 → length (x .output) + 16384 ≤ n → upto l ≡ length l → consumed-count n x l ≡ length l
+pub consumed-rest : (n : ℕ) (x : Session) (l : List ℕ) → length (x .pending) ≤ 201 → length (x .output) + 16384 ≤ n
+    → upto l ≡ length l → consumed-count n x l ≡ length l
 consumed-rest n x l h r e =
     let y = longer x (take (upto l) l) in
     omega (
@@ -47,7 +48,8 @@ consumed-rest n x l h r e =
 
 -- The bytes that are kept of a line.
 
-pub keep-more : (h g s : List ℕ) (k n i : ℕ) → i < length s → n < length g → take n g ≡ take k h ++ take i s → take (n + 1) (set g n (getD s i 0)) ≡ take k h ++ take (i + 1) s
+pub keep-more : (h g s : List ℕ) (k n i : ℕ) → i < length s → n < length g → take n g ≡ take k h ++ take i s
+    → take (n + 1) (set g n (getD s i 0)) ≡ take k h ++ take (i + 1) s
 keep-more h g s k n i p q e =
     let b = getD s i 0 in
     ap (λ (m : ℕ). take m (set g n b)) (add-one n)
@@ -56,7 +58,8 @@ keep-more h g s k n i p q e =
     ∙ append-assoc (take k h) (take i s) (b ∷ [])
     ∙ ap (λ (l : List ℕ). take k h ++ l) (sym (ap (λ (m : ℕ). take m s) (add-one i) ∙ take-suc s i 0 p))
 
-pub keep-all : (h s : List ℕ) (k i : ℕ) → k ≤ length h → k + i ≤ 201 → i ≤ length s → (i < length s → 201 ≤ k + i) → take k h ++ take i s ≡ line-of h k s
+pub keep-all : (h s : List ℕ) (k i : ℕ) → k ≤ length h → k + i ≤ 201 → i ≤ length s → (i < length s → 201 ≤ k + i)
+    → take k h ++ take i s ≡ line-of h k s
 keep-all h s k i p q r full = go (ltb i (length s)) refl
   where
     n : length (take k h) ≡ k
@@ -69,4 +72,5 @@ keep-all h s k i p q r full = go (ltb i (length s)) refl
         sym (take-append-add (take k h) s i) ∙ ap (λ (j : ℕ). take j (take k h ++ s)) m
     go false e =
         let f : length s ≤ i = ltb-false i (length s) e in
-        ap (λ (l : List ℕ). take k h ++ l) (take-all i s f) ∙ sym (take-all 201 (take k h ++ s) (omega (arith, n, length-append (take k h) s)))
+        ap (λ (l : List ℕ). take k h ++ l) (take-all i s f)
+        ∙ sym (take-all 201 (take k h ++ s) (omega (arith, n, length-append (take k h) s)))

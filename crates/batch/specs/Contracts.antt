@@ -45,8 +45,8 @@ pub record Progress (x : Session) (l d : List ℕ) (t : Position) (h e : List �
   pub wide : length h ≡ line-buffer
   pub fits : t .at ≤ length d
 
--- where a byte is kept, the n bytes of g are the line whose front the k bytes of h are, as much as is held of it; else n and
--- g are free
+-- where a byte is kept, the n bytes of g are the line whose front the k bytes of h are, as much as is held of it; else
+-- n and g are free
 pub record Completed (h : List ℕ) (k : ℕ) (s g : List ℕ) (n : ℕ) : Type 0 where
   pub some : (k ≡ 0 → ⊥) → take n g ≡ line-of h k s
   pub few : n ≤ line-buffer

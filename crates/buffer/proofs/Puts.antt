@@ -5,7 +5,7 @@ use mathlib.Core.List.{List, [], _∷_, _++_, append-assoc, append-nil}
 use Prim.Native.Nat.{ℕ, suc, _-_, _≤_, _<_}
 use native.Mathlib.Omega.{arith}
 use lib.ListN.{length, set, length-set, length-append}
-use Rattle.buffer.specs.Buffer.{over, Put, Room}
+use Rattle.buffer.specs.Buffer.{over, Put, Room-for}
 use Rattle.buffer.proofs.Over.{over-none, over-then, over-under, over-before}
 
 pub put-none : (d : List ℕ) (at : ℕ) → Put d d at at []
@@ -59,7 +59,7 @@ backward-start l d to = record { tail = []; stands = put-none d to; whole = sym 
 
 module _ {l d : List ℕ} {to : ℕ} {e : List ℕ} {at : ℕ} {front : List ℕ} (b : Backward l d to e at front) where
   -- the room that is left for them
-  pub backward-room : Room d to (length l) → Room e at (length front)
+  pub backward-room : Room-for d to (length l) → Room-for e at (length front)
   backward-room h =
       let n = length-append front (b .tail) in
       let k = ap length (b .whole) in (

@@ -18,5 +18,5 @@ pub record Put (d e : List ℕ) (at to : ℕ) (w : List ℕ) : Type 0 where
   pub same : length e ≡ length d
 
 -- d has room for k bytes before the place to
-abbrev pub Room : List ℕ → ℕ → ℕ → Type 0
-Room d to k = (k ≤ to) × (to ≤ length d)
+abbrev pub Room-for : List ℕ → ℕ → ℕ → Type 0
+Room-for d to k = (k ≤ to) × (to ≤ length d)

@@ -162,8 +162,8 @@ pub fn head_words(head: Head) -> [u64; 6]
     ]
 }
 
-// The five words of an answer: its kind and four values, 0 where it has fewer. A refusal has none, and leaves those that
-// were there: its number is the status.
+// The five words of an answer: its kind and four values, 0 where it has fewer. A refusal has none, and leaves those
+// that were there: its number is the status.
 pub fn answer_after(answer: Answer, before: [u64; 5]) -> [u64; 5]
     ensures { λ r. ⌜ r ≡ answer-after answer before ⌝ }
 {

@@ -4,7 +4,7 @@ ghost use mathlib.Core.Bool.{true};
 ghost use mathlib.Core.List.{_∷_, _++_};
 ghost use Prim.Native.Nat.{_+_, _<_, _≤_};
 ghost use lib.ListN.{length};
-ghost use Rattle.buffer.specs.Buffer.{Put, Room};
+ghost use Rattle.buffer.specs.Buffer.{Put, Room-for};
 ghost use Rattle.lines.specs.Limits.{set-bits, max-names};
 ghost use Rattle.lines.specs.Numeral.{numeral};
 ghost use Rattle.lines.specs.Form.{names-text, slot-text};
@@ -80,7 +80,7 @@ impl Size {
 
 // The word that ends at the place to.
 pub fn put(out: &mut [u8], to: usize, word: &[u8]) -> usize
-    requires { ⌜ Room (now out) to (length (now word)) ⌝ }
+    requires { ⌜ Room-for (now out) to (length (now word)) ⌝ }
     ensures { λ r. ⌜ Put (now (out .entry)) (now (out .exit)) r to (now (word .entry)) ⌝ }
 {
     let at = to - word.len();
@@ -94,7 +94,7 @@ pub fn put(out: &mut [u8], to: usize, word: &[u8]) -> usize
 
 // The numeral of n that ends at the place to, two digits at a time.
 fn put_number(out: &mut [u8], to: usize, n: u64) -> usize
-    requires { ⌜ Room (now out) to (length (numeral n)) ⌝ }
+    requires { ⌜ Room-for (now out) to (length (numeral n)) ⌝ }
     ensures { λ r. ⌜ Put (now (out .entry)) (now (out .exit)) r to (numeral n) ⌝ }
 {
     let mut i = to;
@@ -146,7 +146,7 @@ fn put_names(out: &mut [u8], at: usize, set: u64) -> usize
 
 // The number n as its slot reads, ending at the place to.
 pub fn put_slot(out: &mut [u8], to: usize, slot: u8, n: u64) -> usize
-    requires { ⌜ Room (now out) to (length (slot-text slot n)) ⌝ }
+    requires { ⌜ Room-for (now out) to (length (slot-text slot n)) ⌝ }
     ensures { λ r. ⌜ Put (now (out .entry)) (now (out .exit)) r to (slot-text slot n) ⌝ }
 {
     if slot == b'S' {
@@ -159,7 +159,7 @@ pub fn put_slot(out: &mut [u8], to: usize, slot: u8, n: u64) -> usize
 
 // A word and the slot behind it, ending at the place to.
 pub fn put_field(out: &mut [u8], to: usize, word: &[u8], slot: u8, n: u64) -> usize
-    requires { ⌜ Room (now out) to (length (now word) + length (slot-text slot n)) ⌝ }
+    requires { ⌜ Room-for (now out) to (length (now word) + length (slot-text slot n)) ⌝ }
     ensures { λ r. ⌜ Put (now (out .entry)) (now (out .exit)) r to (now (word .entry) ++ slot-text slot n) ⌝ }
 {
     let to = put_slot(out, to, slot, n);

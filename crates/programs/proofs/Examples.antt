@@ -33,7 +33,7 @@ use Rattle.stream.specs.declared.feed.Fed.{Fed}
 use Rattle.stream.specs.Stream.{finished, new-stream, session-of, silent, stream-of, handed-back, answered-in}
 use Rattle.stream.specs.Stream.{Comes-to, Feeds, Finishes}
 use Rattle.stream.specs.Chunking.{joined, Plain, All-plain, after-lines, replies, last-reply, Split}
-use Rattle.stream.specs.Chunking.{Feeding, Takes, stream-after, written}
+use Rattle.stream.specs.Chunking.{Feeding, Takes, stream-after, all-written}
 use Rattle.stream.proofs.Chunking.{fed-said, fed-lines, any-chunking}
 use Rattle.programs.specs.Examples.{whole-of, blocks-of, Any-blocks}
 use Rattle.programs.specs.Examples.{Handed, lines-of, first-block, second-block, answers, Day-in-two-blocks}

@@ -11,7 +11,7 @@ use Rattle.reply.specs.Session.{reply-room}
 use Rattle.stream.specs.declared.feed.Fed.{Fed}
 use Rattle.stream.specs.Stream.{new-stream, Finishes}
 use Rattle.stream.specs.Chunking.{joined, after-lines, replies, last-reply, Split}
-use Rattle.stream.specs.Chunking.{Feeding, Takes, stream-after, written}
+use Rattle.stream.specs.Chunking.{Feeding, Takes, stream-after, all-written}
 
 -- the blocks as one input
 abbrev pub whole-of : List (List ℕ) → List ℕ
@@ -30,7 +30,7 @@ pub record Handed (blocks : List (List ℕ)) (d w : List ℕ) : Type 0 where
   pub after : List ℕ
   pub back : Fed
   pub finishes : Finishes (stream-after new-stream feedings) d after back
-  pub writes : written feedings ++ take (back .written) after ≡ w
+  pub writes : all-written feedings ++ take (back .written) after ≡ w
 
 -- with room for all answers any blocks can be handed in
 abbrev pub Any-blocks : Type 0

@@ -192,7 +192,8 @@ state-is : (l : List ℕ) (v : Split l) → finished (silent (fed (session-of ne
 state-is l v =
     let x = session-of new-stream in
     ap (λ (m : List ℕ). finished (silent (fed x m)) .day) (sym (v .whole))
-    ∙ ap (λ (y : Session). finished (silent y) .day) (fed-lines blank [] (v .lines) (v .rest) (v .lines-plain) (v .rest-plain))
+    ∙ ap (λ (y : Session). finished (silent y) .day) (fed-lines blank [] (v .lines) (v .rest) (v .lines-plain)
+    (v .rest-plain))
     ∙ state-after blank (v .lines) (v .rest)
 
 -- A run: the wire w, after reads that gave blocks, with so many turns left.

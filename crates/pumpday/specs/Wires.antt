@@ -33,9 +33,9 @@ pub record Reads (w : Wire) (l : List ℕ) (r : Got) : Type 0 where
   pub sent-is : r .wire .sent ≡ w .sent
 
 -- what the stream k has come to by the bytes l, or at the end of input; its output is due
-abbrev pub due : Stream → List ℕ → (end : Bool) → Session
-due k l false = fed (session-of k) l
-due k l true = finished (session-of k)
+abbrev pub session-after : Stream → List ℕ → (end : Bool) → Session
+session-after k l false = fed (session-of k) l
+session-after k l true = finished (session-of k)
 
 -- The stream has come to y, and the answers of y were told. Whether they went is what C answered: it is free, but that
 -- a failure before stays one.

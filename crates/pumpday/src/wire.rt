@@ -6,7 +6,7 @@ ghost use Prim.Native.Nat.{_≤_};
 ghost use lib.ListN.{length};
 ghost use Rattle.reply.specs.Session.{reply-room};
 ghost use Rattle.stream.specs.Stream.{finished, session-of, silent};
-ghost use Rattle.pumpday.specs.Wires.{new-wire, due, Reads, Tells};
+ghost use Rattle.pumpday.specs.Wires.{new-wire, session-after, Reads, Tells};
 ghost use Rattle.pumpday.specs.Contracts.{Part, Whole, Taken};
 use libc::STDERR_FILENO;
 use libc::STDIN_FILENO;
@@ -81,9 +81,9 @@ impl Wire {
     // Writes what is due from the stream for the bytes that it took, or at the end of input; next is the stream after
     // them.
     fn tell(self, taken: &[u8], end: bool, next: Stream, bytes: &[u8]) -> Self
-        requires { ⌜ (now bytes ≡ due (self .stream) (now taken) end .output)
-            × (session-of next ≡ silent (due (self .stream) (now taken) end)) ⌝ }
-        ensures { λ r. ⌜ Tells self (due (self .stream) (now (taken .entry)) end) r ⌝ }
+        requires { ⌜ (now bytes ≡ session-after (self .stream) (now taken) end .output)
+            × (session-of next ≡ silent (session-after (self .stream) (now taken) end)) ⌝ }
+        ensures { λ r. ⌜ Tells self (session-after (self .stream) (now (taken .entry)) end) r ⌝ }
     {
         let went = io::write_all(STDOUT_FILENO, bytes);
         let told = wrapping_add_u64(self.told, bytes.len() as u64);

@@ -58,21 +58,26 @@ same-plan s c k = call-elim (λ (o : Outcome). o .day .plan ≡ s .plan) s c (λ
     go close-day k y = refl
 
 -- so its weights stay
-pub same-weights : (s : Day) (c : Call) (w : List ℕ) {o : Outcome} → Keeps-plan c → o ≡ call s c → Weights (s .plan) w → Weights (o .day .plan) w
-same-weights s c w {o} k e h = subst (λ (p : Plan). Weights p w) (sym (ap (λ (x : Outcome). x .day .plan) e ∙ same-plan s c k)) h
+pub same-weights : (s : Day) (c : Call) (w : List ℕ) {o : Outcome} → Keeps-plan c → o ≡ call s c → Weights (s .plan) w
+    → Weights (o .day .plan) w
+same-weights s c w {o} k e h = subst (λ (p : Plan). Weights p w)
+    (sym (ap (λ (x : Outcome). x .day .plan) e ∙ same-plan s c k)) h
 
 -- the plan of a sound state is sound
 pub plan-kept : (h : Head) (t n : List ℕ) → Kept h t n → sound-plan (h .plan) ≡ true
 plan-kept h t n k = sound-facts (state-of h t n) (k .is-sound) .plan-sound
 
 -- what a call of a sound state hands back is kept
-call-kept : (h : Head) (t n : List ℕ) (c : Call) → Kept h t n → (r : Step) (t′ n′ : List ℕ) → outcome-of r t′ n′ ≡ call (state-of h t n) c → Kept (r .head) t′ n′
+call-kept : (h : Head) (t n : List ℕ) (c : Call) → Kept h t n → (r : Step) (t′ n′ : List ℕ) → outcome-of r t′ n′
+    ≡ call (state-of h t n) c → Kept (r .head) t′ n′
 call-kept h t n c k r t′ n′ e = record {
-  room = subst (λ (o : Outcome). Room (o .day .terms) (o .day .counts)) (sym e) (call-room (state-of h t n) c (k .room));
+  room = subst (λ (o : Outcome). Room (o .day .terms) (o .day .counts)) (sym e)
+      (call-room (state-of h t n) c (k .room));
   is-sound = ap (λ (o : Outcome). sound (o .day)) e ∙ sound-kept (state-of h t n) c (k .is-sound);
 }
 
-pub opened-sound : (h : Head) (t n : List ℕ) (c : Call) → Kept h t n → (r : Step) (t′ n′ : List ℕ) → outcome-of r t′ n′ ≡ call (state-of h t n) c → sound-plan (r .head .plan) ≡ true
+pub opened-sound : (h : Head) (t n : List ℕ) (c : Call) → Kept h t n → (r : Step) (t′ n′ : List ℕ) → outcome-of r t′ n′
+    ≡ call (state-of h t n) c → sound-plan (r .head .plan) ≡ true
 opened-sound h t n c k r t′ n′ e = plan-kept (r .head) t′ n′ (call-kept h t n c k r t′ n′ e)
 
 -- A request, of a state that is sound and of one that is not.
@@ -81,8 +86,14 @@ module _ {b : Bool} {h : Head} {w t n : List ℕ} (k : Ready b h w t n) where
   pub kept-ready : b ≡ true → Kept h t n
   kept-ready e = record { room = k .room; is-sound = k .sound-is ∙ e }
 
-  pub ready-executed : (q : Request) (r : Step) (w′ t′ n′ : List ℕ) → b ≡ true → outcome-of r t′ n′ ≡ executed (state-of h t n) q → Weights (r .head .plan) w′ → Ready b (r .head) w′ t′ n′
-  ready-executed q r w′ t′ n′ e p v = record { room = go q p .room; sound-is = go q p .is-sound ∙ sym e; weights-are = λ z. v }
+  pub ready-executed : (q : Request) (r : Step) (w′ t′ n′ : List ℕ) → b ≡ true → outcome-of r t′ n′
+      ≡ executed (state-of h t n) q → Weights (r .head .plan) w′ → Ready b (r .head) w′ t′ n′
+  ready-executed q r w′ t′ n′ e p v = record {
+    room = go q p .room;
+    sound-is = go q p .is-sound ∙ sym e;
+    weights-are =
+        λ z. v;
+  }
     where
       go : (q : Request) → outcome-of r t′ n′ ≡ executed (state-of h t n) q → Kept (r .head) t′ n′
       go (makes c) p = call-kept h t n c (kept-ready e) r t′ n′ p
@@ -92,13 +103,16 @@ module _ {b : Bool} {h : Head} {w t n : List ℕ} (k : Ready b h w t n) where
       }
 
   -- a state that is not sound refuses every request
-  pub unsound-executed : (q : Request) → b ≡ false → refused (state-of h t n) (unsound-number q) ≡ executed (state-of h t n) q
+  pub unsound-executed : (q : Request) → b ≡ false → refused (state-of h t n) (unsound-number q)
+      ≡ executed (state-of h t n) q
   unsound-executed (makes c) e = unsound-refused (state-of h t n) c (k .sound-is ∙ e)
   unsound-executed (fails q) e = refl
 
 -- a refusal keeps what was ready
-pub refused-ready : {b : Bool} {h : Head} {w t n : List ℕ} (r : Step) (q : ℕ) → r ≡ refusing h q → Ready b h w t n → Ready b (r .head) w t n
+pub refused-ready : {b : Bool} {h : Head} {w t n : List ℕ} (r : Step) (q : ℕ) → r ≡ refusing h q → Ready b h w t n
+    → Ready b (r .head) w t n
 refused-ready {b} {h} {w} {t} {n} r q e k = subst (λ (x : Step). Ready b (x .head) w t n) (sym e) k
 
-pub refused-weights : (h : Head) (w : List ℕ) (r : Step) (q : ℕ) → r ≡ refusing h q → Weights (h .plan) w → Weights (r .head .plan) w
+pub refused-weights : (h : Head) (w : List ℕ) (r : Step) (q : ℕ) → r ≡ refusing h q → Weights (h .plan) w
+    → Weights (r .head .plan) w
 refused-weights h w r q e k = subst (λ (x : Step). Weights (x .head .plan) w) (sym e) k

@@ -51,10 +51,12 @@ take-cut (suc n) [] b = refl
 take-cut (suc n) (x ∷ a) b = ap (λ (l : List ℕ). x ∷ l) (take-cut n a b)
 
 longer-none : (x : Session) → length (x .pending) ≤ 201 → longer x [] ≡ x
-longer-none x h = ap (λ (l : List ℕ). record { day = x .day; pending = l; output = x .output }) (ap (take 201) (append-nil (x .pending)) ∙ take-all 201 (x .pending) h)
+longer-none x h = ap (λ (l : List ℕ). record { day = x .day; pending = l; output = x .output })
+    (ap (take 201) (append-nil (x .pending)) ∙ take-all 201 (x .pending) h)
 
 longer-longer : (x : Session) (a b : List ℕ) → longer (longer x a) b ≡ longer x (a ++ b)
-longer-longer x a b = ap (λ (l : List ℕ). record { day = x .day; pending = l; output = x .output }) (take-cut 201 (x .pending ++ a) b ∙ ap (take 201) (append-assoc (x .pending) a b))
+longer-longer x a b = ap (λ (l : List ℕ). record { day = x .day; pending = l; output = x .output })
+    (take-cut 201 (x .pending ++ a) b ∙ ap (take 201) (append-assoc (x .pending) a b))
 
 longer-short : (x : Session) (w : List ℕ) → length (longer x w .pending) ≤ 201
 longer-short x w = omega (arith, length-take 201 (x .pending ++ w))
@@ -74,25 +76,31 @@ unfolding upto
 upto-at [] h = absurd (omega arith)
 upto-at (b ∷ l) h = go (eqb b 10) refl h (upto-at l)
   where
-    go : (t : Bool) → eqb b 10 ≡ t → cond t 0 (suc (upto l)) < suc (length l) → (upto l < length l → getD l (upto l) 0 ≡ 10) → getD (b ∷ l) (cond t 0 (suc (upto l))) 0 ≡ 10
+    go : (t : Bool) → eqb b 10 ≡ t → cond t 0 (suc (upto l)) < suc (length l)
+        → (upto l < length l → getD l (upto l) 0 ≡ 10) → getD (b ∷ l) (cond t 0 (suc (upto l))) 0 ≡ 10
     go true e k ih = eqb-true b 10 e
     go false e k ih = ih (omega arith)
 
-pub plain-fed : (x : Session) (l : List ℕ) → length (x .pending) ≤ 201 → fed x (take (upto l) l) ≡ longer x (take (upto l) l)
+pub plain-fed : (x : Session) (l : List ℕ) → length (x .pending) ≤ 201 → fed x (take (upto l) l)
+    ≡ longer x (take (upto l) l)
 unfolding fed upto
 plain-fed x [] h = sym (longer-none x h)
 plain-fed x (b ∷ l) h = go (eqb b 10) refl (plain-fed (longer x (b ∷ [])) l (longer-short x (b ∷ [])))
   where
-    go : (t : Bool) → eqb b 10 ≡ t → fed (longer x (b ∷ [])) (take (upto l) l) ≡ longer (longer x (b ∷ [])) (take (upto l) l) → fed x (take (cond t 0 (suc (upto l))) (b ∷ l)) ≡ longer x (take (cond t 0 (suc (upto l))) (b ∷ l))
+    go : (t : Bool) → eqb b 10 ≡ t → fed (longer x (b ∷ [])) (take (upto l) l)
+        ≡ longer (longer x (b ∷ [])) (take (upto l) l) → fed x (take (cond t 0 (suc (upto l))) (b ∷ l))
+        ≡ longer x (take (cond t 0 (suc (upto l))) (b ∷ l))
     go true e ih = sym (longer-none x h)
-    go false e ih = ap (λ (y : Session). fed y (take (upto l) l)) (byte-plain x b e) ∙ ih ∙ longer-longer x (b ∷ []) (take (upto l) l)
+    go false e ih = ap (λ (y : Session). fed y (take (upto l) l)) (byte-plain x b e) ∙ ih
+        ∙ longer-longer x (b ∷ []) (take (upto l) l)
 
 fed-one : (x : Session) (b : ℕ) → fed x (b ∷ []) ≡ after-byte x b
 unfolding fed
 fed-one x b = refl
 
 -- a line that ends
-pub line-fed : (x : Session) (l : List ℕ) → length (x .pending) ≤ 201 → upto l < length l → fed x (take (suc (upto l)) l) ≡ ended (longer x (take (upto l) l))
+pub line-fed : (x : Session) (l : List ℕ) → length (x .pending) ≤ 201 → upto l < length l
+    → fed x (take (suc (upto l)) l) ≡ ended (longer x (take (upto l) l))
 line-fed x l h k =
     ap (fed x) (take-suc l (upto l) 0 k)
     ∙ fed-append x (take (upto l) l) (getD l (upto l) 0 ∷ [])
@@ -102,7 +110,8 @@ line-fed x l h k =
 
 -- How many bytes are taken.
 
-consumed-cons : (n : ℕ) (x : Session) (b : ℕ) (l : List ℕ) → length (x .output) + 16384 ≤ n → consumed-count n x (b ∷ l) ≡ suc (consumed-count n (after-byte x b) l)
+consumed-cons : (n : ℕ) (x : Session) (b : ℕ) (l : List ℕ) → length (x .output) + 16384 ≤ n
+    → consumed-count n x (b ∷ l) ≡ suc (consumed-count n (after-byte x b) l)
 unfolding consumed-count
 consumed-cons n x b l h = rw (le-leb (length (x .output) + 16384) n h)
 
@@ -110,13 +119,16 @@ pub consumed-nil : (n : ℕ) (x : Session) → consumed-count n x [] ≡ 0
 unfolding consumed-count
 consumed-nil n x = refl
 
-pub consumed-plain : (n : ℕ) (x : Session) (l : List ℕ) → length (x .pending) ≤ 201 → length (x .output) + 16384 ≤ n → consumed-count n x l ≡ upto l + consumed-count n (longer x (take (upto l) l)) (drop (upto l) l)
+pub consumed-plain : (n : ℕ) (x : Session) (l : List ℕ) → length (x .pending) ≤ 201 → length (x .output) + 16384 ≤ n
+    → consumed-count n x l ≡ upto l + consumed-count n (longer x (take (upto l) l)) (drop (upto l) l)
 unfolding upto
 consumed-plain n x [] h r = omega (arith, consumed-nil n x, consumed-nil n (longer x []))
 consumed-plain n x (b ∷ l) h r = go (eqb b 10) refl (consumed-plain n (longer x (b ∷ [])) l (longer-short x (b ∷ [])) r)
   where
-    go : (t : Bool) → eqb b 10 ≡ t → consumed-count n (longer x (b ∷ [])) l ≡ upto l + consumed-count n (longer (longer x (b ∷ [])) (take (upto l) l)) (drop (upto l) l)
-        → consumed-count n x (b ∷ l) ≡ cond t 0 (suc (upto l)) + consumed-count n (longer x (take (cond t 0 (suc (upto l))) (b ∷ l))) (drop (cond t 0 (suc (upto l))) (b ∷ l))
+    go : (t : Bool) → eqb b 10 ≡ t → consumed-count n (longer x (b ∷ [])) l
+        ≡ upto l + consumed-count n (longer (longer x (b ∷ [])) (take (upto l) l)) (drop (upto l) l)
+        → consumed-count n x (b ∷ l) ≡ cond t 0 (suc (upto l)) + consumed-count n
+        (longer x (take (cond t 0 (suc (upto l))) (b ∷ l))) (drop (cond t 0 (suc (upto l))) (b ∷ l))
     go true e ih = omega (arith, ap (λ (y : Session). consumed-count n y (b ∷ l)) (longer-none x h))
     go false e ih =
         omega (
@@ -127,8 +139,10 @@ consumed-plain n x (b ∷ l) h r = go (eqb b 10) refl (consumed-plain n (longer 
           ap (λ (y : Session). consumed-count n y (drop (upto l) l)) (longer-longer x (b ∷ []) (take (upto l) l)),
         )
 
-pub consumed-line : (n : ℕ) (x : Session) (l : List ℕ) → length (x .pending) ≤ 201 → length (x .output) + 16384 ≤ n → upto l < length l
-    → consumed-count n x l ≡ suc (upto l) + consumed-count n (ended (longer x (take (upto l) l))) (drop (suc (upto l)) l)
+pub consumed-line : (n : ℕ) (x : Session) (l : List ℕ) → length (x .pending) ≤ 201 → length (x .output) + 16384 ≤ n
+    → upto l < length l
+    → consumed-count n x l ≡ suc (upto l) + consumed-count n (ended (longer x (take (upto l) l)))
+    (drop (suc (upto l)) l)
 consumed-line n x l h r k =
     let y = longer x (take (upto l) l) in
     omega (
@@ -141,7 +155,8 @@ consumed-line n x l h r k =
 
 -- The first byte 10 from a place on.
 
-pub upto-past : (s : List ℕ) (i : ℕ) → i < length s → (getD s i 0 ≡ 10 → ⊥) → upto (drop i s) ≡ suc (upto (drop (suc i) s))
+pub upto-past : (s : List ℕ) (i : ℕ) → i < length s → (getD s i 0 ≡ 10 → ⊥) → upto (drop i s)
+    ≡ suc (upto (drop (suc i) s))
 unfolding upto
 upto-past s i h n = ap upto (drop-cons s i 0 h) ∙ rw (ne-eqb (getD s i 0) 10 n)
 

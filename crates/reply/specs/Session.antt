@@ -18,7 +18,8 @@ pub record Session : Type 0 where
   pub pending : List ℕ
   pub output : List ℕ
 
--- The bytes w more of a line. No more are held than tell that it is too long: such a line is answered 16 whatever it is.
+-- The bytes w more of a line. No more are held than tell that it is too long: such a line is answered 16, whatever it
+-- is.
 abbrev pub longer : Session → List ℕ → Session
 longer x w = record { day = x .day; pending = take line-buffer (x .pending ++ w); output = x .output }
 
@@ -38,7 +39,8 @@ fed x (b ∷ l) = fed (after-byte x b) l
 -- longest answer
 unfoldable pub consumed-count : ℕ → Session → List ℕ → ℕ
 consumed-count n x [] = 0
-consumed-count n x (b ∷ l) = cond (leb (length (x .output) + reply-room) n) (suc (consumed-count n (after-byte x b) l)) 0
+consumed-count n x (b ∷ l) = cond (leb (length (x .output) + reply-room) n) (suc (consumed-count n (after-byte x b) l))
+    0
 
 -- how many bytes stand before the first byte 10
 unfoldable pub upto : List ℕ → ℕ

@@ -18,28 +18,37 @@ use Rattle.stream.specs.declared.feed.Stream.{Stream}
 use Rattle.stream.specs.declared.feed.Fed.{Fed}
 use Rattle.stream.specs.Stream.{finished, session, new-stream, session-of, silent, Comes-to, Feeds, Finishes}
 use Rattle.stream.specs.Chunking.{joined, Plain, All-plain, after-lines, replies, Split, Feeding, Takes}
-use Rattle.stream.specs.Chunking.{stream-after, written, last-reply, Any-input, Any-chunking}
+use Rattle.stream.specs.Chunking.{stream-after, all-written, last-reply, Any-input, Any-chunking}
 use Rattle.batch.proofs.Rests.{rest-fed}
 
 abbrev pub with-said : Session → List ℕ → Session
 with-said x w = record { day = x .day; pending = x .pending; output = w }
 
 -- what was said before stays in front
-pub fed-said : (x : Session) (l : List ℕ) → fed x l ≡ with-said (fed (silent x) l) (x .output ++ fed (silent x) l .output)
+pub fed-said : (x : Session) (l : List ℕ) → fed x l ≡ with-said (fed (silent x) l)
+    (x .output ++ fed (silent x) l .output)
 unfolding fed
 fed-said x [] = ap (with-said x) (sym (append-nil (x .output)))
-fed-said x (b ∷ l) = go (eqb b 10) refl (fed-said (ended x) l) (fed-said (ended (silent x)) l) (fed-said (longer x (b ∷ [])) l)
+fed-said x (b ∷ l) = go (eqb b 10) refl (fed-said (ended x) l) (fed-said (ended (silent x)) l)
+    (fed-said (longer x (b ∷ [])) l)
   where
     go : (t : Bool) → eqb b 10 ≡ t
-        → fed (ended x) l ≡ with-said (fed (silent (ended x)) l) ((x .output ++ reply (x .day) (x .pending)) ++ fed (silent (ended x)) l .output)
-        → fed (ended (silent x)) l ≡ with-said (fed (silent (ended x)) l) (reply (x .day) (x .pending) ++ fed (silent (ended x)) l .output)
-        → fed (longer x (b ∷ [])) l ≡ with-said (fed (silent (longer x (b ∷ []))) l) (x .output ++ fed (silent (longer x (b ∷ []))) l .output)
-        → fed (after-byte x b) l ≡ with-said (fed (after-byte (silent x) b) l) (x .output ++ fed (after-byte (silent x) b) l .output)
+        → fed (ended x) l ≡ with-said (fed (silent (ended x)) l)
+        ((x .output ++ reply (x .day) (x .pending)) ++ fed (silent (ended x)) l .output)
+        → fed (ended (silent x)) l ≡ with-said (fed (silent (ended x)) l)
+        (reply (x .day) (x .pending) ++ fed (silent (ended x)) l .output)
+        → fed (longer x (b ∷ [])) l ≡ with-said (fed (silent (longer x (b ∷ []))) l)
+        (x .output ++ fed (silent (longer x (b ∷ []))) l .output)
+        → fed (after-byte x b) l ≡ with-said (fed (after-byte (silent x) b) l)
+        (x .output ++ fed (after-byte (silent x) b) l .output)
     go true e p q r =
-        let f : fed (after-byte (silent x) b) l ≡ with-said (fed (silent (ended x)) l) (reply (x .day) (x .pending) ++ fed (silent (ended x)) l .output) = ap (λ (y : Session). fed y l) (byte-end (silent x) b (eqb-true b 10 e)) ∙ q in
+        let f : fed (after-byte (silent x) b) l ≡ with-said (fed (silent (ended x)) l)
+        (reply (x .day) (x .pending) ++ fed (silent (ended x)) l .output) =
+        ap (λ (y : Session). fed y l) (byte-end (silent x) b (eqb-true b 10 e)) ∙ q in
         ap (λ (y : Session). fed y l) (byte-end x b (eqb-true b 10 e))
         ∙ p
-        ∙ ap (with-said (fed (silent (ended x)) l)) (append-assoc (x .output) (reply (x .day) (x .pending)) (fed (silent (ended x)) l .output))
+        ∙ ap (with-said (fed (silent (ended x)) l)) (append-assoc (x .output) (reply (x .day) (x .pending))
+        (fed (silent (ended x)) l .output))
         ∙ sym (ap (λ (y : Session). with-said y (x .output ++ y .output)) f)
     go false e p q r =
         ap (λ (y : Session). fed y l) (byte-plain x b e)
@@ -55,7 +64,8 @@ front-said {y} {n} {d} h =
     ∙ take-append-seam (y .output) (drop (length (y .output)) d)
 
 -- the next block begins where the last one left off, its answers handed over
-pub session-next : {y : Session} {n : ℕ} {d e : List ℕ} {r : Fed} → Comes-to y n d e r → session-of (r .stream) ≡ silent y
+pub session-next : {y : Session} {n : ℕ} {d e : List ℕ} {r : Fed} → Comes-to y n d e r → session-of (r .stream)
+    ≡ silent y
 session-next {y} h =
     ap (λ (b : Fed). session-of (b .stream)) (h .back-is)
     ∙ ap (λ (l : List ℕ). record { day = y .day; pending = l; output = [] })
@@ -84,15 +94,16 @@ written-inside {y} {n} {d} h =
 
 -- all that is written, with the end of input, is what the whole input says
 module _ (d e : List ℕ) (r : Fed) (room : 16384 ≤ length d) where
-  all-written : (k : Stream) (l : List ℕ) (fs : List Feeding) → Takes k l fs → Finishes (stream-after k fs) d e r
-      → written fs ++ take (r .written) e ≡ fed (session-of k) l .output ++ finished (silent (fed (session-of k) l)) .output
+  all-written-is : (k : Stream) (l : List ℕ) (fs : List Feeding) → Takes k l fs → Finishes (stream-after k fs) d e r
+      → all-written fs ++ take (r .written) e ≡ fed (session-of k) l .output ++ finished
+      (silent (fed (session-of k) l)) .output
   unfolding fed
-  all-written k l [] t h =
+  all-written-is k l [] t h =
       front-said
       (subst (λ (b : Bool). Comes-to (cond b (finished (session-of k)) (session-of k)) 0 d e r)
       (le-leb 16384 (length d) room) h)
       ∙ ap (λ (m : List ℕ). fed (session-of k) m .output ++ finished (silent (fed (session-of k) m)) .output) (sym t)
-  all-written k l (f ∷ fs) t h =
+  all-written-is k l (f ∷ fs) t h =
       let x = session-of k in
       let n = f .back .consumed in
       let y = fed x (take n (f .block)) in
@@ -101,18 +112,21 @@ module _ (d e : List ℕ) (r : Fed) (room : 16384 ≤ length d) where
       subst⁻¹ (λ (i : ℕ). Comes-to (fed x (take i (f .block))) i (f .before) (f .after) (f .back))
       (ap (λ (b : Fed). b .consumed) (t .1 .back-is)) (t .1) in
       let z : fed x l ≡ with-said (fed (silent y) m) (y .output ++ fed (silent y) m .output) =
-      ap (fed x) (t .0 ∙ ap (λ (w : List ℕ). w ++ f .later) (sym (take-append-drop n (f .block))) ∙ append-assoc (take n (f .block)) (drop n (f .block)) (f .later))
+      ap (fed x) (t .0 ∙ ap (λ (w : List ℕ). w ++ f .later) (sym (take-append-drop n (f .block)))
+      ∙ append-assoc (take n (f .block)) (drop n (f .block)) (f .later))
       ∙ fed-append x (take n (f .block)) m
       ∙ fed-said y m in
-      append-assoc (take (f .back .written) (f .after)) (written fs) (take (r .written) e)
-      ∙ ap₂ _++_ (front-said o) (all-written (f .back .stream) m fs (t .2) h ∙ ap (λ (s : Session). fed s m .output ++ finished (silent (fed s m)) .output) (session-next o))
+      append-assoc (take (f .back .written) (f .after)) (all-written fs) (take (r .written) e)
+      ∙ ap₂ _++_ (front-said o) (all-written-is (f .back .stream) m fs (t .2) h
+      ∙ ap (λ (s : Session). fed s m .output ++ finished (silent (fed s m)) .output) (session-next o))
       ∙ sym (append-assoc (y .output) (fed (silent y) m .output) (finished (silent (fed (silent y) m)) .output))
       ∙ sym (ap (λ (s : Session). s .output ++ finished (silent s) .output) z)
 
 -- As lines.
 
 -- a line and its byte 10
-line-said : (s : Day) (p l : List ℕ) → Plain l → fed (record { day = s; pending = []; output = p }) (l ++ (10 ∷ [])) ≡ record { day = next s l; pending = []; output = p ++ reply s l }
+line-said : (s : Day) (p l : List ℕ) → Plain l → fed (record { day = s; pending = []; output = p }) (l ++ (10 ∷ []))
+    ≡ record { day = next s l; pending = []; output = p ++ reply s l }
 unfolding fed
 line-said s p l e =
     let x : Session = record { day = s; pending = []; output = p } in
@@ -124,19 +138,23 @@ line-said s p l e =
 
 -- the whole input: each line is answered as the whole line is, and of the rest at most 201 bytes are held
 pub fed-lines : (s : Day) (p : List ℕ) (ls : List (List ℕ)) (rest : List ℕ) → All-plain ls → Plain rest
-    → fed (record { day = s; pending = []; output = p }) (joined ls rest) ≡ record { day = after-lines s ls; pending = take 201 rest; output = p ++ replies s ls }
+    → fed (record { day = s; pending = []; output = p }) (joined ls rest)
+    ≡ record { day = after-lines s ls; pending = take 201 rest; output = p ++ replies s ls }
 unfolding joined after-lines replies
-fed-lines s p [] rest a e = rest-fed (record { day = s; pending = []; output = p }) rest (omega arith) e ∙ ap (λ (w : List ℕ). record { day = s; pending = take 201 rest; output = w }) (sym (append-nil p))
+fed-lines s p [] rest a e = rest-fed (record { day = s; pending = []; output = p }) rest (omega arith) e
+    ∙ ap (λ (w : List ℕ). record { day = s; pending = take 201 rest; output = w }) (sym (append-nil p))
 fed-lines s p (l ∷ ls) rest a e =
     let x : Session = record { day = s; pending = []; output = p } in
     ap (fed x) (sym (append-assoc l (10 ∷ []) (joined ls rest)))
     ∙ fed-append x (l ++ (10 ∷ [])) (joined ls rest)
     ∙ ap (λ (y : Session). fed y (joined ls rest)) (line-said s p l (a .0))
     ∙ fed-lines (next s l) (p ++ reply s l) ls rest (a .1) e
-    ∙ ap (λ (w : List ℕ). record { day = after-lines (next s l) ls; pending = take 201 rest; output = w }) (append-assoc p (reply s l) (replies (next s l) ls))
+    ∙ ap (λ (w : List ℕ). record { day = after-lines (next s l) ls; pending = take 201 rest; output = w })
+    (append-assoc p (reply s l) (replies (next s l) ls))
 
 -- the end of input
-last-said : (s : Day) (rest : List ℕ) → finished (record { day = s; pending = take 201 rest; output = [] }) .output ≡ last-reply s rest
+last-said : (s : Day) (rest : List ℕ) → finished (record { day = s; pending = take 201 rest; output = [] }) .output
+    ≡ last-reply s rest
 unfolding finished
 last-said s [] = refl
 last-said s (b ∷ l) = cut-reply s (b ∷ l)
@@ -151,7 +169,7 @@ any-input input ls rest a p w =
 
 pub any-chunking : Any-chunking
 any-chunking input fs t d e r room h ls rest a p w =
-    all-written d e r room new-stream input fs t h ∙ any-input input ls rest a p w
+    all-written-is d e r room new-stream input fs t h ∙ any-input input ls rest a p w
 
 -- and every input is lines and a rest
 plain-cons : (b : ℕ) (l : List ℕ) → eqb b 10 ≡ false → Plain l → Plain (b ∷ l)
@@ -162,14 +180,37 @@ plain-nil : Plain []
 unfolding upto
 plain-nil = refl
 
-more-byte : (b : ℕ) (l : List ℕ) → eqb b 10 ≡ false → (ls : List (List ℕ)) (rest : List ℕ) → All-plain ls → Plain rest → joined ls rest ≡ l → Split (b ∷ l)
+more-byte : (b : ℕ) (l : List ℕ) → eqb b 10 ≡ false → (ls : List (List ℕ)) (rest : List ℕ) → All-plain ls → Plain rest
+    → joined ls rest ≡ l → Split (b ∷ l)
 unfolding joined
-more-byte b l e [] rest a h w = record { lines = []; rest = b ∷ rest; lines-plain = tt; rest-plain = plain-cons b rest e h; whole = ap (λ (m : List ℕ). b ∷ m) w }
-more-byte b l e (k ∷ ls) rest a h w = record { lines = (b ∷ k) ∷ ls; rest = rest; lines-plain = (plain-cons b k e (a .0), a .1); rest-plain = h; whole = ap (λ (m : List ℕ). b ∷ m) w }
+more-byte b l e [] rest a h w = record {
+  lines = [];
+  rest = b ∷ rest;
+  lines-plain = tt;
+  rest-plain =
+      plain-cons b rest e h;
+  whole = ap (λ (m : List ℕ). b ∷ m) w;
+}
+more-byte b l e (k ∷ ls) rest a h w = record {
+  lines = (b ∷ k) ∷ ls;
+  rest = rest;
+  lines-plain =
+      (plain-cons b k e (a .0), a .1);
+  rest-plain = h;
+  whole = ap (λ (m : List ℕ). b ∷ m) w;
+}
 
 end-line : (b : ℕ) (l : List ℕ) → b ≡ 10 → Split l → Split (b ∷ l)
 unfolding joined
-end-line b l e s = record { lines = [] ∷ s .lines; rest = s .rest; lines-plain = (plain-nil, s .lines-plain); rest-plain = s .rest-plain; whole = ap (λ (m : List ℕ). 10 ∷ m) (s .whole) ∙ ap (λ (c : ℕ). c ∷ l) (sym e) }
+end-line b l e s = record {
+  lines = [] ∷ s .lines;
+  rest = s .rest;
+  lines-plain =
+      (plain-nil, s .lines-plain);
+  rest-plain = s .rest-plain;
+  whole =
+      ap (λ (m : List ℕ). 10 ∷ m) (s .whole) ∙ ap (λ (c : ℕ). c ∷ l) (sym e);
+}
 
 pub split : (l : List ℕ) → Split l
 unfolding joined

@@ -19,11 +19,13 @@ use Rattle.batch.specs.Contracts.{Position, line-of, Progress}
 use Rattle.batch.proofs.Rests.{rest-fed, consumed-stop, consumed-rest}
 use Rattle.batch.proofs.Turns.{fed-more, short, roomy, held-line}
 use Rattle.stream.specs.Stream.{session}
-use Rattle.stream.specs.Contracts.{Runs}
+use Rattle.stream.specs.Contracts.{Processed}
 
 -- no line ends in what is left, and the n bytes of g are what was pending with it behind
-module _ (x : Session) (l d : List ℕ) (t : Position) (h e : List ℕ) (st : Progress x l d t h e) (room : t .at + 16384 ≤ length d)
-    (none : upto (drop (t .from) l) ≡ length (drop (t .from) l)) (g : List ℕ) (n : ℕ) (few : n ≤ 201) (wide : length g ≡ 201)
+module _ (x : Session) (l d : List ℕ) (t : Position) (h e : List ℕ) (st : Progress x l d t h e)
+    (room : t .at + 16384 ≤ length d)
+    (none : upto (drop (t .from) l) ≡ length (drop (t .from) l)) (g : List ℕ) (n : ℕ) (few : n ≤ 201)
+    (wide : length g ≡ 201)
     (kept : take n g ≡ line-of h (t .kept) (take (length l - t .from) (drop (t .from) l))) where
   pub rest-stands : Progress x l d (record { day = t .day; kept = n; from = length l; at = t .at }) g e
   rest-stands =
@@ -31,10 +33,12 @@ module _ (x : Session) (l d : List ℕ) (t : Position) (h e : List ℕ) (st : Pr
       let m = drop (t .from) l in
       let all : length l ≡ t .from + length m = omega (arith, length-drop (t .from) l, st .inside) in
       let z : fed x (take (length l) l) ≡ longer y m =
-      ap (λ (i : ℕ). fed x (take i l)) all ∙ fed-more x l (t .from) (length m) ∙ ap (fed y) (take-length m) ∙ rest-fed y m (short x l d t h e st room) none in
+      ap (λ (i : ℕ). fed x (take i l)) all ∙ fed-more x l (t .from) (length m) ∙ ap (fed y) (take-length m)
+      ∙ rest-fed y m (short x l d t h e st room) none in
       record {
         day = st .day ∙ sym (ap (λ (s : Session). s .day) z);
-        pending = kept ∙ ap (line-of h (t .kept)) (part-is l (t .from)) ∙ held-line x l d t h e st room m ∙ sym (ap (λ (s : Session). s .pending) z);
+        pending = kept ∙ ap (line-of h (t .kept)) (part-is l (t .from)) ∙ held-line x l d t h e st room m
+            ∙ sym (ap (λ (s : Session). s .pending) z);
         put = subst (Put d e 0 (t .at)) (sym (ap (λ (s : Session). s .output) z)) (st .put);
         taken =
             let k = length d in
@@ -55,7 +59,8 @@ module _ (x : Session) (l d : List ℕ) (t : Position) (h e : List ℕ) (st : Pr
 
 module _ (s : Day) (h : List ℕ) (kept : ℕ) (l d : List ℕ) where
   -- before the first turn
-  pub stands-first : kept ≤ 201 → length h ≡ 201 → Progress (session s h kept) l d (record { day = s; kept = kept; from = 0; at = 0 }) h d
+  pub stands-first : kept ≤ 201 → length h ≡ 201 → Progress (session s h kept) l d
+      (record { day = s; kept = kept; from = 0; at = 0 }) h d
   unfolding fed
   stands-first few wide = record {
     day = refl;
@@ -70,7 +75,7 @@ module _ (s : Day) (h : List ℕ) (kept : ℕ) (l d : List ℕ) where
 
 -- where the input is used up or there is no room
 module _ (x : Session) (l d : List ℕ) (t : Position) (h e : List ℕ) (st : Progress x l d t h e) where
-  runs : consumed-count (length d) x l ≡ t .from → Runs x l d e t h
+  runs : consumed-count (length d) x l ≡ t .from → Processed x l d e t h
   runs q = record {
     inside = st .inside;
     from = sym q;
@@ -81,15 +86,28 @@ module _ (x : Session) (l d : List ℕ) (t : Position) (h e : List ℕ) (st : Pr
     few = st .few;
   }
 
-  pub runs-through : length l ≤ t .from → Runs x l d e t h
-  runs-through k = runs (omega (arith, st .taken, ap (consumed-count (length d) (fed x (take (t .from) l))) (drop-of-length-le l k), consumed-nil (length d) (fed x (take (t .from) l))))
+  pub runs-through : length l ≤ t .from → Processed x l d e t h
+  runs-through k =
+      runs (omega (
+        arith,
+        st .taken,
+        ap (consumed-count (length d) (fed x (take (t .from) l))) (drop-of-length-le l k),
+        consumed-nil (length d) (fed x (take (t .from) l)),
+      ))
 
-  runs-full : length d < t .at + 16384 → Runs x l d e t h
-  runs-full k = runs (omega (arith, st .taken, consumed-stop (length d) (fed x (take (t .from) l)) (drop (t .from) l) (omega (arith, st .put .next))))
+  runs-full : length d < t .at + 16384 → Processed x l d e t h
+  runs-full k =
+      runs (omega (
+        arith,
+        st .taken,
+        consumed-stop (length d) (fed x (take (t .from) l)) (drop (t .from) l)
+            (omega (arith, st .put .next)),
+      ))
 
-  pub runs-ended : (eqb (t .from) (length l) || ltb (length e - t .at) 16384) ≡ true → Runs x l d e t h
+  pub runs-ended : (eqb (t .from) (length l) || ltb (length e - t .at) 16384) ≡ true → Processed x l d e t h
   runs-ended q = go (eqb (t .from) (length l)) refl q
     where
-      go : (b : Bool) → eqb (t .from) (length l) ≡ b → (b || ltb (length e - t .at) 16384) ≡ true → Runs x l d e t h
+      go : (b : Bool) → eqb (t .from) (length l) ≡ b → (b || ltb (length e - t .at) 16384) ≡ true
+          → Processed x l d e t h
       go true p r = runs-through (omega (arith, eqb-true (t .from) (length l) p))
       go false p r = runs-full (omega (arith, ltb-true (length e - t .at) 16384 r, st .put .same, st .fits))

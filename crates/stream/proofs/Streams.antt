@@ -21,7 +21,7 @@ use Rattle.stream.specs.declared.feed.Stream.{Stream}
 use Rattle.stream.specs.declared.feed.Fed.{Fed}
 use Rattle.stream.specs.Stream.{ended-if, finished, session, session-of, buffered, handed-back, answered-in}
 use Rattle.stream.specs.Stream.{stream-at, Feeds, Finishes}
-use Rattle.stream.specs.Contracts.{Runs}
+use Rattle.stream.specs.Contracts.{Processed}
 
 -- no more than 201 bytes are held
 pub take-least : (h : List ℕ) (k : ℕ) → length h ≡ 201 → take (min k 201) h ≡ take k h
@@ -34,8 +34,10 @@ take-least h k e = go (leb k 201) refl
         let m : min k 201 ≡ 201 = omega arith in
         ap (λ (i : ℕ). take i h) m ∙ take-all 201 h (omega arith) ∙ sym (take-all k h (omega arith))
 
-session-is : (k : Stream) (n : ℕ) → n ≡ min (k .kept) 201 → length (k .pending) ≡ 201 → session (k .day) (k .pending) n ≡ session-of k
-session-is k n q e = ap (λ (h : List ℕ). record { day = k .day; pending = h; output = [] }) (ap (λ (i : ℕ). take i (k .pending)) q ∙ take-least (k .pending) (k .kept) e)
+session-is : (k : Stream) (n : ℕ) → n ≡ min (k .kept) 201 → length (k .pending) ≡ 201 → session (k .day) (k .pending) n
+    ≡ session-of k
+session-is k n q e = ap (λ (h : List ℕ). record { day = k .day; pending = h; output = [] })
+    (ap (λ (i : ℕ). take i (k .pending)) q ∙ take-least (k .pending) (k .kept) e)
 
 -- what is put at the front of d
 front-is : {d e w : List ℕ} {to : ℕ} → Put d e 0 to w → to ≤ length d → e ≡ w ++ drop (length w) d
@@ -61,13 +63,13 @@ back-from y n a b e f h = rw (a, b, e, f, h)
 -- a run over the block l from the state that k holds
 module _ (k : Stream) (l d e : List ℕ) (n : ℕ) (t : Position) (g : List ℕ) where
   pub feeds : n ≡ min (k .kept) 201 → length (k .pending) ≡ 201 → length g ≡ 201 → (x : Day) → x ≡ k .day
-      → Runs (session x (k .pending) n) l d e t g → {p : List ℕ}
+      → Processed (session x (k .pending) n) l d e t g → {p : List ℕ}
       → p ≡ take (t .kept) g ++ replicate (line-buffer - t .kept) 0
       → Feeds k l d e (back (t .day) p (t .kept) (t .from) (t .at))
   feeds q h w x f a c =
       let same : session x (k .pending) n ≡ session-of k =
       ap (λ (s : Day). session s (k .pending) n) f ∙ session-is k n q h in
-      let r = subst (λ (v : Session). Runs v l d e t g) same a in
+      let r = subst (λ (v : Session). Processed v l d e t g) same a in
       let y = fed (session-of k) (take (consumed-count (length d) (session-of k) l) l) in
       let kept : t .kept ≡ length (y .pending) = kept-length (t .kept) g (y .pending) (r .few) w (r .pending) in
       let told : t .at ≡ length (y .output) = omega (arith, r .put .next) in
@@ -92,7 +94,8 @@ finished-some x h = go (x .pending) h
 -- The end of input.
 
 -- a byte 10 that is fed is taken where there is room
-end-counted : (x : Session) (n : ℕ) (b : Bool) → leb (length (x .output) + 16384) n ≡ b → consumed-count n x (10 ∷ []) ≡ cond b 1 0
+end-counted : (x : Session) (n : ℕ) (b : Bool) → leb (length (x .output) + 16384) n ≡ b → consumed-count n x (10 ∷ [])
+    ≡ cond b 1 0
 unfolding consumed-count
 end-counted x n b q = rw q
 

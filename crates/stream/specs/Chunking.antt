@@ -61,9 +61,9 @@ abbrev pub stream-after : Stream → List Feeding → Stream
 stream-after k [] = k
 stream-after k (f ∷ fs) = stream-after (f .back .stream) fs
 
-abbrev pub written : List Feeding → List ℕ
-written [] = []
-written (f ∷ fs) = take (f .back .written) (f .after) ++ written fs
+abbrev pub all-written : List Feeding → List ℕ
+all-written [] = []
+all-written (f ∷ fs) = take (f .back .written) (f .after) ++ all-written fs
 
 -- the answer to what is left at the end of input: a line without byte 10 counts if it has bytes
 abbrev pub last-reply : Day → List ℕ → List ℕ
@@ -87,4 +87,4 @@ Any-chunking =
     (input : List ℕ) (fs : List Feeding) → Takes new-stream input fs
     → (d e : List ℕ) (r : Fed) → reply-room ≤ length d → Finishes (stream-after new-stream fs) d e r
     → (lines : List (List ℕ)) (rest : List ℕ) → All-plain lines → Plain rest → joined lines rest ≡ input
-    → written fs ++ take (r .written) e ≡ replies blank lines ++ last-reply (after-lines blank lines) rest
+    → all-written fs ++ take (r .written) e ≡ replies blank lines ++ last-reply (after-lines blank lines) rest

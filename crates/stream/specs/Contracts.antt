@@ -10,7 +10,7 @@ use Rattle.batch.specs.Contracts.{Position}
 use Rattle.stream.specs.Stream.{consumed-bytes}
 
 -- what a run over the input hands back
-pub record Runs (x : Session) (l d e : List ℕ) (r : Position) (g : List ℕ) : Type 0 where
+pub record Processed (x : Session) (l d e : List ℕ) (r : Position) (g : List ℕ) : Type 0 where
   pub inside : r .from ≤ length l
   pub from : r .from ≡ consumed-count (length d) x l
   pub day : r .day ≡ fed x (consumed-bytes x l d) .day

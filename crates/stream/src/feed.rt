@@ -19,7 +19,7 @@ ghost use Rattle.day.specs.Day.{state-of};
 ghost use Rattle.day.specs.Contracts.{Ready};
 ghost use Rattle.batch.specs.Contracts.{position};
 ghost use Rattle.stream.specs.Stream.{new-stream, session, stream-at, fed-at, Feeds, Finishes};
-ghost use Rattle.stream.specs.Contracts.{Runs};
+ghost use Rattle.stream.specs.Contracts.{Processed};
 
 // The state, and the first bytes of a line that has not ended: so many are kept, 201 at most. What feeding hands back
 // has zero bytes behind them.
@@ -54,9 +54,10 @@ fn run<'a>(
     terms: &'a mut [u32; 128],
     counts: &'a mut [u16; 256],
 ) -> Cursor
-    requires { ⌜ (first .kept ≤ line-buffer) × (length (now pending) ≡ line-buffer) × (first .from ≡ 0) × (first .turn .at ≡ 0) ⌝ }
+    requires { ⌜ (first .kept ≤ line-buffer) × (length (now pending) ≡ line-buffer)
+        × (first .from ≡ 0) × (first .turn .at ≡ 0) ⌝ }
     requires { ⌜ Ready (first .turn .sound) (first .turn .head) (now list) (now terms) (now counts) ⌝ }
-    ensures { λ r. ⌜ Runs (session (state-of (first .turn .head) (now (terms .entry)) (now (counts .entry)))
+    ensures { λ r. ⌜ Processed (session (state-of (first .turn .head) (now (terms .entry)) (now (counts .entry)))
         (now (pending .entry)) (first .kept)) (now (input .entry)) (now (out .entry)) (now (out .exit))
         (position r (now (terms .exit)) (now (counts .exit))) (now (pending .exit))
         × (length (now (pending .exit)) ≡ line-buffer) ⌝ }

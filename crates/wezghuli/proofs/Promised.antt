@@ -24,7 +24,7 @@ use Rattle.lines.specs.Form.{in-range}
 use Rattle.lines.specs.OneText as read
 use Rattle.lines.proofs.Inverse.{one-text}
 use Rattle.writer.specs.Writing as writer
-use Rattle.writer.proofs.Numbers.{tells}
+use Rattle.writer.proofs.Numbers.{number-and-values}
 use Rattle.reply.specs.Session.{Session, reply-room, fed, consumed-count}
 use Rattle.stream.specs.declared.feed.Fed.{Fed}
 use Rattle.stream.specs.declared.feed.Stream.{Stream}
@@ -50,7 +50,8 @@ stored-state o a =
     ap (λ (h : Head). state-of h (o .day .terms) (o .day .counts)) (faithful .head-back (states.head-of (o .day)))
 
 head-stays : (k : Call) (m : Memory) → is-head (m .head) ≡ true → is-head (after k m .head) ≡ true
-head-stays k m e = ap (λ (x : Memory). is-head (x .head)) (after-is k m e) ∙ faithful .head-is (states.head-of (outcome k m .day))
+head-stays k m e = ap (λ (x : Memory). is-head (x .head)) (after-is k m e)
+    ∙ faithful .head-is (states.head-of (outcome k m .day))
 
 next-state : (k : Call) (m : Memory) → is-head (m .head) ≡ true → state (after k m) ≡ call (state m) k .day
 next-state k m e = ap state (after-is k m e) ∙ stored-state (outcome k m) (m .answer)
@@ -158,7 +159,7 @@ write-small : (r : Record) (d : List ℕ) → writer.number (writer.writing r d)
 unfolding writer.question
 write-small r d =
     let fits = leb (length (writer.line r)) (length d) in
-    subst (λ (q : ℕ). q < 100) (sym (tells r d .number-is))
+    subst (λ (q : ℕ). q < 100) (sym (number-and-values r d .number-is))
     (small (in-range r) (cond fits 0 18) 17 (small fits 0 18 (omega arith) (omega arith)) (omega arith))
 
 write-refusal : (w d : List ℕ) → is-form w ≡ true → write-status w d < 100

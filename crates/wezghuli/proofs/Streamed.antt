@@ -1,5 +1,5 @@
--- What feeding and finishing leave in the lent memory: everything as it was where the status is not 0, and else what the
--- stream in place has become, stored (`fed-stored`, `finish-stored`).
+-- What feeding and finishing leave in the lent memory: everything as it was where the status is not 0, and else what
+-- the stream in place has become, stored (`fed-stored`, `finish-stored`).
 use mathlib.Core.Path.{_≡_, refl, sym, ap, ap₂, _∙_, subst}
 use mathlib.Core.Bool.{Bool, true, false, cond}
 use mathlib.Core.List.{List}
@@ -87,5 +87,8 @@ module _ (h t n p w d : List ℕ) (r : ℕ) (is-0 : r ≡ 0) (told : r ≡ statu
       let g = subst (λ (k : Stream). Finishes k d e (fed-at v t' n' p')) lent-is f in
       let z =
       subst (λ (b : Bool). Comes-to (cond b (finished x) x) 0 d e (fed-at v t' n' p'))
-      (has-room before (sym told ∙ is-0)) g in
-      (sym is-0 ∙ told, pick-first (eqb (status-in before) 0) (come-to (finished x) 0 d) before after none (comes (finished x) 0 z))
+      (has-room before (sym told ∙ is-0)) g in (
+        sym is-0 ∙ told,
+        pick-first (eqb (status-in before) 0) (come-to (finished x) 0 d) before after none
+            (comes (finished x) 0 z),
+      )

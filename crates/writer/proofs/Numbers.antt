@@ -8,11 +8,15 @@ use lib.ListN.{length}
 use borrow.Author.Tests.{eqb-true}
 use Rattle.lines.specs.declared.Record.{Record}
 use Rattle.writer.specs.declared.Writing.the-variants.{Length, Refusal}
-use Rattle.writer.specs.Writing.{line, question, writing, number, values, Tells}
+use Rattle.writer.specs.Writing.{line, question, writing, number, values, Number-and-values}
 
-pub tells : (r : Record) (d : List ℕ) → Tells r d
+pub number-and-values : (r : Record) (d : List ℕ) → Number-and-values r d
 unfolding writing
-tells r d = record { number-is = numbered (eqb (question r d) 0) refl; values-are = valued (eqb (question r d) 0) }
+number-and-values r d = record {
+  number-is = numbered (eqb (question r d) 0) refl;
+  values-are =
+      valued (eqb (question r d) 0);
+}
   where
     numbered : (t : Bool) → eqb (question r d) 0 ≡ t
         → number (cond t (Length (length (line r))) (Refusal (question r d))) ≡ question r d

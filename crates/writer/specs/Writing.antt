@@ -36,6 +36,6 @@ values (Length n) = n ∷ []
 values (Refusal q) = q ∷ []
 
 -- what they say of writing r into d
-pub record Tells (r : Record) (d : List ℕ) : Type 0 where
+pub record Number-and-values (r : Record) (d : List ℕ) : Type 0 where
   pub number-is : number (writing r d) ≡ question r d
   pub values-are : values (writing r d) ≡ cond (eqb (question r d) 0) (length (line r) ∷ []) (question r d ∷ [])

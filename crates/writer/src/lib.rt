@@ -2,7 +2,7 @@
 ghost use mathlib.Core.Path.{_≡_};
 ghost use Prim.Native.Nat.{_+_};
 ghost use lib.ListN.{length};
-ghost use Rattle.buffer.specs.Buffer.{Put, Room};
+ghost use Rattle.buffer.specs.Buffer.{Put, Room-for};
 ghost use Rattle.lines.specs.Form.{slot-text};
 ghost use Rattle.writer.specs.Writing.{writing, written};
 ghost use Rattle.writer.specs.Contracts.{line-length, Sized, Puts, one-slot};
@@ -58,7 +58,7 @@ fn size_of(r: Record) -> Size
 // The line of a form with one slot, the last before the closing bracket. Bytes are put from the last to the first: the
 // line ends at the place to.
 fn put_one(out: &mut [u8], to: usize, word: &[u8], slot: u8, n: u64) -> usize
-    requires { ⌜ Room (now out) to (length (slot-text slot n) + (length (now word) + 2)) ⌝ }
+    requires { ⌜ Room-for (now out) to (length (slot-text slot n) + (length (now word) + 2)) ⌝ }
     ensures { λ r. ⌜ Put (now (out .entry)) (now (out .exit)) r to (one-slot (now (word .entry)) slot n) ⌝ }
 {
     let to = put(out, to, b")\n");
@@ -67,7 +67,7 @@ fn put_one(out: &mut [u8], to: usize, word: &[u8], slot: u8, n: u64) -> usize
 
 // The line of the plan form; and so for each form with several slots.
 fn put_plan(out: &mut [u8], to: usize, depth: u64, width: u64) -> usize
-    requires { ⌜ Room (now out) to (line-length (Record.Plan depth width)) ⌝ }
+    requires { ⌜ Room-for (now out) to (line-length (Record.Plan depth width)) ⌝ }
     ensures { λ r. ⌜ Puts (now (out .entry)) (now (out .exit)) r to (Record.Plan depth width) ⌝ }
 {
     let to = put(out, to, b"))\n");
@@ -76,7 +76,7 @@ fn put_plan(out: &mut [u8], to: usize, depth: u64, width: u64) -> usize
 }
 
 fn put_campaign(out: &mut [u8], to: usize, price: u64, budget: u64) -> usize
-    requires { ⌜ Room (now out) to (line-length (Record.Campaign price budget)) ⌝ }
+    requires { ⌜ Room-for (now out) to (line-length (Record.Campaign price budget)) ⌝ }
     ensures { λ r. ⌜ Puts (now (out .entry)) (now (out .exit)) r to (Record.Campaign price budget) ⌝ }
 {
     let to = put(out, to, b"))\n");
@@ -85,7 +85,7 @@ fn put_campaign(out: &mut [u8], to: usize, price: u64, budget: u64) -> usize
 }
 
 fn put_play(out: &mut [u8], to: usize, campaign: u64, paid: u64) -> usize
-    requires { ⌜ Room (now out) to (line-length (Record.Play campaign paid)) ⌝ }
+    requires { ⌜ Room-for (now out) to (line-length (Record.Play campaign paid)) ⌝ }
     ensures { λ r. ⌜ Puts (now (out .entry)) (now (out .exit)) r to (Record.Play campaign paid) ⌝ }
 {
     let to = put(out, to, b"))\n");
@@ -94,7 +94,7 @@ fn put_play(out: &mut [u8], to: usize, campaign: u64, paid: u64) -> usize
 }
 
 fn put_closed(out: &mut [u8], to: usize, takings: u64, claim: u64, full: u64) -> usize
-    requires { ⌜ Room (now out) to (line-length (Record.Closed takings claim full)) ⌝ }
+    requires { ⌜ Room-for (now out) to (line-length (Record.Closed takings claim full)) ⌝ }
     ensures { λ r. ⌜ Puts (now (out .entry)) (now (out .exit)) r to (Record.Closed takings claim full) ⌝ }
 {
     let to = put(out, to, b"))\n");
@@ -112,7 +112,7 @@ fn put_tally(
     age: u64,
     named: u64,
 ) -> usize
-    requires { ⌜ Room (now out) to (line-length (Record.Tally campaign plays turns age named)) ⌝ }
+    requires { ⌜ Room-for (now out) to (line-length (Record.Tally campaign plays turns age named)) ⌝ }
     ensures { λ r. ⌜ Puts (now (out .entry)) (now (out .exit)) r to (Record.Tally campaign plays turns age named) ⌝ }
 {
     let to = put(out, to, b"))\n");
@@ -125,7 +125,7 @@ fn put_tally(
 
 // The line of the record, ending at the place to.
 fn put_record(r: Record, out: &mut [u8], to: usize) -> usize
-    requires { ⌜ Room (now out) to (line-length r) ⌝ }
+    requires { ⌜ Room-for (now out) to (line-length r) ⌝ }
     ensures { λ n. ⌜ Puts (now (out .entry)) (now (out .exit)) n to r ⌝ }
 {
     match r {

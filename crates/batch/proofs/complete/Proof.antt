@@ -5,7 +5,12 @@ use Rattle.batch.proofs.complete.Statement.{statement}
 use Rattle.batch.proofs.complete.Tie as tie
 
 returns : tie.Need-returns
-returns c = let s = c .before .before .before in record { some = λ n. absurd (n (c .if1 .taken)); few = omega arith; wide = s .pre .1 }
+returns c = let s = c .before .before .before in record {
+  some = λ n. absurd (n (c .if1 .taken));
+  few =
+      omega arith;
+  wide = s .pre .1;
+}
 
 keep-requires : tie.Need-keep-requires
 keep-requires c κs = search needs

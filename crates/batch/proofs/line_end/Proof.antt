@@ -24,8 +24,16 @@ returns c =
 loop-again : tie.Need-loop-again Inv-loop μ-loop
 loop-again c =
     let s = c .before .before .before .before .args .s .now in
-    let o = c .before .before .before .loop in
-    (omega (arith, o .inv .0, upto-past s (o .i) (omega arith) (c .if1 .left), ap (λ (k : ℕ). upto (drop k s)) (add-one (o .i))), omega arith)
+    let o = c .before .before .before .loop in (
+      omega (
+        arith,
+        o .inv .0,
+        upto-past s (o .i) (omega arith) (c .if1 .left),
+        ap (λ (k : ℕ). upto (drop k s))
+            (add-one (o .i)),
+      ),
+      omega arith,
+    )
 
 returns-2 : tie.Need-returns-2 Inv-loop μ-loop
 returns-2 c =

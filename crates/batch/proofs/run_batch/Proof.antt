@@ -17,12 +17,15 @@ use Rattle.batch.proofs.run_batch.Statement.{statement}
 use Rattle.batch.proofs.run_batch.Tie as tie
 
 abbrev Inv-loop : tie.InvT-loop
-Inv-loop pending₀ input out₀ list₀ terms₀ counts₀ turn₀ kept₀ from₀ end₀ pending out list terms counts turn kept from end =
-    Going input (record { day = state-of (turn₀ .head) terms₀ counts₀; kept = kept₀; from = from₀; at = turn₀ .at }) pending₀ out₀ turn list terms counts kept from pending out end
+Inv-loop pending₀ input out₀ list₀ terms₀ counts₀ turn₀ kept₀ from₀ end₀ pending out list terms counts turn kept from
+    end =
+    Going input (record { day = state-of (turn₀ .head) terms₀ counts₀; kept = kept₀; from = from₀; at = turn₀ .at })
+    pending₀ out₀ turn list terms counts kept from pending out end
     × (length out ≡ length out₀)
 
 abbrev μ-loop : tie.MeasureT-loop
-μ-loop pending₀ input out₀ list₀ terms₀ counts₀ turn₀ kept₀ from₀ end₀ pending out list terms counts turn kept from end = length input - from
+μ-loop pending₀ input out₀ list₀ terms₀ counts₀ turn₀ kept₀ from₀ end₀ pending out list terms counts turn kept from end
+    = length input - from
 
 abbrev at-start : tie.Then1 Inv-loop μ-loop → tie.Start Inv-loop μ-loop
 at-start c = c .before .before .before .before .before .before .before .before
@@ -33,7 +36,8 @@ at-loop c = c .before .before
 abbrev first : tie.Start Inv-loop μ-loop → Position
 first s = position (s .args .t) (s .args .terms .now) (s .args .counts .now)
 
-bounded : (c : tie.After-shared-slice-known Inv-loop μ-loop) → length (c .before .before .args .input .now) < 18_446_744_073_709_551_616
+bounded : (c : tie.After-shared-slice-known Inv-loop μ-loop)
+    → length (c .before .before .args .input .now) < 18_446_744_073_709_551_616
 bounded c = search needs
 
 -- the line ends, and there is room for its answer
@@ -47,7 +51,8 @@ room : (c : tie.Then1 Inv-loop μ-loop) → at-loop c .loop .turn .at + 16384 �
 room c =
     let l = at-loop c .loop in
     let n = length (at-start c .args .input .now) in
-    let q = leb-true 16384 (length (l .out) - l .turn .at) (both-right (ltb (l .end) n) (leb 16384 (length (l .out) - l .turn .at)) (c .if1 .taken)) in
+    let q = leb-true 16384 (length (l .out) - l .turn .at)
+    (both-right (ltb (l .end) n) (leb 16384 (length (l .out) - l .turn .at)) (c .if1 .taken)) in
     omega arith
 
 line-end-requires : tie.Need-line-end-requires Inv-loop μ-loop
@@ -88,7 +93,8 @@ sub-choose : tie.Need-sub-choose Inv-loop μ-loop
 sub-choose c = let b = c .before .before .before .before .before in omega (arith, at-loop b .loop .inv .0 .end-is)
 
 part-choose-start : tie.Need-part-choose-start Inv-loop μ-loop
-part-choose-start c = let b = c .before .before .before .before .before in omega (arith, at-loop b .loop .inv .0 .end-is)
+part-choose-start c = let b = c .before .before .before .before .before in omega
+    (arith, at-loop b .loop .inv .0 .end-is)
 
 part-choose-end : tie.Need-part-choose-end Inv-loop μ-loop
 part-choose-end c = let b = c .before .before .before .before .before in at-loop b .loop .inv .0 .end-most
@@ -105,36 +111,47 @@ choose-requires : tie.Need-choose-requires Inv-loop μ-loop
 choose-requires c κs = search needs
 
 answer-at-requires : tie.Need-answer-at-requires Inv-loop μ-loop
-answer-at-requires c κs = let b = c .before .before .before .before .before .before .before .before .before .before .before .before in (room b, at-loop b .loop .inv .0 .ready)
+answer-at-requires c κs =
+    let b = c .before .before .before .before .before .before .before .before .before .before .before .before in
+    (room b, at-loop b .loop .inv .0 .ready)
 
 add-from : tie.Need-add-from Inv-loop μ-loop
 add-from c =
-    let b = c .before .before .before .before .before .before .before .before .before .before .before .before .before .before .before in
+    let near-b = c .before .before .before .before .before .before .before in
+    let b = near-b .before .before .before .before .before .before .before .before in
     omega (arith, ends b, bounded (b .before .before .before .before .before .before))
 
 line-end-requires-2 : tie.Need-line-end-requires-2 Inv-loop μ-loop
-line-end-requires-2 c κs = let b = c .before .before .before .before .before .before .before .before .before .before .before .before .before .before .before in omega (arith, ends b)
+line-end-requires-2 c κs =
+    let near-b = c .before .before .before .before .before .before .before in
+    let b = near-b .before .before .before .before .before .before .before .before in omega (arith, ends b)
 
 loop-less : tie.Need-loop-less Inv-loop μ-loop
 loop-less c =
-    let b = c .before .before .before .before .before .before .before .before .before .before .before .before .before .before .before .before in
+    let near-b = c .before .before .before .before .before .before .before .before in
+    let b = near-b .before .before .before .before .before .before .before .before in
     omega (arith, ends b, at-loop b .loop .inv .0 .end-is)
 
 loop-again : tie.Need-loop-again Inv-loop μ-loop
 loop-again c =
-    let b = c .before .before .before .before .before .before .before .before .before .before .before .before .before .before .before .before in
+    let near-b = c .before .before .before .before .before .before .before .before in
+    let b = near-b .before .before .before .before .before .before .before .before in
     let a = at-start b .args in
     let l = at-loop b .loop in
-    let k = c .before .before .before .before .before .before .before .before .before .before .before .before .before .complete in
+    let near-k = c .before .before .before .before .before .before in
+    let k = near-k .before .before .before .before .before .before .before .complete in
     let q = c .before .before .before .before .before .before .before .before .choose in
     let r = c .before .before .before .answer-at in (
-      going-next (a .input .now) (first (at-start b)) (a .pending .now) (a .out .now) (l .turn) (l .list) (l .terms) (l .counts) (l .kept) (l .from) (l .pending) (l .out) (l .end) (l .inv .0)
-          (ends b) (room b) _ (k .result) (k .ensures) (r .result) _ _ _ _ (same-line (q .ensures) (r .ensures .0)) (r .ensures .1) (c .line-end2 .result) (c .line-end2 .ensures),
+      going-next (a .input .now) (first (at-start b)) (a .pending .now) (a .out .now) (l .turn) (l .list) (l .terms)
+          (l .counts) (l .kept) (l .from) (l .pending) (l .out) (l .end) (l .inv .0)
+          (ends b) (room b) _ (k .result) (k .ensures) (r .result) _ _ _ _ (same-line (q .ensures) (r .ensures .0))
+          (r .ensures .1) (c .line-end2 .result) (c .line-end2 .ensures),
       r .ensures .0 .put .same ∙ l .inv .1,
     )
 
 same-length : tie.Need-same-length Inv-loop μ-loop
-same-length c = let s = c .before .before .before .before .before .before .before .before in c .before .before .loop .inv .0 .wide ∙ sym (s .pre .0 .1)
+same-length c = let s = c .before .before .before .before .before .before .before .before in
+    c .before .before .loop .inv .0 .wide ∙ sym (s .pre .0 .1)
 
 same-length-2 : tie.Need-same-length-2 Inv-loop μ-loop
 same-length-2 c = c .before .before .loop .inv .1
@@ -144,12 +161,14 @@ not-both false b e h = refl
 not-both true b e h = absurd (never b e h)
 
 -- where there is room, no line ends in what is left
-no-line : (c : tie.Else1 Inv-loop μ-loop) → let l = c .before .before .loop in let i = c .before .before .before .before .before .before .before .before .args .input .now in
+no-line : (c : tie.Else1 Inv-loop μ-loop) → let l = c .before .before .loop in let i =
+    c .before .before .before .before .before .before .before .before .args .input .now in
     l .turn .at + 16384 ≤ length (l .out) → upto (drop (l .from) i) ≡ length (drop (l .from) i)
 no-line c h =
     let l = c .before .before .loop in
     let i = c .before .before .before .before .before .before .before .before .args .input .now in
-    let more = not-both (ltb (l .end) (length i)) (leb 16384 (length (l .out) - l .turn .at)) (c .if1 .left) (le-leb 16384 (length (l .out) - l .turn .at) (omega arith)) in
+    let more = not-both (ltb (l .end) (length i)) (leb 16384 (length (l .out) - l .turn .at)) (c .if1 .left)
+    (le-leb 16384 (length (l .out) - l .turn .at) (omega arith)) in
     omega (arith, ltb-false (l .end) (length i) more, l .inv .0 .end-is, l .inv .0 .end-most, length-drop (l .from) i)
 
 returns : tie.Need-returns Inv-loop μ-loop

@@ -9,7 +9,8 @@ use lib.ListN.{length}
 use Rattle.lines.specs.declared.Record.the-variants.{Done, Play, Nobody, Refused, Closed}
 use Rattle.buffer.specs.Buffer.{Put}
 use Rattle.day.specs.declared.Answer.{Answer}
-use Rattle.day.specs.declared.Answer.the-variants.{Refused as refusing, Done as done, Played as played, Nobody as no-one, Tallied as tallied, Closing as closing}
+use Rattle.day.specs.declared.Answer.the-variants.{Refused as refusing, Done as done, Played as played}
+use Rattle.day.specs.declared.Answer.the-variants.{Nobody as no-one, Tallied as tallied, Closing as closing}
 use Rattle.reply.specs.Reply.{answer-line}
 use Rattle.reply.specs.Contracts.{answer-in-range}
 use Rattle.buffer.proofs.Puts.{put-none}
@@ -29,8 +30,13 @@ answer-line-most no-one = line-most Nobody
 answer-line-most (tallied p t a n) = omega arith
 answer-line-most (closing t c f) = line-most (Closed t c f)
 
-said : {a b : Answer} {d e : List ℕ} {at to : ℕ} → a ≡ b → Put d e at to (answer-line b) → Put d e at to (answer-line a) × (to ≤ at + 201)
-said {a} {b} {d} {e} {at} {to} q p = (subst (λ (x : Answer). Put d e at to (answer-line x)) (sym q) p, omega (arith, p .next, answer-line-most b))
+said : {a b : Answer} {d e : List ℕ} {at to : ℕ} → a ≡ b → Put d e at to (answer-line b)
+    → Put d e at to (answer-line a) × (to ≤ at + 201)
+said {a} {b} {d} {e} {at} {to} q p = (
+  subst (λ (x : Answer). Put d e at to (answer-line x)) (sym q) p,
+  omega
+      (arith, p .next, answer-line-most b),
+)
 
 pub write-answer-spec : {M : Type 1} → statement M
 write-answer-spec =
@@ -52,9 +58,16 @@ write-answer-spec =
     (λ c. search needs)
     (λ c. said (c .before .before .before .before .enum-told .given .1) (c .before .before .write-record2 .ensures))
     (λ c. search needs)
-    (λ c. said (c .before .before .before .before .before .answer2 .given .1) (c .before .before .write-record3 .ensures))
+    (λ c. said (c .before .before .before .before .before .answer2 .given .1)
+    (c .before .before .write-record3 .ensures))
     (λ c. search needs)
     (λ c. said (c .before .before .before .before .enum-told2 .given .1) (c .before .before .write-record4 .ensures))
-    (λ c. let a = c .before .before .before .args in (subst (λ (x : Answer). Put (a .out .now) (a .out .now) (a .at) (a .at) (answer-line x)) (sym (c .enum-told3 .given .1)) (put-none (a .out .now) (a .at)), omega arith))
+    (λ c. let a = c .before .before .before .args in (
+      subst
+          (λ (x : Answer). Put (a .out .now) (a .out .now) (a .at) (a .at) (answer-line x))
+          (sym (c .enum-told3 .given .1)) (put-none (a .out .now) (a .at)),
+      omega arith,
+    ))
     (λ c. search needs)
-    (λ c. said (c .before .before .before .before .before .answer3 .given .1) (c .before .before .write-record5 .ensures)))
+    (λ c. said (c .before .before .before .before .before .answer3 .given .1)
+    (c .before .before .write-record5 .ensures)))

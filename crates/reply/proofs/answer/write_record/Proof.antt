@@ -19,9 +19,11 @@ use Rattle.reply.proofs.answer.write_record.Statement.{statement}
 use Rattle.reply.proofs.answer.write_record.Tie as tie
 
 -- the record r is in its ranges, and o has room for its line from the place at on
-module _ (r : Record) (o : List ℕ) (at : ℕ) (z : Writing) (p : (in-range r ≡ true) × (at + 201 ≤ length o)) (q : z ≡ writing r (take (length o - at) (drop at o))) where
+module _ (r : Record) (o : List ℕ) (at : ℕ) (z : Writing) (p : (in-range r ≡ true) × (at + 201 ≤ length o))
+    (q : z ≡ writing r (take (length o - at) (drop at o))) where
   answer-is : z ≡ Length (length (line r))
-  answer-is = q ∙ ap (writing r) (part-is o at) ∙ writing-is r (drop at o) (p .0) (omega (arith, p .1, length-drop at o))
+  answer-is = q ∙ ap (writing r) (part-is o at) ∙ writing-is r (drop at o) (p .0)
+      (omega (arith, p .1, length-drop at o))
 
   length-is : (n : ℕ) → z ≡ Length n → n ≡ length (line r)
   length-is n e = let f = answer-is in cc
@@ -29,12 +31,16 @@ module _ (r : Record) (o : List ℕ) (at : ℕ) (z : Writing) (p : (in-range r �
   never : (n : ℕ) → z ≡ Refusal n → ⊥
   never n e = let f = answer-is in let y : _≡_ {A = ℕ} 0 1 = cc in omega arith
 
-  sent : (n : ℕ) → z ≡ Length n → (e : List ℕ) → e ≡ written r (take (length o - at) (drop at o)) → Put o (take at o ++ (e ++ drop (length o - at) (drop at o))) at (at + n) (line r)
+  sent : (n : ℕ) → z ≡ Length n → (e : List ℕ) → e ≡ written r (take (length o - at) (drop at o))
+      → Put o (take at o ++ (e ++ drop (length o - at) (drop at o))) at (at + n) (line r)
   sent n f e g =
-      let h : e ≡ over (drop at o) 0 (line r) = g ∙ ap (written r) (part-is o at) ∙ written-is r (drop at o) (p .0) (omega (arith, p .1, length-drop at o)) in
-      let k : drop (length o - at) (drop at o) ≡ [] = drop-of-length-le (drop at o) {i = length o - at} (omega (arith, length-drop at o)) in
+      let h : e ≡ over (drop at o) 0 (line r) = g ∙ ap (written r) (part-is o at)
+      ∙ written-is r (drop at o) (p .0) (omega (arith, p .1, length-drop at o)) in
+      let k : drop (length o - at) (drop at o) ≡ [] = drop-of-length-le (drop at o) {i = length o - at}
+      (omega (arith, length-drop at o)) in
       let m : take at o ++ (e ++ drop (length o - at) (drop at o)) ≡ over o at (line r) =
-      ap (λ (l : List ℕ). take at o ++ (e ++ l)) k ∙ ap (λ (l : List ℕ). take at o ++ l) (append-nil e ∙ h) ∙ over-part o at (line r) (omega (arith, p .1)) in
+      ap (λ (l : List ℕ). take at o ++ (e ++ l)) k ∙ ap (λ (l : List ℕ). take at o ++ l) (append-nil e ∙ h)
+      ∙ over-part o at (line r) (omega (arith, p .1)) in
       record {
         next = ap (λ (i : ℕ). at + i) (length-is n f);
         here = m;
@@ -44,19 +50,31 @@ module _ (r : Record) (o : List ℕ) (at : ℕ) (z : Writing) (p : (in-range r �
 add-result : tie.Need-add-result
 add-result c =
     let a = c .before .before .before .before .before .before .before .before .args in
-    omega (arith, length-is (a .r) (a .out .now) (a .at) (c .before .before .before .before .before .write-line .result) (c .before .before .before .before .before .before .before .before .pre) (c .before .before .before .before .before .write-line .ensures .0) (c .before .n .given .0 .0) (c .before .n .given .1), line-most (a .r))
+    omega (
+      arith,
+      length-is (a .r) (a .out .now) (a .at)
+          (c .before .before .before .before .before .write-line .result)
+          (c .before .before .before .before .before .before .before .before .pre)
+          (c .before .before .before .before .before .write-line .ensures .0) (c .before .n .given .0 .0)
+          (c .before .n .given .1),
+      line-most (a .r),
+    )
 
 returns : tie.Need-returns
 returns c =
     let a = c .before .before .before .before .before .before .before .before .args in
     let w = c .before .before .before .before .before .write-line in
     let p = c .before .before .before .before .before .before .before .before .pre in
-    sent (a .r) (a .out .now) (a .at) (w .result) p (w .ensures .0) (c .before .n .given .0 .0) (c .before .n .given .1) (w .last .1 .0) (w .ensures .1)
+    sent (a .r) (a .out .now) (a .at) (w .result) p (w .ensures .0) (c .before .n .given .0 .0)
+    (c .before .n .given .1) (w .last .1 .0) (w .ensures .1)
 
 returns-2 : tie.Need-returns-2
 returns-2 c =
     let a = c .before .before .before .before .before .before .before .args in
-    absurd (never (a .r) (a .out .now) (a .at) (c .before .before .before .before .write-line .result) (c .before .before .before .before .before .before .before .pre) (c .before .before .before .before .write-line .ensures .0) (c .enum-told .given .0 .0) (c .enum-told .given .1))
+    absurd (never (a .r) (a .out .now) (a .at) (c .before .before .before .before .write-line .result)
+    (c .before .before .before .before .before .before .before .pre)
+    (c .before .before .before .before .write-line .ensures .0) (c .enum-told .given .0 .0)
+    (c .enum-told .given .1))
 
 pub write-record-spec : {M : Type 1} → statement M
 write-record-spec =

@@ -16,12 +16,14 @@ use Rattle.reply.proofs.answer.write_tallies.Statement.{statement}
 use Rattle.reply.proofs.answer.write_tallies.Tie as tie
 
 abbrev Inv-loop : tie.InvT-loop
-Inv-loop n terms counts out₀ at i₀ to₀ out i to = (i ≤ n) × (to ≤ at + 201 * i) × Put out₀ out at to (tallies (campaign-at terms counts) i)
+Inv-loop n terms counts out₀ at i₀ to₀ out i to = (i ≤ n) × (to ≤ at + 201 * i)
+    × Put out₀ out at to (tallies (campaign-at terms counts) i)
 
 abbrev μ-loop : tie.MeasureT-loop
 μ-loop n terms counts out₀ at i₀ to₀ out i to = n - i
 
-tallies-next : (f : ℕ → Campaign) (i : ℕ) (r : Record) → r ≡ tally-record i (f i) → tallies f i ++ line r ≡ tallies f (i + 1)
+tallies-next : (f : ℕ → Campaign) (i : ℕ) (r : Record) → r ≡ tally-record i (f i) → tallies f i ++ line r
+    ≡ tallies f (i + 1)
 unfolding tallies
 tallies-next f i r e = ap (λ (x : Record). tallies f i ++ line x) e ∙ ap (tallies f) (sym (add-one i))
 
@@ -30,7 +32,12 @@ unfolding tallies
 none f o at = put-none o at
 
 loop-holds : tie.Need-loop-holds Inv-loop μ-loop
-loop-holds c = (omega arith, omega arith, none (campaign-at (c .before .args .terms .now) (c .before .args .counts .now)) (c .before .args .out .now) (c .before .args .at))
+loop-holds c = (
+  omega arith,
+  omega arith,
+  none (campaign-at (c .before .args .terms .now) (c .before .args .counts .now))
+      (c .before .args .out .now) (c .before .args .at),
+)
 
 write-record-requires : tie.Need-write-record-requires Inv-loop μ-loop
 write-record-requires c κs =
@@ -45,15 +52,20 @@ loop-again c =
     let r = c .before .before .before .before .tally-record .result in (
       omega arith,
       omega (arith, p .next, line-most r),
-      subst (Put (a .out .now) (c .before .before .write-record .last .1 .0) (a .at) (c .before .before .write-record .result)) (tallies-next (campaign-at (a .terms .now) (a .counts .now)) (o .i) r (c .before .before .before .before .tally-record .ensures .0)) (put-then (o .inv .2) p),
+      subst (Put (a .out .now) (c .before .before .write-record .last .1 .0) (a .at)
+          (c .before .before .write-record .result)) (tallies-next (campaign-at (a .terms .now) (a .counts .now))
+          (o .i) r (c .before .before .before .before .tally-record .ensures .0)) (put-then (o .inv .2) p),
     )
 
 returns : tie.Need-returns Inv-loop μ-loop
 returns c =
     let a = c .before .before .before .args in
     let o = c .before .loop in
-    let e : o .i ≡ a .n = omega arith in
-    (subst (λ (k : ℕ). Put (a .out .now) (o .out) (a .at) (o .to) (tallies (campaign-at (a .terms .now) (a .counts .now)) k)) e (o .inv .2), omega arith)
+    let e : o .i ≡ a .n = omega arith in (
+      subst (λ (k : ℕ). Put (a .out .now) (o .out) (a .at) (o .to)
+          (tallies (campaign-at (a .terms .now) (a .counts .now)) k)) e (o .inv .2),
+      omega arith,
+    )
 
 pub write-tallies-spec : {M : Type 1} → statement M
 write-tallies-spec =

@@ -31,8 +31,12 @@ write-tallies-requires c κs =
     let closing = c .before .before .before in
     let said = closing .before .before .before .before in
     let done = said .before .before .before in
-    let p = said .write-answer .ensures in
-    (few-is (state done) (at-start done .args .line .now) _ (done .respond .ensures .0) (sym (closing .before .closes .ensures) ∙ closing .if1 .taken), omega (arith, p .1, p .0 .same, at-start done .pre .0))
+    let p = said .write-answer .ensures in (
+      few-is (state done) (at-start done .args .line .now) _ (done .respond .ensures .0)
+          (sym (closing .before .closes .ensures) ∙ closing .if1 .taken),
+      omega
+          (arith, p .1, p .0 .same, at-start done .pre .0),
+    )
 
 same-length : tie.Need-same-length
 same-length c = search needs
@@ -43,7 +47,9 @@ returns c =
     let said = closing .before .before .before .before in
     let done = said .before .before .before in
     let x = done .respond .ensures in (
-      written-closing (state done) (at-start done .args .line .now) _ (x .0) (sym (closing .before .closes .ensures) ∙ closing .if1 .taken) (said .write-answer .ensures) (c .before .before .write-tallies .ensures),
+      written-closing (state done) (at-start done .args .line .now) _ (x .0)
+          (sym (closing .before .closes .ensures) ∙ closing .if1 .taken) (said .write-answer .ensures)
+          (c .before .before .write-tallies .ensures),
       x .1,
     )
 
@@ -54,8 +60,11 @@ returns-2 : tie.Need-returns-2
 returns-2 c =
     let said = c .before .before .before .before in
     let done = said .before .before .before in
-    let x = done .respond .ensures in
-    (written-other (state done) (at-start done .args .line .now) _ (x .0) (sym (c .before .closes .ensures) ∙ c .if1 .left) (said .write-answer .ensures), x .1)
+    let x = done .respond .ensures in (
+      written-other (state done) (at-start done .args .line .now) _ (x .0)
+          (sym (c .before .closes .ensures) ∙ c .if1 .left) (said .write-answer .ensures),
+      x .1,
+    )
 
 pub answer-at-spec : {M : Type 1} → statement M
 answer-at-spec =

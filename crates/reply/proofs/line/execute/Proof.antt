@@ -92,56 +92,78 @@ refused-requires-6 : tie.Need-refused-requires-6
 refused-requires-6 c κs = search needs
 
 -- a record that is no call is refused, and the weights stay
-no-call : (s : tie.Start) {t : Record} (q : ℕ) (r : Step) → s .args .input ≡ t → request t ≡ fails q → r ≡ refusing (s .args .head) q
-    → (outcome-of r (s .args .terms .now) (s .args .counts .now) ≡ executed (state s) (request (s .args .input))) × Weights (r .head .plan) (s .args .list .now)
+no-call : (s : tie.Start) {t : Record} (q : ℕ) (r : Step) → s .args .input ≡ t → request t ≡ fails q → r
+    ≡ refusing (s .args .head) q
+    → (outcome-of r (s .args .terms .now) (s .args .counts .now) ≡ executed (state s) (request (s .args .input)))
+    × Weights (r .head .plan) (s .args .list .now)
 no-call s {t} q r e f p = (
-  made (state s) e (ap (λ (x : Step). outcome-of x (s .args .terms .now) (s .args .counts .now)) p ∙ ap (executed (state s)) (sym f)),
+  made (state s) e (ap (λ (x : Step). outcome-of x (s .args .terms .now) (s .args .counts .now)) p
+      ∙ ap (executed (state s)) (sym f)),
   refused-weights (s .args .head) (s .args .list .now) r q p (s .pre .0),
 )
 
 returns : tie.Need-returns
 returns c =
-    let s = c .before .before .before .before .before .before .before in
-    (made (state s) (c .before .before .before .before .before .input .given .1) (c .open-plan .ensures .0), c .open-plan .ensures .1)
+    let s = c .before .before .before .before .before .before .before in (
+      made (state s) (c .before .before .before .before .before .input .given .1) (c .open-plan .ensures .0),
+      c .open-plan .ensures .1,
+    )
 
 returns-2 : tie.Need-returns-2
 returns-2 c =
     let s = c .before .before .before .before .before .before in
-    let w = s .args .list .now in
-    (made (state s) (c .before .before .before .before .input2 .given .1) (c .add-sound .ensures), same-weights (state s) (add-campaign _) w tt (c .add-sound .ensures) (s .pre .0))
+    let w = s .args .list .now in (
+      made (state s) (c .before .before .before .before .input2 .given .1) (c .add-sound .ensures),
+      same-weights
+          (state s) (add-campaign _) w tt (c .add-sound .ensures) (s .pre .0),
+    )
 
 returns-3 : tie.Need-returns-3
 returns-3 c =
-    let s = c .before .before .before .before .before in
-    (made (state s) (c .before .before .before .enum-told .given .1) (c .start-sound .ensures), same-weights (state s) start-day (s .args .list .now) tt (c .start-sound .ensures) (s .pre .0))
+    let s = c .before .before .before .before .before in (
+      made (state s) (c .before .before .before .enum-told .given .1) (c .start-sound .ensures),
+      same-weights (state s)
+          start-day (s .args .list .now) tt (c .start-sound .ensures) (s .pre .0),
+    )
 
 returns-4 : tie.Need-returns-4
 returns-4 c =
-    let s = c .before .before .before .before .before .before .before in
-    (made (state s) (c .before .before .before .before .before .input3 .given .1) (c .show-sound .ensures), same-weights (state s) (show-view _) (s .args .list .now) tt (c .show-sound .ensures) (s .pre .0))
+    let s = c .before .before .before .before .before .before .before in (
+      made (state s) (c .before .before .before .before .before .input3 .given .1) (c .show-sound .ensures),
+      same-weights (state s) (show-view _) (s .args .list .now) tt (c .show-sound .ensures) (s .pre .0),
+    )
 
 returns-5 : tie.Need-returns-5
 returns-5 c =
-    let s = c .before .before .before .before .before .before in
-    (made (state s) (c .before .before .before .before .enum-told2 .given .1) (c .close-sound .ensures), same-weights (state s) close-day (s .args .list .now) tt (c .close-sound .ensures) (s .pre .0))
+    let s = c .before .before .before .before .before .before in (
+      made (state s) (c .before .before .before .before .enum-told2 .given .1) (c .close-sound .ensures),
+      same-weights
+          (state s) close-day (s .args .list .now) tt (c .close-sound .ensures) (s .pre .0),
+    )
 
 returns-6 : tie.Need-returns-6
-returns-6 c = no-call (c .before .before .before) 17 (c .refused .result) (c .before .enum-told3 .given .1) refl (c .refused .ensures)
+returns-6 c = no-call (c .before .before .before) 17 (c .refused .result) (c .before .enum-told3 .given .1) refl
+    (c .refused .ensures)
 
 returns-7 : tie.Need-returns-7
-returns-7 c = no-call (c .before .before .before) 17 (c .refused2 .result) (c .before .enum-told4 .given .1) refl (c .refused2 .ensures)
+returns-7 c = no-call (c .before .before .before) 17 (c .refused2 .result) (c .before .enum-told4 .given .1) refl
+    (c .refused2 .ensures)
 
 returns-8 : tie.Need-returns-8
-returns-8 c = no-call (c .before .before .before) 17 (c .refused3 .result) (c .before .enum-told5 .given .1) refl (c .refused3 .ensures)
+returns-8 c = no-call (c .before .before .before) 17 (c .refused3 .result) (c .before .enum-told5 .given .1) refl
+    (c .refused3 .ensures)
 
 returns-9 : tie.Need-returns-9
-returns-9 c = no-call (c .before .before .before) 17 (c .refused4 .result) (c .before .enum-told6 .given .1) refl (c .refused4 .ensures)
+returns-9 c = no-call (c .before .before .before) 17 (c .refused4 .result) (c .before .enum-told6 .given .1) refl
+    (c .refused4 .ensures)
 
 returns-10 : tie.Need-returns-10
-returns-10 c = no-call (c .before .before .before) 17 (c .refused5 .result) (c .before .enum-told7 .given .1) refl (c .refused5 .ensures)
+returns-10 c = no-call (c .before .before .before) 17 (c .refused5 .result) (c .before .enum-told7 .given .1) refl
+    (c .refused5 .ensures)
 
 returns-11 : tie.Need-returns-11
-returns-11 c = no-call (c .before .before .before) 17 (c .refused6 .result) (c .before .enum-told8 .given .1) refl (c .refused6 .ensures)
+returns-11 c = no-call (c .before .before .before) 17 (c .refused6 .result) (c .before .enum-told8 .given .1) refl
+    (c .refused6 .ensures)
 
 pub execute-spec : {M : Type 1} → statement M
 execute-spec =

@@ -15,8 +15,10 @@ returns c =
     let s = c .before .before .before .before .before in
     let a = s .args .before in
     let b = s .args .after in
-    let e = eqb-true (a .depth) (b .depth) (both-left (eqb (a .depth) (b .depth)) (eqb (a .width) (b .width)) (c .if1 .taken)) in
-    let f = eqb-true (a .width) (b .width) (both-right (eqb (a .depth) (b .depth)) (eqb (a .width) (b .width)) (c .if1 .taken)) in
+    let e = eqb-true (a .depth) (b .depth) (both-left (eqb (a .depth) (b .depth)) (eqb (a .width) (b .width))
+    (c .if1 .taken)) in
+    let f = eqb-true (a .width) (b .width) (both-right (eqb (a .depth) (b .depth)) (eqb (a .width) (b .width))
+    (c .if1 .taken)) in
     let g : a ≡ b = ap₂ (λ (x y : ℕ). record { depth = x; width = y }) e f in
     subst (λ (p : Plan). Weights p (s .args .list .now)) g (s .pre .0)
 

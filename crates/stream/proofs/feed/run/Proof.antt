@@ -24,15 +24,21 @@ abbrev at-start : tie.After-run-batch → tie.Start
 at-start c = c .before .before .before .before .before .before .before .before .before
 
 abbrev began : tie.Start → Session
-began s = let a = s .args in session (state-of (a .first .turn .head) (a .terms .now) (a .counts .now)) (a .pending .now) (a .first .kept)
+began s = let a = s .args in session (state-of (a .first .turn .head) (a .terms .now) (a .counts .now))
+    (a .pending .now) (a .first .kept)
 
 -- what stands before the first line
-started : (s : tie.Start) → let a = s .args in Progress (began s) (a .input .now) (a .out .now) (position (a .first) (a .terms .now) (a .counts .now)) (a .pending .now) (a .out .now)
+started : (s : tie.Start) → let a = s .args in Progress (began s) (a .input .now) (a .out .now)
+    (position (a .first) (a .terms .now) (a .counts .now)) (a .pending .now) (a .out .now)
 started s =
     let a = s .args in
     let p = s .pre .0 in
-    subst (λ (i : ℕ). Progress (began s) (a .input .now) (a .out .now) (record { day = began s .day; kept = a .first .kept; from = a .first .from; at = i }) (a .pending .now) (a .out .now)) (sym (p .3))
-    (subst (λ (i : ℕ). Progress (began s) (a .input .now) (a .out .now) (record { day = began s .day; kept = a .first .kept; from = i; at = 0 }) (a .pending .now) (a .out .now)) (sym (p .2))
+    subst (λ (i : ℕ). Progress (began s) (a .input .now) (a .out .now)
+    (record { day = began s .day; kept = a .first .kept; from = a .first .from; at = i }) (a .pending .now)
+    (a .out .now)) (sym (p .3))
+    (subst (λ (i : ℕ). Progress (began s) (a .input .now) (a .out .now)
+    (record { day = began s .day; kept = a .first .kept; from = i; at = 0 }) (a .pending .now) (a .out .now))
+    (sym (p .2))
     (stands-first (began s .day) (a .pending .now) (a .first .kept) (a .input .now) (a .out .now) (p .0) (p .1)))
 
 run-batch-requires : tie.Need-run-batch-requires
@@ -55,20 +61,25 @@ returns c =
     let ran = c .before .before .before .before .before .before .before in
     let s = at-start ran in
     let b = ran .run-batch in
-    let i = b .ensures .moves (began s) (s .args .out .now) (started s) in
-    (runs-ended (began s) (s .args .input .now) (s .args .out .now) (position (b .result) _ _) _ _ i (c .if1 .taken), b .ensures .wide)
+    let i = b .ensures .moves (began s) (s .args .out .now) (started s) in (
+      runs-ended (began s) (s .args .input .now) (s .args .out .now) (position (b .result) _ _) _ _ i (c .if1 .taken),
+      b .ensures .wide,
+    )
 
 sub-keep : tie.Need-sub-keep
-sub-keep c = let ran = c .before .before .before .before .before .before .before .before in ran .run-batch .ensures .inside
+sub-keep c = let ran = c .before .before .before .before .before .before .before .before in
+    ran .run-batch .ensures .inside
 
 part-keep-start : tie.Need-part-keep-start
-part-keep-start c = let ran = c .before .before .before .before .before .before .before .before in ran .run-batch .ensures .inside
+part-keep-start c = let ran = c .before .before .before .before .before .before .before .before in
+    ran .run-batch .ensures .inside
 
 part-keep-end : tie.Need-part-keep-end
 part-keep-end c = search needs
 
 keep-requires : tie.Need-keep-requires
-keep-requires c κs = let ran = c .before .before .before .before .before .before .before .before .before in (ran .run-batch .ensures .few, ran .run-batch .ensures .wide)
+keep-requires c κs = let ran = c .before .before .before .before .before .before .before .before .before in
+    (ran .run-batch .ensures .few, ran .run-batch .ensures .wide)
 
 same-length-3 : tie.Need-same-length-3
 same-length-3 c = search needs
@@ -86,9 +97,12 @@ returns-2 c =
     let i = e .moves (began s) (s .args .out .now) (started s) in
     let k = c .before .before .keep .ensures in
     let f = length (b .last .1 .1 .1 .0) in
-    let left = neither (eqb (b .result .from) (length (s .args .input .now))) (ltb (f - b .result .turn .at) 16384) (more .if1 .left) in
-    let roomy : b .result .turn .at + 16384 ≤ f = omega (arith, ltb-false (f - b .result .turn .at) 16384 (left .1), e .fits) in
-    let kept = rest-stands (began s) (s .args .input .now) (s .args .out .now) (position (b .result) _ _) _ _ i (omega (arith, roomy, i .put .same)) (e .ends roomy) _ _ (k .0 .0) (k .1) (k .0 .1) in
+    let left = neither (eqb (b .result .from) (length (s .args .input .now))) (ltb (f - b .result .turn .at) 16384)
+    (more .if1 .left) in
+    let roomy : b .result .turn .at + 16384 ≤ f = omega
+    (arith, ltb-false (f - b .result .turn .at) 16384 (left .1), e .fits) in
+    let kept = rest-stands (began s) (s .args .input .now) (s .args .out .now) (position (b .result) _ _) _ _ i
+    (omega (arith, roomy, i .put .same)) (e .ends roomy) _ _ (k .0 .0) (k .1) (k .0 .1) in
     (runs-through (began s) (s .args .input .now) (s .args .out .now) _ _ _ kept (omega arith), k .1)
 
 pub run-spec : {M : Type 1} → statement M

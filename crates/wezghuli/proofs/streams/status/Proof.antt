@@ -31,7 +31,8 @@ returns-2 c =
     let a = c .before .before .before .before .args in
     let s = c .before .is-stream in
     let rest = cond (leb reply-room (a .room)) 0 no-room in
-    pick-first (is-head (a .head .now)) (cond (is-stream (a .words .now)) rest no-stream) no-head no-stream (headed (c .before))
+    pick-first (is-head (a .head .now)) (cond (is-stream (a .words .now)) rest no-stream) no-head no-stream
+    (headed (c .before))
     (pick-second (is-stream (a .words .now)) rest no-stream no-stream
     (sym (s .ensures) ∙ not-true (s .result) (c .if2 .taken)) refl)
 

@@ -23,7 +23,8 @@ returns-2 c =
     let a = begin asked .args in
     fed-stored (a .head .now) (a .terms .now) (a .counts .now) (a .pending .now) (a .words .now) (a .out .now)
     (asked .status .result) (headed .before .before .before .if1 .left) (asked .status .ensures)
-    (headed .head-of .result) (headed .head-of .ensures) (moved .feed-in-place .result) _ _ _ _ _ _ (c .store .ensures) (a .input .now)
+    (headed .head-of .result) (headed .head-of .ensures) (moved .feed-in-place .result) _ _ _ _ _ _ (c .store .ensures)
+    (a .input .now)
     (moved .feed-in-place .ensures)
 
 pub wezghuli-feed-spec : {M : Type 1} → statement M

@@ -23,7 +23,8 @@ returns-2 c =
     let a = begin asked .args in
     finish-stored (a .head .now) (a .terms .now) (a .counts .now) (a .pending .now) (a .words .now) (a .out .now)
     (asked .status .result) (headed .before .before .before .if1 .left) (asked .status .ensures)
-    (headed .head-of .result) (headed .head-of .ensures) (moved .finish-in-place .result) _ _ _ _ _ _ (c .store .ensures)
+    (headed .head-of .result) (headed .head-of .ensures) (moved .finish-in-place .result) _ _ _ _ _ _
+    (c .store .ensures)
     (moved .finish-in-place .ensures)
 
 pub wezghuli-finish-spec : {M : Type 1} → statement M

@@ -10,7 +10,16 @@ use Rattle.pumpday.proofs.wire.Wire.new.Tie as tie
 -- a wire that has only a stream
 abbrev with-stream : Stream → Wire
 with-stream k =
-    record { stream = k; reads = 0; got = 0; told = 0; ended = new-wire .ended; failed = new-wire .failed; sent = new-wire .sent }
+    record {
+      stream = k;
+      reads = 0;
+      got = 0;
+      told = 0;
+      ended = new-wire .ended;
+      failed = new-wire .failed;
+      sent =
+          new-wire .sent;
+    }
 
 returns : tie.Need-returns
 returns c = ap with-stream (c .new .ensures)
