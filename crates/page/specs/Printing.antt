@@ -6,7 +6,7 @@ use mathlib.Core.List.{List, [], _∷_, _++_}
 use lib.Dec.{leb, eqb}
 use lib.ListN.{length, drop}
 use Rattle.day.specs.declared.Day.{Day}
-use Rattle.day.specs.Calls.{Question, question, first-no}
+use Rattle.questions.specs.Questions.{Question, question, first-failed}
 use Rattle.day.specs.Sound.{sound}
 use Rattle.page.specs.declared.Printing.{Printing}
 use Rattle.page.specs.declared.Printing.the-variants.{Length, Refusal}
@@ -23,7 +23,7 @@ page-questions s d = question 1 (sound s) ∷ question 18 (leb (length (page-of 
 
 -- the number of the first that fails, or 0
 unfoldable pub page-question : Day → (d : List ℕ) → ℕ
-page-question s d = first-no (page-questions s d)
+page-question s d = first-failed (page-questions s d)
 
 unfoldable pub printing : Day → (d : List ℕ) → Printing
 printing s d = cond (eqb (page-question s d) 0) (Length (length (page-of s))) (Refusal (page-question s d))
