@@ -9,9 +9,10 @@ use lib.ListN.{length, drop, replicate}
 use borrow.Author.Tests.{le-leb, lt-leb}
 use Rattle.finite.proofs.Tables.{length-table}
 use Rattle.day.specs.declared.Day.{Day}
-use Rattle.day.specs.Day.{campaign, taken}
-use Rattle.day.specs.Calls.{first-no}
-use Rattle.day.specs.Sound.{sound}
+use Rattle.day.specs.Day.{campaign, total-takings}
+use Rattle.questions.specs.Questions.{first-failed}
+use Rattle.day.specs.Day.{sound}
+use Rattle.day.proofs.State.{sound-facts}
 use Rattle.page.specs.declared.Printing.the-variants.{Length, Refusal}
 use Rattle.page.specs.Page.{line-length, total-text, page}
 use Rattle.page.specs.Figures.{row-of, figures}
@@ -23,7 +24,7 @@ use Rattle.page.proofs.Promises.{sound-fits}
 
 module _ (s : Day) (d : List ℕ) where
   pub unsound : sound s ≡ false → (Refusal 1 ≡ printing s d) × (d ≡ printed s d)
-  unfolding printing printed page-question first-no
+  unfolding printing printed page-question first-failed
   unsound e = (rw e, rw e)
 
   module _ (e : sound s ≡ true) where
@@ -33,7 +34,7 @@ module _ (s : Day) (d : List ℕ) where
     long = omega (arith, page-length (figures s) (sound-fits s e), length-table (s .count) (λ i. row-of (campaign s i)))
 
     pub no-room : length d < line-length * s .count + line-length → (Refusal 18 ≡ printing s d) × (d ≡ printed s d)
-    unfolding printing printed page-question first-no
+    unfolding printing printed page-question first-failed
     no-room l =
         let f : leb (length (page-of s)) (length d) ≡ false =
         lt-leb (length (page-of s)) (length d) (omega (arith, long)) in
@@ -41,10 +42,10 @@ module _ (s : Day) (d : List ℕ) where
 
     -- spaces, the last line, and the others before it
     pub laid : {d₁ d₂ d₃ : List ℕ} (n : ℕ) → n ≡ line-length * s .count + line-length → n ≤ length d
-        → d₁ ≡ replicate n 32 ++ drop n d → Lays d₁ d₂ (n - line-length) n (total-text (taken s) ++ (10 ∷ []))
+        → d₁ ≡ replicate n 32 ++ drop n d → Lays d₁ d₂ (n - line-length) n (total-text (total-takings s) ++ (10 ∷ []))
         → Lays d₂ d₃ 0 (line-length * s .count) (lines-of (s .count) (campaign s))
         → (Length n ≡ printing s d) × (d₃ ≡ printed s d)
-    unfolding printing printed page-question first-no page figures
+    unfolding printing printed page-question first-failed page figures
     laid {d₁} {d₂} {d₃} n k l c p q =
         let f : leb (length (page-of s)) (length d) ≡ true =
         le-leb (length (page-of s)) (length d) (omega (arith, long)) in
@@ -55,3 +56,19 @@ module _ (s : Day) (d : List ℕ) where
           rw (e, f) (ap Length m),
           rw (e, f) (stands .is ∙ ap (λ (j : ℕ). page-of s ++ drop j d) m),
         )
+
+    -- with room for 64 campaigns a page is never refused, and stands at the front
+    module _ (room : 2665 ≤ length d) where
+      no-question : page-question s d ≡ 0
+      unfolding page-question first-failed
+      no-question =
+          let few = sound-facts s e .few in
+          rw (e, le-leb (length (page-of s)) (length d) (omega (arith, long)))
+
+      pub prints : printing s d ≡ Length (length (page-of s))
+      unfolding printing
+      prints = rw no-question
+
+      pub stands : printed s d ≡ page-of s ++ drop (length (page-of s)) d
+      unfolding printed
+      stands = rw no-question

@@ -16,8 +16,8 @@ use Rattle.campaigns.specs.declared.Campaign.{Campaign}
 use Rattle.campaigns.specs.Campaign.{spending, priced, price-fits, budget-fits}
 use Rattle.campaigns.proofs.Laws.{spending-within}
 use Rattle.day.specs.declared.Day.{Day}
-use Rattle.day.specs.Day.{campaign, taken, budgeted}
-use Rattle.day.specs.Sound.{sound}
+use Rattle.day.specs.Day.{campaign, total-takings, total-budgets}
+use Rattle.day.specs.Day.{sound}
 use Rattle.day.proofs.State.{Sound, sound-facts, held-at}
 use Rattle.page.specs.declared.Printing.the-variants.{Length, Refusal}
 use Rattle.page.specs.Page.{Row, Row-fits, All-fit, Fits, read-page}
@@ -54,8 +54,8 @@ module _ (s : Day) (h : Sound s) where
       }
 
   -- and of all
-  pub takings-fit : taken s ≤ 2_000_000_000
-  unfolding taken budgeted
+  pub takings-fit : total-takings s ≤ 2_000_000_000
+  unfolding total-takings total-budgets
   takings-fit =
       omega (
         arith,

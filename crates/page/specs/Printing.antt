@@ -7,7 +7,7 @@ use lib.Dec.{leb, eqb}
 use lib.ListN.{length, drop}
 use Rattle.day.specs.declared.Day.{Day}
 use Rattle.questions.specs.Questions.{Question, question, first-failed}
-use Rattle.day.specs.Sound.{sound}
+use Rattle.day.specs.Day.{sound}
 use Rattle.page.specs.declared.Printing.{Printing}
 use Rattle.page.specs.declared.Printing.the-variants.{Length, Refusal}
 use Rattle.page.specs.Page.{page}

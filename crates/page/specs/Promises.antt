@@ -7,7 +7,7 @@ use mathlib.Core.List.{List}
 use lib.Dec.{eqb}
 use lib.ListN.{length, getD}
 use Rattle.day.specs.declared.Day.{Day}
-use Rattle.day.specs.Sound.{sound}
+use Rattle.day.specs.Day.{sound}
 use Rattle.page.specs.Page.{Figures, line-length, Fits, page, read-page}
 use Rattle.page.specs.Figures.{figures}
 use Rattle.page.specs.Printing.{Tells}

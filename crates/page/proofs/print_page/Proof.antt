@@ -9,10 +9,9 @@ use borrow.Author.Needs.{needs}
 use borrow.Author.Tests.{not-true, not-false}
 use Rattle.audit.specs.declared.Audit.{Audit}
 use Rattle.day.specs.declared.Day.{Day}
-use Rattle.day.specs.Day.{state-of, taken}
-use Rattle.day.specs.Sound.{sound}
-use Rattle.day.specs.Parts.{audited}
-use Rattle.day.proofs.Questions.{audit-sound, audit-figures}
+use Rattle.day.specs.Day.{head-of, campaign, state-of, total-takings, audited}
+use Rattle.day.specs.Day.{sound}
+use Rattle.audit.proofs.Audits.{audit-sound, audit-figures}
 use Rattle.day.proofs.State.{Sound, sound-facts}
 use Rattle.page.specs.Page.{line-length, total-text}
 use Rattle.page.specs.Contracts.{Lays}
@@ -21,6 +20,16 @@ use Rattle.page.proofs.Promises.{row-fits, takings-fit}
 use Rattle.page.proofs.Printed.{unsound, no-room, laid}
 use Rattle.page.proofs.print_page.Statement.{statement}
 use Rattle.page.proofs.print_page.Tie as tie
+
+-- what an audit tells of its state
+module _ (s : Day) (a : Audit) (e : a ≡ audited s) where
+  sound-told : a .sound ≡ sound s
+  unfolding audited sound
+  sound-told = audit-sound (head-of s) (campaign s) a e
+
+  takings-told : sound s ≡ true → a .takings ≡ total-takings s
+  unfolding audited sound total-takings
+  takings-told h = ap (λ (x : Audit). x .takings) (audit-figures (head-of s) (campaign s) a e h)
 
 -- the state that is asked about, once its audit has passed
 module _ (c : tie.Else1) where
@@ -31,15 +40,13 @@ module _ (c : tie.Else1) where
   audit = c .before .before .audited .result
 
   is-sound : sound state ≡ true
-  is-sound =
-      sym (audit-sound state audit (c .before .before .audited .ensures)) ∙ not-false (audit .sound) (c .if1 .left)
+  is-sound = sym (sound-told state audit (c .before .before .audited .ensures)) ∙ not-false (audit .sound) (c .if1 .left)
 
   facts : Sound state
   facts = sound-facts state is-sound
 
-  takings-are : audit .takings ≡ taken state
-  takings-are =
-      ap (λ (x : Audit). x .takings) (audit-figures state audit (c .before .before .audited .ensures) is-sound)
+  takings-are : audit .takings ≡ total-takings state
+  takings-are = takings-told state audit (c .before .before .audited .ensures) is-sound
 
   takings-small : audit .takings < 10 ^ 13
   takings-small = omega (arith, takings-are, takings-fit state facts)
@@ -49,7 +56,7 @@ returns c =
     let a = c .before .before .before .before .args in
     let s = state-of (a .head) (a .terms .now) (a .counts .now) in
     let w = c .before .before .audited in
-    unsound s (a .out .now) (sym (audit-sound s (w .result) (w .ensures)) ∙ not-true (w .result .sound) (c .if1 .taken))
+    unsound s (a .out .now) (sym (sound-told s (w .result) (w .ensures)) ∙ not-true (w .result .sound) (c .if1 .taken))
 
 returns-2 : tie.Need-returns-2
 returns-2 c =
