@@ -20,9 +20,9 @@ use Rattle.pumppage.specs.Examples.{Page-of-the-listing}
 
 pub page-of-the-listing : Page-of-the-listing
 unfolding after-lines next outcome
-    reading first-of forms held-or ended-or made numbers-of rest-of step strip slot-at names-at numeral-at digits is-digit
-    template in-slot numeral numeral-in
-    call first-failed sound sound-record blank sum count every table within size member width-holds weight share whole claim
-    total-takings total-claim total-budgets sound-plan priced counted uncounted empty sound-campaign best choice
-    flush cents row-text total-text row-lines page figures
+    reading first-of forms held-or ended-or made numbers-of rest-of step strip slot-at names-at numeral-at digits
+    is-digit template in-slot numeral numeral-in
+    call first-failed sound sound-record blank sum count every table within size member width-holds weight share
+    whole claim total-takings total-claim total-budgets sound-plan priced counted uncounted empty sound-campaign
+    best choice flush cents row-text total-text row-lines page figures
 page-of-the-listing = refl

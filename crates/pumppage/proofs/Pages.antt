@@ -166,7 +166,8 @@ ended-state : (i : List ℕ) (v : Split i) → finished (silent (fed (session-of
 unfolding finished
 ended-state i v =
     let f : fed (session-of new-stream) i ≡ _ =
-    ap (fed (session blank [] 0)) (sym (v .whole)) ∙ fed-lines blank [] (v .lines) (v .rest) (v .lines-plain) (v .rest-plain) in
+    ap (fed (session blank [] 0)) (sym (v .whole))
+    ∙ fed-lines blank [] (v .lines) (v .rest) (v .lines-plain) (v .rest-plain) in
     ap (λ (y : Session). finished (silent y) .day) f ∙ go (after-lines blank (v .lines)) (v .rest)
   where
     go : (s : Day) (rest : List ℕ)
