@@ -18,7 +18,7 @@ use std::io::Write;
 use std::path::{Path, PathBuf};
 use std::process::Command;
 
-const CRATES: [&str; 16] = [
+const CRATES: [&str; 18] = [
     "sets",
     "powers",
     "campaigns",
@@ -28,11 +28,13 @@ const CRATES: [&str; 16] = [
     "lines",
     "print",
     "writer",
+    "page",
     "reply",
     "batch",
     "stream",
     "replay",
     "pumpday",
+    "pumppage",
     "encoding",
     "wezghuli",
 ];
