@@ -51,6 +51,10 @@ extern "C" {
 #define WEZGHULI_LINE_BUFFER 201
 #define WEZGHULI_REPLY_ROOM 16384
 
+/* A line of the station's page with its byte 10, and the room that every page fits: 64 campaigns and the last line. */
+#define WEZGHULI_PAGE_LINE 41
+#define WEZGHULI_PAGE_ROOM 2665
+
 /* A state, in memory of the caller. It may be copied, stored and sent as it is; its numbers are in the machine's byte
  * order. A state whose bytes were changed by somebody else is refused with 1 or 100 by every operation but
  * wezghuli_blank, unless what it then says is sound. */
@@ -172,6 +176,13 @@ uint64_t wezghuli_feed(uint64_t head[6], uint32_t terms[128], uint16_t counts[25
  * Statuses as wezghuli_feed. */
 uint64_t wezghuli_finish(uint64_t head[6], uint32_t terms[128], uint16_t counts[256],
     uint8_t pending[201], uint64_t words[3], uint8_t *out, size_t out_len);
+
+/* Prints the station's page of a state of any phase to the front of out, and how many bytes that is to length[0]: for
+ * each campaign in number order WEZGHULI_PAGE_LINE bytes, and as many for the last line. Later bytes of out keep their
+ * values; the state stays. docs/MANUAL.md has the columns.
+ * Refused, with out and length as they were: 1 the state is not sound, 18 the page does not fit out. */
+uint64_t wezghuli_page(const uint64_t head[6], const uint32_t terms[128], const uint16_t counts[256],
+    uint8_t *out, size_t out_len, uint64_t length[1]);
 
 #ifdef __cplusplus
 }

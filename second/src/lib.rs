@@ -1,13 +1,15 @@
 //! The pump-screen controller: one day of campaigns, views and plays.
 //!
 //! [`day`] holds the state and its operations, [`lines`] the text forms, and
-//! [`session`] turns lines of input into lines of answer.
+//! [`session`] turns lines of input into lines of answer. [`page`] prints the
+//! station's page.
 
 #![forbid(unsafe_code)]
 #![warn(missing_docs)]
 
 pub mod day;
 pub mod lines;
+pub mod page;
 pub mod refusal;
 pub mod session;
 

@@ -34,7 +34,7 @@ pub const NO_CAMPAIGN: u64 = 15;
 pub const LONG_LINE: u64 = 16;
 /// The line is not one of the forms, or a record has a number out of its range.
 pub const NOT_A_FORM: u64 = 17;
-/// The lent buffer is too short for the line.
+/// The lent buffer is too short for the line or the page.
 pub const SHORT_BUFFER: u64 = 18;
 
 /// The highest number there is.

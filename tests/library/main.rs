@@ -8,8 +8,9 @@ use std::collections::BTreeMap;
 use std::fs;
 use std::process::exit;
 
-/// Constants of the header that the source has no name for: where columns begin, and the lengths of lines.
-const BY_BEHAVIOUR: [&str; 10] = [
+/// Constants of the header that the source has no name for: where columns begin, and the lengths of lines and
+/// pages.
+const BY_BEHAVIOUR: [&str; 12] = [
     "TERMS_PRICE",
     "TERMS_BUDGET",
     "COUNTS_PLAYS",
@@ -20,14 +21,18 @@ const BY_BEHAVIOUR: [&str; 10] = [
     "LINE_ROOM",
     "LINE_BUFFER",
     "REPLY_ROOM",
+    "PAGE_LINE",
+    "PAGE_ROOM",
 ];
 
 /// Programs in Rust that declare functions of the library.
-const RUST: [&str; 5] = [
+const RUST: [&str; 7] = [
     "examples/rust/day.rs",
     "tests/states/library.rs",
     "tests/lines/product.rs",
+    "tests/page/product.rs",
     "bench/lines.rs",
+    "bench/page.rs",
     "bench/view/library.rs",
 ];
 

@@ -1,5 +1,5 @@
-/* What the header says and the source has no name for, tried: where columns begin, the lengths of lines, misuse, refusals,
- * a stream in blocks of every length, and the stack that each function takes, found by running it on a stack that was
+/* What the header says and the source has no name for, tried: where columns begin, the lengths of lines and pages,
+ * misuse, refusals, a stream in blocks of every length, and the stack that each function takes, found by running it on a stack that was
  * painted before. */
 #define _XOPEN_SOURCE 700
 #include <stdint.h>
@@ -14,6 +14,7 @@
 
 _Static_assert(WEZGHULI_LINE_ROOM == WEZGHULI_MAX_LINE + 1, "the longest line that is read, and its byte 10");
 _Static_assert(sizeof(wezghuli_day) == 1072, "a state has no gaps");
+_Static_assert(WEZGHULI_PAGE_ROOM == WEZGHULI_PAGE_LINE * (WEZGHULI_MAX_CAMPAIGNS + 1), "64 campaigns and the total");
 _Static_assert(sizeof ((wezghuli_stream *)0)->pending == WEZGHULI_LINE_BUFFER, "an unfinished line");
 
 static unsigned passed, failed;
@@ -113,6 +114,35 @@ static void refusals(void)
     expect(memcmp(&before, &day, sizeof day) == 0 && memcmp(given, answer, sizeof answer) == 0, "is left as it was");
 }
 
+/* The page of a day of three campaigns: its bytes, the room that it asks for, and what a refusal leaves. */
+static void pages(void)
+{
+    static const char due[] =
+        "  0     2       0.05          0.10     3\n"
+        "  1     1       0.03          0.03     3\n"
+        "  2     0       0.07          0.00     0\n"
+        "total                         0.13      \n";
+    const size_t size = sizeof due - 1;
+    uint8_t out[WEZGHULI_PAGE_ROOM], was[WEZGHULI_PAGE_ROOM];
+    uint64_t length[1] = {7};
+
+    run_day();
+    wezghuli_day before = day;
+    memset(out, 'o', sizeof out);
+    memset(was, 'o', sizeof was);
+    expect(size == 4 * WEZGHULI_PAGE_LINE, "three campaigns and the last line");
+    expect(wezghuli_page(day.head, day.terms, day.counts, out, size - 1, length) == 18, "one byte less is no room");
+    day.terms[WEZGHULI_TERMS_PRICE + 3] = 1;
+    expect(wezghuli_page(day.head, day.terms, day.counts, out, 0, length) == 1, "a state that is not sound is first");
+    day = before;
+    expect(length[0] == 7 && memcmp(out, was, sizeof out) == 0, "a refusal leaves out and length");
+    expect(wezghuli_page(day.head, day.terms, day.counts, out, sizeof out, length) == 0, "a page is printed");
+    expect(length[0] == size && memcmp(out, due, size) == 0, "as it should read");
+    expect(memcmp(out + size, was, sizeof out - size) == 0, "and later bytes are as they were");
+    expect(wezghuli_page(day.head, day.terms, day.counts, out, size, length) == 0, "its own length is room enough");
+    expect(memcmp(&before, &day, sizeof day) == 0, "the state stays");
+}
+
 /* A stream: input in blocks of every length, each byte of what is lent afterwards, and misuse. */
 static const char INPUT[] = "(plan (depth 2) (width 2))\n(campaign (price 5) (budget 10))\n(start)\n(view 0)\n\n(close)";
 static const char OUTPUT[] = "(ok)\n(ok)\n(ok)\n(play 0 (paid 5))\n(refused 17)\n"
@@ -210,8 +240,11 @@ static void misuse(void)
     const uint64_t heads[][2] = {{3, 0}, {UINT64_MAX, 0}, {0, 1}, {1, 1}, {0, UINT64_MAX}, {1, UINT64_MAX}};
 
     for (size_t i = 0; i < sizeof heads / sizeof heads[0]; i++) {
-        uint64_t given[5] = {11, 12, 13, 14, 15};
+        uint64_t given[5] = {11, 12, 13, 14, 15}, length[1] = {7};
+        uint8_t sheet[WEZGHULI_PAGE_ROOM], clean[WEZGHULI_PAGE_ROOM];
         run_day();
+        memset(sheet, 'o', sizeof sheet);
+        memset(clean, 'o', sizeof clean);
         memcpy(answer, given, sizeof answer);
         memcpy(day.head, heads[i], sizeof heads[i]);
         wezghuli_day before = day;
@@ -220,10 +253,12 @@ static void misuse(void)
             && wezghuli_start(day.head, day.terms, day.counts, answer) == WEZGHULI_STATUS_NO_HEAD
             && wezghuli_view(day.head, day.terms, day.counts, 1, answer) == WEZGHULI_STATUS_NO_HEAD
             && wezghuli_tally(day.head, day.terms, day.counts, 0, answer) == WEZGHULI_STATUS_NO_HEAD
-            && wezghuli_close(day.head, day.terms, day.counts, answer) == WEZGHULI_STATUS_NO_HEAD;
+            && wezghuli_close(day.head, day.terms, day.counts, answer) == WEZGHULI_STATUS_NO_HEAD
+            && wezghuli_page(day.head, day.terms, day.counts, sheet, sizeof sheet, length) == WEZGHULI_STATUS_NO_HEAD;
         expect(told, "no head is told");
         expect(memcmp(&before, &day, sizeof day) == 0, "and the state is as it was");
         expect(memcmp(given, answer, sizeof answer) == 0, "and so is the answer");
+        expect(length[0] == 7 && memcmp(sheet, clean, sizeof sheet) == 0, "and so is the room for a page");
     }
     const uint64_t forms[] = {WEZGHULI_FORM_TALLY + 1, 100, UINT64_MAX};
     for (size_t i = 0; i < sizeof forms / sizeof forms[0]; i++) {
@@ -248,6 +283,10 @@ static void starts(void) { wezghuli_start(day.head, day.terms, day.counts, answe
 static void views(void) { wezghuli_view(day.head, day.terms, day.counts, 0xffff, answer); }
 static void tallies(void) { wezghuli_tally(day.head, day.terms, day.counts, 3, answer); }
 static void closes(void) { wezghuli_close(day.head, day.terms, day.counts, answer); }
+
+static uint8_t sheet[WEZGHULI_PAGE_ROOM];
+static uint64_t printed[1];
+static void prints(void) { wezghuli_page(day.head, day.terms, day.counts, sheet, sizeof sheet, printed); }
 
 static const char *text;
 static uint64_t record[6], length[1];
@@ -305,6 +344,8 @@ static void stacks(void)
     measure("tally", tallies);
     measure("close", closes);
     expect(answer[0] == WEZGHULI_ANSWER_CLOSING, "the measured day was accepted");
+    measure("page", prints);
+    expect(printed[0] == WEZGHULI_PAGE_ROOM, "a page of 64 campaigns fills the room that every page fits");
     text = "(tally 63 (plays 4294967295) (turns 4294967295) (age 4294967295) (named 4294967295))";
     measure("read_line", reads);
     measure("write_line", writes);
@@ -325,6 +366,7 @@ int main(void)
 {
     columns();
     lengths();
+    pages();
     misuse();
     refusals();
     streams();

@@ -18,7 +18,7 @@ use std::io::Write;
 use std::path::{Path, PathBuf};
 use std::process::Command;
 
-const CRATES: [&str; 17] = [
+const CRATES: [&str; 19] = [
     "sets",
     "powers",
     "campaigns",
@@ -29,11 +29,13 @@ const CRATES: [&str; 17] = [
     "lines",
     "print",
     "writer",
+    "page",
     "reply",
     "batch",
     "stream",
     "replay",
     "pumpday",
+    "pumppage",
     "encoding",
     "wezghuli",
 ];

@@ -78,6 +78,15 @@ over-next d at w i h =
 
 -- Parts of a buffer.
 
+-- laid over as many bytes in the middle
+pub over-middle : (a b c t : List ℕ) → length b ≡ length t → over (a ++ (b ++ c)) (length a) t ≡ a ++ (t ++ c)
+unfolding over
+over-middle [] [] c [] h = over-none c 0
+over-middle [] [] c (x ∷ t) h = absurd (omega arith)
+over-middle [] (y ∷ b) c [] h = absurd (omega arith)
+over-middle [] (y ∷ b) c (x ∷ t) h = ap (λ (l : List ℕ). x ∷ l) (over-middle [] b c t (omega arith))
+over-middle (y ∷ a) b c t h = ap (λ (l : List ℕ). y ∷ l) (over-middle a b c t h)
+
 -- laid over the front
 pub over-front : (d w : List ℕ) → length w ≤ length d → over d 0 w ≡ w ++ drop (length w) d
 unfolding over

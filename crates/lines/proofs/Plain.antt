@@ -23,13 +23,13 @@ plain-at [] i h e = omega arith
 plain-at (b ∷ l) zero h e = eqb-false b 10 (not-true (eqb b 10) (both-left (not (eqb b 10)) (plain l) h)) e
 plain-at (b ∷ l) (suc i) h e = plain-at l i (both-right (not (eqb b 10)) (plain l) h) e
 
-append-plain : (l m : List ℕ) → plain l ≡ true → plain m ≡ true → plain (l ++ m) ≡ true
+pub append-plain : (l m : List ℕ) → plain l ≡ true → plain m ≡ true → plain (l ++ m) ≡ true
 append-plain [] m h k = k
 append-plain (b ∷ l) m h k =
     both-join (not (eqb b 10)) (plain (l ++ m)) (both-left (not (eqb b 10)) (plain l) h)
     (append-plain l m (both-right (not (eqb b 10)) (plain l) h) k)
 
-digit-plain : (d : ℕ) → plain ((48 + d) ∷ []) ≡ true
+pub digit-plain : (d : ℕ) → plain ((48 + d) ∷ []) ≡ true
 digit-plain d = simp (ne-eqb (48 + d) 10 (λ z. omega arith))
 
 digits-plain : (k n : ℕ) → plain (numeral-in k n) ≡ true
@@ -44,7 +44,7 @@ digits-plain (suc k) n =
     go true h = digit-plain n
     go false h = h
 
-numeral-plain : (n : ℕ) → plain (numeral n) ≡ true
+pub numeral-plain : (n : ℕ) → plain (numeral n) ≡ true
 unfolding numeral
 numeral-plain n = digits-plain max-digits n
 

@@ -4,10 +4,11 @@ use mathlib.Core.Path.{_≡_, refl, sym, ap, _∙_}
 use mathlib.Core.Bool.{Bool, true, false, cond}
 use mathlib.Core.List.{List, [], _∷_, _++_}
 use Prim.Native.Nat.{ℕ, zero, suc, _+_, _*_, _-_, _/_, _%_, _^_, _≤_, _<_}
+use native.Mathlib.Nat.{pow-suc, div-lt-iff-lt-mul}
 use native.Mathlib.Omega.{arith}
-use lib.Dec.{eqb}
+use lib.Dec.{ltb, eqb, lit<}
 use lib.ListN.{length, length-append}
-use borrow.Author.Tests.{eq-eqb, ne-eqb}
+use borrow.Author.Tests.{ltb-true, ltb-false, eq-eqb, ne-eqb}
 use lib.Pow.{field, mod-mod-pow}
 use Rattle.finite.specs.Finite.{one-if, count}
 use Rattle.finite.proofs.Sums.{sum-zero, sum-eq, count-suc, count-skip}
@@ -43,6 +44,17 @@ len-skip n h b =
     let d = len-more (n / 10 / 10) (omega arith) (omega arith) in
     let e = len-more (n / 10 / 10 / 10) (omega arith) (omega arith) in
     omega (arith, a, c, d, e, ap (λ (x : ℕ). length (numeral x)) q)
+
+-- a number below 10^(k + 1) has at most k + 1 digits
+pub len-within : (k n : ℕ) → n < 10 ^ suc k → n < 2 ^ 64 → length (numeral n) ≤ suc k
+len-within zero n h b = omega (arith, len-one n h)
+len-within (suc k) n h b = go (ltb n 10) refl (λ p. len-within k (n / 10) p (omega arith))
+  where
+    go : (t : Bool) → ltb n 10 ≡ t → (n / 10 < 10 ^ suc k → length (numeral (n / 10)) ≤ suc k)
+        → length (numeral n) ≤ suc (suc k)
+    go true e ih = omega (arith, len-one n (ltb-true n 10 e))
+    go false e ih =
+        omega (arith, len-more n (ltb-false n 10 e) b, ih (div-lt-iff-lt-mul (lit< tt) .1 (rw pow-suc at h)))
 
 -- A name below 64 has one or two digits.
 

@@ -93,7 +93,7 @@ pub fn put(out: &mut [u8], to: usize, word: &[u8]) -> usize
 }
 
 // The numeral of n that ends at the place to, two digits at a time.
-fn put_number(out: &mut [u8], to: usize, n: u64) -> usize
+pub fn put_number(out: &mut [u8], to: usize, n: u64) -> usize
     requires { ⌜ Room-for (now out) to (length (numeral n)) ⌝ }
     ensures { λ r. ⌜ Put (now (out .entry)) (now (out .exit)) r to (numeral n) ⌝ }
 {

@@ -1,4 +1,5 @@
 pub mod Stored
 pub mod Lines
+pub mod Pages
 pub mod Streamed
 pub mod Promised

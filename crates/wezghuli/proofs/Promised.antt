@@ -13,7 +13,7 @@ use Rattle.campaigns.specs.Choice.{Choice}
 use Rattle.campaigns.specs.Choice.Choice.{nobody, plays}
 use Rattle.day.specs.declared.Day.{Day}
 use Rattle.day.specs.declared.Outcome.{Outcome}
-use Rattle.day.specs.Day.{state-of}
+use Rattle.day.specs.Day.{state-of, sound}
 use Rattle.questions.specs.Questions.{Question, question}
 use Rattle.day.specs.Calls.{Call, call, number, answered, result, view-answer, offers, player, questions}
 use Rattle.questions.specs.Questions.{first-failed}
@@ -23,6 +23,8 @@ use Rattle.lines.specs.declared.Record.{Record}
 use Rattle.lines.specs.Form.{in-range}
 use Rattle.lines.specs.OneText as read
 use Rattle.lines.proofs.Inverse.{one-text}
+use Rattle.page.specs.Printing as page
+use Rattle.page.proofs.Promises as pages
 use Rattle.writer.specs.Writing as writer
 use Rattle.writer.proofs.Numbers.{number-and-values}
 use Rattle.reply.specs.Session.{Session, reply-room, fed, consumed-count}
@@ -34,6 +36,7 @@ use Rattle.encoding.specs.Encoding.{is-head, is-form, record-of}
 use Rattle.encoding.proofs.Faithful.{faithful}
 use Rattle.wezghuli.specs.Library.{Memory, state, outcome, stored, status, after, read-status, write-status}
 use Rattle.wezghuli.specs.Library.{Lent, stream-in, status-in, come-to, feed-after, finish-after}
+use Rattle.wezghuli.specs.Library.{Page-lent, day-in, page-status}
 use Rattle.wezghuli.specs.Promises.{Promises, handed-in}
 use Rattle.wezghuli.proofs.Stored.{pick-first}
 use Rattle.wezghuli.proofs.Streamed.{has-room}
@@ -165,6 +168,17 @@ write-small r d =
 write-refusal : (w d : List ℕ) → is-form w ≡ true → write-status w d < 100
 write-refusal w d e = rw e (write-small (record-of w) d)
 
+-- printing a page
+page-small : (s : Day) (d : List ℕ) → page.number (page.printing s d) < 100
+unfolding page.page-question first-failed
+page-small s d =
+    let fits = leb (length (page.page-of s)) (length d) in
+    subst (λ (q : ℕ). q < 100) (sym (pages.promises .tells s d .number-is))
+    (small (sound s) (cond fits 0 18) 1 (small fits 0 18 (omega arith) (omega arith)) (omega arith))
+
+page-refusal : (m : Page-lent) (d : List ℕ) → is-head (m .head) ≡ true → page-status m d < 100
+page-refusal m d e = rw e (page-small (day-in m) d)
+
 pub promises : Promises
 promises = record {
   head-stays = head-stays;
@@ -174,4 +188,5 @@ promises = record {
   call-refusal = call-refusal;
   read-refusal = λ l. says-small (one-text .says l);
   write-refusal = write-refusal;
+  page-refusal = page-refusal;
 }

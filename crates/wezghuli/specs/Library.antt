@@ -14,6 +14,9 @@ use Rattle.lines.specs.declared.Reading.{Reading}
 use Rattle.lines.specs.declared.Reading.the-variants as reading
 use Rattle.lines.specs.OneText as read
 use Rattle.lines.specs.Reading as lines
+use Rattle.page.specs.declared.Printing.{Printing}
+use Rattle.page.specs.declared.Printing.the-variants as printing
+use Rattle.page.specs.Printing as page
 use Rattle.writer.specs.declared.Writing.{Writing}
 use Rattle.writer.specs.declared.Writing.the-variants as writing
 use Rattle.writer.specs.Writing as writer
@@ -125,3 +128,29 @@ feed-after l m =
 
 unfoldable pub finish-after : Lent → Lent
 finish-after m = cond (eqb (status-in m) 0) (come-to (finished (session-of (stream-in m))) 0 (m .out)) m
+
+-- what is lent to printing a page besides its buffer, and the state in it
+pub record Page-lent : Type 0 where
+  pub head : List ℕ
+  pub terms : List ℕ
+  pub counts : List ℕ
+
+abbrev pub page-lent : (head terms counts : List ℕ) → Page-lent
+page-lent h t n = record { head = h; terms = t; counts = n }
+
+abbrev pub day-in : Page-lent → Day
+day-in m = state-of (head-of (m .head)) (m .terms) (m .counts)
+
+-- printing a page: 0, the number of the question that failed, or 100 with everything as it was
+abbrev pub page-status : Page-lent → (out : List ℕ) → ℕ
+page-status m d = cond (is-head (m .head)) (page.number (page.printing (day-in m) d)) no-head
+
+abbrev pub page-after : Page-lent → (out : List ℕ) → List ℕ
+page-after m d = cond (is-head (m .head)) (page.printed (day-in m) d) d
+
+abbrev pub page-length-told : Printing → List ℕ → List ℕ
+page-length-told (printing.Length n) l = n ∷ []
+page-length-told (printing.Refusal q) l = l
+
+abbrev pub page-length-after : Page-lent → (out length : List ℕ) → List ℕ
+page-length-after m d l = cond (is-head (m .head)) (page-length-told (page.printing (day-in m) d) l) l

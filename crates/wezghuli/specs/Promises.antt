@@ -11,6 +11,7 @@ use Rattle.stream.specs.Stream.{Feeds, Finishes}
 use Rattle.encoding.specs.Encoding.{is-head, is-form}
 use Rattle.wezghuli.specs.Library.{Memory, state, status, after, read-status, write-status}
 use Rattle.wezghuli.specs.Library.{Lent, stream-in, status-in, feed-after, finish-after}
+use Rattle.wezghuli.specs.Library.{Page-lent, page-status}
 
 -- what the lent memory says that a stream handed back
 abbrev pub handed-in : Lent → Fed
@@ -30,3 +31,4 @@ pub record Promises : Type 0 where
   pub call-refusal : (k : Call) (m : Memory) → is-head (m .head) ≡ true → status k m < 100
   pub read-refusal : (line : List ℕ) → read-status line < 100
   pub write-refusal : (words out : List ℕ) → is-form words ≡ true → write-status words out < 100
+  pub page-refusal : (m : Page-lent) (out : List ℕ) → is-head (m .head) ≡ true → page-status m out < 100

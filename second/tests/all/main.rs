@@ -4,6 +4,7 @@ mod common;
 mod days;
 mod limits;
 mod lines;
+mod page;
 mod program;
 mod refusals;
 mod soundness;

@@ -1,0 +1,101 @@
+-- What is promised of every page. The figures of a sound state fit because its limits are below what the columns hold:
+-- a campaign has paid at most its budget, and all have paid at most the budgets' sum.
+use mathlib.Core.Path.{_≡_, refl, sym, ap, _∙_}
+use mathlib.Core.Bool.{Bool, true, false, cond}
+use mathlib.Core.List.{List, [], _∷_}
+use Prim.Native.Nat.{ℕ, zero, suc, _≤_, _<_}
+use native.Mathlib.Omega.{arith}
+use lib.Dec.{leb, eqb}
+use lib.ListN.{length}
+use borrow.Author.Tests.{leb-true, eqb-true}
+use Rattle.finite.specs.Finite.{table}
+use Rattle.finite.proofs.Sums.{sum-le}
+use Rattle.finite.proofs.Tables.{length-table}
+use Rattle.finite.proofs.Tests.{both-right}
+use Rattle.campaigns.specs.declared.Campaign.{Campaign}
+use Rattle.campaigns.specs.Campaign.{spending, priced, price-fits, budget-fits}
+use Rattle.campaigns.proofs.Laws.{spending-within}
+use Rattle.day.specs.declared.Day.{Day}
+use Rattle.day.specs.Day.{campaign, total-takings, total-budgets}
+use Rattle.day.specs.Day.{sound}
+use Rattle.day.proofs.State.{Sound, sound-facts, held-at}
+use Rattle.page.specs.declared.Printing.the-variants.{Length, Refusal}
+use Rattle.page.specs.Page.{Row, Row-fits, All-fit, Fits, read-page}
+use Rattle.page.specs.Figures.{row-of, figures}
+use Rattle.page.specs.Printing.{page-of, page-question, printing, number, values, Tells}
+use Rattle.page.specs.Promises.{Promises}
+use Rattle.page.proofs.ReadBack.{page-length, page-back, page-ended}
+
+-- the budget of a priced campaign
+priced-budget : (c : Campaign) → priced c ≡ true → c .budget ≤ 2_000_000_000
+unfolding priced
+priced-budget c e =
+    let fits = both-right (price-fits (c .price)) (budget-fits (c .price) (c .budget)) e in
+    leb-true (c .budget) 2_000_000_000 (both-right (leb (c .price) (c .budget)) (leb (c .budget) 2_000_000_000) fits)
+
+-- the rows of a table fit where each does
+pub table-fits : (n : ℕ) (f : ℕ → Row) → ((i : ℕ) → i < n → Row-fits (f i)) → All-fit (table n f)
+unfolding table
+table-fits zero f h = tt
+table-fits (suc n) f h = (h 0 (omega arith), table-fits n (λ i. f (suc i)) (λ i l. h (suc i) (omega arith)))
+
+module _ (s : Day) (h : Sound s) where
+  -- of each campaign
+  pub row-fits : (i : ℕ) → i < s .count → Row-fits (row-of (campaign s i))
+  row-fits i l =
+      let c = campaign s i in
+      let k = held-at s h i l in
+      let budget = priced-budget c (k .is-priced) in
+      record {
+        plays-fit = omega (arith, k .plays-turns, k .turns-named, k .named-accepted, h .views);
+        price-fits = omega (arith, k .price-most);
+        paid-fits = omega (arith, spending-within c (k .price-least) (k .within-whole), budget);
+        named-fit = omega (arith, k .named-accepted, h .views);
+      }
+
+  -- and of all
+  pub takings-fit : total-takings s ≤ 2_000_000_000
+  unfolding total-takings total-budgets
+  takings-fit =
+      omega (
+        arith,
+        h .budgets,
+        sum-le (s .count) (λ i. spending (campaign s i)) (λ i. campaign s i .budget)
+            (λ i l. let k = held-at s h i l in spending-within (campaign s i) (k .price-least) (k .within-whole)),
+      )
+
+pub sound-fits : (s : Day) → sound s ≡ true → Fits (figures s)
+unfolding figures
+sound-fits s e =
+    let h = sound-facts s e in
+    record {
+      few = omega (arith, length-table (s .count) (λ i. row-of (campaign s i)), h .few);
+      rows-fit = table-fits (s .count) (λ i. row-of (campaign s i)) (row-fits s h);
+      takings-fit = omega (arith, takings-fit s h);
+    }
+
+tells : (s : Day) (d : List ℕ) → Tells s d
+unfolding printing
+tells s d = record { number-is = numbered (eqb q 0) refl; values-are = valued (eqb q 0) }
+  where
+    q : ℕ
+    q = page-question s d
+
+    numbered : (t : Bool) → eqb q 0 ≡ t → number (cond t (Length (length (page-of s))) (Refusal q)) ≡ q
+    numbered true e = sym (eqb-true q 0 e)
+    numbered false e = refl
+
+    valued : (t : Bool) → values (cond t (Length (length (page-of s))) (Refusal q))
+        ≡ cond t (length (page-of s) ∷ []) (q ∷ [])
+    valued true = refl
+    valued false = refl
+
+pub promises : Promises
+promises = record {
+  none-overflows = sound-fits;
+  lines-are = page-length;
+  ends-are = page-ended;
+  reads-back = page-back;
+  prints-once = λ f g h k e. sym (page-back f h) ∙ ap read-page e ∙ page-back g k;
+  tells = tells;
+}

@@ -1,0 +1,191 @@
+-- The figures are read back from the bytes of a page, and byte 10 ends each line and stands nowhere else. Both go line
+-- by line from the front: a line has 41 bytes, and its columns stand at fixed places.
+use mathlib.Core.Path.{_≡_, refl, sym, ap, ap₂, _∙_, subst}
+use mathlib.Core.Bool.{Bool, true, false}
+use mathlib.Core.List.{List, [], _∷_, _++_, append-assoc}
+use Prim.Native.Nat.{ℕ, suc, _+_, _*_, _-_, _/_, _%_, _^_, _≤_, _<_}
+use native.Mathlib.Omega.{arith}
+use lib.Dec.{ltb, eqb}
+use lib.ListN.{length, take, drop, getD, length-append, List·getD-append}
+use lib.Seq.{take-at, drop-at, getD-at, getD-append-add}
+use borrow.Author.Tests.{ltb-true, ltb-false, eqb-true, eqb-false, eq-eqb, ne-eqb}
+use Rattle.lines.specs.Numeral.{numeral}
+use Rattle.lines.specs.Form.{bytes}
+use Rattle.lines.proofs.Plain.{plain, plain-at}
+use Rattle.page.specs.Page.{Row, Figures, line-length, flush, spaces, cents, row-text, total-text, row-lines}
+use Rattle.page.specs.Page.{page, Row-fits, All-fit, Fits, value, figure-in, read-row, with-row, read-lines, read-page}
+use Rattle.page.proofs.Texts.{flush-length, number-3, number-6, cents-11, cents-14, row-length, total-length}
+use Rattle.page.proofs.Texts.{row-plain, total-plain, value-number, value-amount}
+
+-- the bytes t behind p
+column-at : (p t q : List ℕ) (k w : ℕ) → length p ≡ k → length t ≡ w → take w (drop k (p ++ (t ++ q))) ≡ t
+column-at p t q k w e f = ap (take w) (drop-at p (t ++ q) k e) ∙ take-at t q w f
+
+-- A line of a campaign.
+
+same-row : (r : Row) {a b c d : ℕ} → a ≡ r .plays → b ≡ r .price → c ≡ r .paid → d ≡ r .named
+    → record { plays = a; price = b; paid = c; named = d } ≡ r
+same-row r e f g h = rw (e, f, g, h)
+
+module _ (i : ℕ) (r : Row) (k : i < 10 ^ 3) (h : Row-fits r) (m : List ℕ) where
+  read-back : read-row (row-text i r ++ m) ≡ r
+  unfolding row-text
+  read-back =
+      let number = flush 1 3 (numeral i) in
+      let plays = flush 4 9 (numeral (r .plays)) in
+      let price = flush 10 20 (cents (r .price)) in
+      let paid = flush 21 34 (cents (r .paid)) in
+      let named = flush 35 40 (numeral (r .named)) in
+      let l₁ = flush-length 1 3 (numeral i) (number-3 i k) in
+      let l₂ = flush-length 4 9 (numeral (r .plays)) (number-6 (r .plays) (h .plays-fit)) in
+      let l₃ = flush-length 10 20 (cents (r .price)) (cents-11 (r .price) (h .price-fits)) in
+      let l₄ = flush-length 21 34 (cents (r .paid)) (cents-14 (r .paid) (h .paid-fits)) in
+      let l₅ = flush-length 35 40 (numeral (r .named)) (number-6 (r .named) (h .named-fit)) in
+      let n₂ : length (number ++ plays) ≡ 9 = omega (arith, length-append number plays) in
+      let n₃ : length ((number ++ plays) ++ price) ≡ 20 = omega (arith, n₂, length-append (number ++ plays) price) in
+      let n₄ : length (((number ++ plays) ++ price) ++ paid) ≡ 34 =
+      omega (arith, n₃, length-append ((number ++ plays) ++ price) paid) in
+      let e₂ : row-text i r ++ m ≡ number ++ (plays ++ (price ++ (paid ++ (named ++ m)))) = simp append-assoc in
+      let e₃ : row-text i r ++ m ≡ (number ++ plays) ++ (price ++ (paid ++ (named ++ m))) = simp append-assoc in
+      let e₄ : row-text i r ++ m ≡ ((number ++ plays) ++ price) ++ (paid ++ (named ++ m)) = simp append-assoc in
+      let e₅ : row-text i r ++ m ≡ (((number ++ plays) ++ price) ++ paid) ++ (named ++ m) = simp append-assoc in
+      let c₂ : figure-in 4 9 (row-text i r ++ m) ≡ r .plays =
+      ap (figure-in 4 9) e₂ ∙ ap (value 0) (column-at number plays (price ++ (paid ++ (named ++ m))) 3 6 l₁ l₂)
+      ∙ value-number 4 9 (r .plays) (omega (arith, h .plays-fit)) in
+      let c₃ : figure-in 10 20 (row-text i r ++ m) ≡ r .price =
+      ap (figure-in 10 20) e₃ ∙ ap (value 0) (column-at (number ++ plays) price (paid ++ (named ++ m)) 9 11 n₂ l₃)
+      ∙ value-amount 10 20 (r .price) (omega (arith, h .price-fits)) in
+      let c₄ : figure-in 21 34 (row-text i r ++ m) ≡ r .paid =
+      ap (figure-in 21 34) e₄
+      ∙ ap (value 0) (column-at ((number ++ plays) ++ price) paid (named ++ m) 20 14 n₃ l₄)
+      ∙ value-amount 21 34 (r .paid) (omega (arith, h .paid-fits)) in
+      let c₅ : figure-in 35 40 (row-text i r ++ m) ≡ r .named =
+      ap (figure-in 35 40) e₅
+      ∙ ap (value 0) (column-at (((number ++ plays) ++ price) ++ paid) named m 34 6 n₄ l₅)
+      ∙ value-number 35 40 (r .named) (omega (arith, h .named-fit)) in
+      same-row r c₂ c₃ c₄ c₅
+
+-- The last line.
+
+total-back : (t : ℕ) (m : List ℕ) → t < 10 ^ 13 → figure-in 21 34 (total-text t ++ m) ≡ t
+unfolding total-text
+total-back t m h =
+    let front = bytes "total" ++ spaces 6 20 in
+    let amount = flush 21 34 (cents t) in
+    let e : total-text t ++ m ≡ front ++ (amount ++ (spaces 35 40 ++ m)) = simp append-assoc in
+    ap (figure-in 21 34) e
+    ∙ ap (value 0)
+    (column-at front amount (spaces 35 40 ++ m) 20 14 refl (flush-length 21 34 (cents t) (cents-14 t h)))
+    ∙ value-amount 21 34 t (omega arith)
+
+-- All lines.
+
+-- a line and what follows it
+line-then : (t : List ℕ) (m : List ℕ) → length t ≡ 40 → drop line-length (t ++ (10 ∷ m)) ≡ m
+line-then t m e =
+    ap (drop line-length) (sym (append-assoc t (10 ∷ []) m))
+    ∙ drop-at (t ++ (10 ∷ [])) m line-length (omega (arith, length-append t (10 ∷ [])))
+
+rows-then : (i : ℕ) (r : Row) (rs : List Row) (m : List ℕ)
+    → row-lines i (r ∷ rs) ++ m ≡ row-text i r ++ (10 ∷ (row-lines (suc i) rs ++ m))
+unfolding row-lines
+rows-then i r rs m = append-assoc (row-text i r) (10 ∷ row-lines (suc i) rs) m
+
+lines-back : (i : ℕ) (rs : List Row) (t : ℕ) (m : List ℕ) → i + length rs ≤ 10 ^ 3 → All-fit rs → t < 10 ^ 13
+    → read-lines (length rs) (row-lines i rs ++ (total-text t ++ m)) ≡ record { rows = rs; takings = t }
+unfolding read-lines row-lines
+lines-back i [] t m k h b = ap (λ (x : ℕ). record { rows = []; takings = x }) (total-back t m b)
+lines-back i (r ∷ rs) t m k h b =
+    let tail = total-text t ++ m in
+    let e = rows-then i r rs tail in
+    let i-fits : i < 10 ^ 3 = omega arith in
+    let ih = lines-back (suc i) rs t m (omega arith) (h .1) b in
+    let first = ap read-row e ∙ read-back i r i-fits (h .0) (10 ∷ (row-lines (suc i) rs ++ tail)) in
+    let next = ap (drop line-length) e
+    ∙ line-then (row-text i r) (row-lines (suc i) rs ++ tail) (row-length i r i-fits (h .0)) in
+    ap₂ with-row first (ap (read-lines (length rs)) next ∙ ih)
+
+rows-length : (i : ℕ) (rs : List Row) → i + length rs ≤ 10 ^ 3 → All-fit rs
+    → length (row-lines i rs) ≡ line-length * length rs
+unfolding row-lines
+rows-length i [] k h = refl
+rows-length i (r ∷ rs) k h =
+    omega (
+      arith,
+      length-append (row-text i r) (10 ∷ row-lines (suc i) rs),
+      row-length i r (omega arith) (h .0),
+      rows-length (suc i) rs (omega arith) (h .1),
+    )
+
+pub page-length : (f : Figures) → Fits f → length (page f) ≡ line-length * (length (f .rows) + 1)
+unfolding page
+page-length f h =
+    omega (
+      arith,
+      length-append (row-lines 0 (f .rows)) (total-text (f .takings) ++ (10 ∷ [])),
+      length-append (total-text (f .takings)) (10 ∷ []),
+      rows-length 0 (f .rows) (omega (arith, h .few)) (h .rows-fit),
+      total-length (f .takings) (h .takings-fit),
+    )
+
+pub page-back : (f : Figures) → Fits f → read-page (page f) ≡ f
+unfolding page read-page
+page-back f h =
+    let n : length (page f) / line-length - 1 ≡ length (f .rows) = omega (arith, page-length f h) in
+    ap (λ (k : ℕ). read-lines k (page f)) n
+    ∙ lines-back 0 (f .rows) (f .takings) (10 ∷ []) (omega (arith, h .few)) (h .rows-fit) (h .takings-fit)
+
+-- Byte 10.
+
+-- byte 10 is the last of each line of l, and stands nowhere else
+abbrev Ended : List ℕ → Type 0
+Ended l = (i : ℕ) → i < length l → eqb (getD l i 0) 10 ≡ eqb (i % line-length) 40
+
+ended-line : (t m : List ℕ) → length t ≡ 40 → plain t ≡ true → Ended m → Ended (t ++ (10 ∷ m))
+ended-line t m e p h i b = go (ltb i 40) (eqb i 40) refl refl
+  where
+    go : (x y : Bool) → ltb i 40 ≡ x → eqb i 40 ≡ y
+        → eqb (getD (t ++ (10 ∷ m)) i 0) 10 ≡ eqb (i % line-length) 40
+    go true y u v =
+        let s : i < 40 = ltb-true i 40 u in
+        let z = List·getD-append t (10 ∷ m) 0 i (omega arith) in
+        ne-eqb (getD (t ++ (10 ∷ m)) i 0) 10 (λ q. plain-at t i p (sym z ∙ q))
+        ∙ sym (ne-eqb (i % line-length) 40 (λ q. omega arith))
+    go false true u v =
+        let s : i ≡ 40 = eqb-true i 40 v in
+        eq-eqb (getD (t ++ (10 ∷ m)) i 0) 10 (ap (λ (k : ℕ). getD (t ++ (10 ∷ m)) k 0) s ∙ getD-at t 10 m 0 40 e)
+        ∙ sym (eq-eqb (i % line-length) 40 (omega arith))
+    go false false u v =
+        let past : line-length ≤ i = omega (arith, ltb-false i 40 u, eqb-false i 40 v) in
+        let l : length (t ++ (10 ∷ [])) ≡ line-length = omega (arith, length-append t (10 ∷ [])) in
+        let j = i - line-length in
+        let s : i ≡ length (t ++ (10 ∷ [])) + j = omega arith in
+        let z : getD (t ++ (10 ∷ m)) i 0 ≡ getD m j 0 =
+        ap (λ (k : ℕ). getD (t ++ (10 ∷ m)) k 0) s
+        ∙ ap (λ (x : List ℕ). getD x (length (t ++ (10 ∷ [])) + j) 0) (sym (append-assoc t (10 ∷ []) m))
+        ∙ getD-append-add (t ++ (10 ∷ [])) m j 0 in
+        let w : j % line-length ≡ i % line-length = omega arith in
+        ap (λ (x : ℕ). eqb x 10) z ∙ h j (omega (arith, length-append t (10 ∷ m)))
+        ∙ ap (λ (x : ℕ). eqb x 40) w
+
+rows-ended : (i : ℕ) (rs : List Row) (m : List ℕ) → i + length rs ≤ 10 ^ 3 → All-fit rs → Ended m
+    → Ended (row-lines i rs ++ m)
+unfolding row-lines
+rows-ended i [] m k h e = e
+rows-ended i (r ∷ rs) m k h e =
+    let rest = rows-ended (suc i) rs m (omega arith) (h .1) e in
+    let s = rows-then i r rs m in
+    let all = ended-line (row-text i r) (row-lines (suc i) rs ++ m) (row-length i r (omega arith) (h .0))
+    (row-plain i r) rest in
+    subst Ended (sym s) all
+
+none-ended : Ended []
+none-ended i h = absurd (omega arith)
+
+pub page-ended : (f : Figures) → Fits f → (i : ℕ) → i < length (page f)
+    → eqb (getD (page f) i 0) 10 ≡ eqb (i % line-length) 40
+unfolding page
+page-ended f h =
+    rows-ended 0 (f .rows) (total-text (f .takings) ++ (10 ∷ [])) (omega (arith, h .few)) (h .rows-fit)
+    (ended-line (total-text (f .takings)) [] (total-length (f .takings) (h .takings-fit)) (total-plain (f .takings))
+    none-ended)

@@ -1,0 +1,48 @@
+-- Pages as they read, computed: that of document 01's listing at its end, that of no campaigns, and two with the
+-- greatest figures, those that the limits allow and those that the columns hold.
+use mathlib.Core.Path.{_≡_}
+use mathlib.Core.List.{List, [], _∷_, _++_}
+use Prim.Native.Nat.{ℕ}
+use Prim.Native.String.{String}
+use Rattle.lines.specs.Form.{bytes}
+use Rattle.page.specs.Page.{Row, Figures, page, read-page}
+
+-- lines of text, each ended by byte 10
+abbrev pub text-of : List String → List ℕ
+text-of [] = []
+text-of (s ∷ ss) = bytes s ++ (10 ∷ text-of ss)
+
+abbrev pub row : (plays price paid named : ℕ) → Row
+row p c x n = record { plays = p; price = c; paid = x; named = n }
+
+abbrev pub listing : Figures
+listing = record { rows = row 2 5 10 4 ∷ row 2 3 6 4 ∷ []; takings = 16 }
+
+abbrev pub nothing : Figures
+nothing = record { rows = []; takings = 0 }
+
+abbrev pub limits : Figures
+limits = record { rows = row 2_000 1_000_000 2_000_000_000 4_096 ∷ []; takings = 2_000_000_000 }
+
+abbrev pub columns : Figures
+columns = record {
+  rows = row 999_999 9_999_999_999 9_999_999_999_999 999_999 ∷ [];
+  takings = 9_999_999_999_999;
+}
+
+pub record Examples : Type 0 where
+  pub listing-is : page listing ≡
+      text-of (
+      "  0     2       0.05          0.10     4" ∷
+      "  1     2       0.03          0.06     4" ∷
+      "total                         0.16      " ∷ [])
+  pub nothing-is : page nothing ≡ text-of ("total                         0.00      " ∷ [])
+  pub limits-are : page limits ≡
+      text-of (
+      "  0  2000   10000.00   20000000.00  4096" ∷
+      "total                  20000000.00      " ∷ [])
+  pub columns-are : page columns ≡
+      text-of (
+      "  099999999999999.9999999999999.99999999" ∷
+      "total               99999999999.99      " ∷ [])
+  pub columns-back : read-page (page columns) ≡ columns

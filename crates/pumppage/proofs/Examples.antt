@@ -1,0 +1,28 @@
+-- The page of the listing, by computation: its lines are read, its calls made, its figures printed.
+use mathlib.Core.Path.{refl}
+use Rattle.finite.specs.Finite.{sum, count, every, table}
+use Rattle.sets.specs.Set.{member, size, within}
+use Rattle.powers.specs.Power.{weight, share}
+use Rattle.campaigns.specs.Choice.{best, choice}
+use Rattle.campaigns.specs.Campaign.{whole, claim, sound-plan, priced, counted, uncounted, empty, sound-campaign}
+use Rattle.audit.specs.Sound.{sound-record}
+use Rattle.day.specs.Day.{blank, total-takings, total-claim, total-budgets, sound}
+use Rattle.day.specs.Calls.{first-failed, width-holds, call}
+use Rattle.lines.specs.Numeral.{numeral, numeral-in}
+use Rattle.lines.specs.Form.{template, in-slot}
+use Rattle.lines.specs.Reading.{reading, first-of, forms, held-or, ended-or, made, numbers-of, rest-of, step, strip}
+use Rattle.lines.specs.Reading.{slot-at, names-at, numeral-at, digits, is-digit}
+use Rattle.reply.specs.Reply.{outcome, next}
+use Rattle.stream.specs.Chunking.{after-lines}
+use Rattle.page.specs.Page.{flush, cents, row-text, total-text, row-lines, page}
+use Rattle.page.specs.Figures.{figures}
+use Rattle.pumppage.specs.Examples.{Page-of-the-listing}
+
+pub page-of-the-listing : Page-of-the-listing
+unfolding after-lines next outcome
+    reading first-of forms held-or ended-or made numbers-of rest-of step strip slot-at names-at numeral-at digits
+    is-digit template in-slot numeral numeral-in
+    call first-failed sound sound-record blank sum count every table within size member width-holds weight share
+    whole claim total-takings total-claim total-budgets sound-plan priced counted uncounted empty sound-campaign
+    best choice flush cents row-text total-text row-lines page figures
+page-of-the-listing = refl

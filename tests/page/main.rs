@@ -1,0 +1,197 @@
+//! The station's page: the proved program against the second one on recorded days, and the proved library against the
+//! second program's page on made-up states, with buffers that are short, exact and longer.
+
+mod days;
+#[path = "../states/library.rs"]
+mod library;
+#[path = "../states/model.rs"]
+mod model;
+mod product;
+#[path = "../states/random.rs"]
+mod random;
+#[path = "../states/states.rs"]
+mod states;
+
+use random::Random;
+use second::day::{Day, Phase, MAX_BUDGET, MAX_PRICE, MAX_VIEWS};
+use std::io::Write;
+use std::process::{exit, Command, Stdio};
+
+const LISTING: &str = "  0     2       0.05          0.10     4
+  1     2       0.03          0.06     4
+total                         0.16      
+";
+
+/// What the bytes of a buffer are before a page is printed.
+const UNTOUCHED: u8 = b'~';
+
+fn fail(passed: u64, what: &str) -> ! {
+    println!("{what}");
+    println!("{passed} passed, 1 failed");
+    exit(1)
+}
+
+/// What a program prints for an input; it has to end well and say nothing on standard error.
+fn printed(program: &str, input: &[u8]) -> Result<Vec<u8>, String> {
+    let mut child = Command::new(program)
+        .stdin(Stdio::piped())
+        .stdout(Stdio::piped())
+        .stderr(Stdio::piped())
+        .spawn()
+        .map_err(|e| format!("{program}: {e}"))?;
+    let mut pipe = child.stdin.take().expect("a pipe");
+    pipe.write_all(input).map_err(|e| format!("{program}: {e}"))?;
+    drop(pipe);
+    let end = child.wait_with_output().map_err(|e| format!("{program}: {e}"))?;
+    if !end.status.success() || !end.stderr.is_empty() {
+        return Err(format!("{program}: {}, {}", end.status, String::from_utf8_lossy(&end.stderr)));
+    }
+    Ok(end.stdout)
+}
+
+/// Both programs on one input; gives the page.
+fn same_page(programs: &[String], input: &[u8]) -> Result<Vec<u8>, String> {
+    let ours = printed(&programs[0], input)?;
+    let due = printed(&programs[1], input)?;
+    if ours != due {
+        let text = |page: &[u8]| page.escape_ascii().to_string().replace("\\n", "\n");
+        return Err(format!(
+            "input:\n{}\npage:\n{}\nsecond program's:\n{}",
+            text(input),
+            text(&ours),
+            text(&due)
+        ));
+    }
+    Ok(ours)
+}
+
+fn recorded(passed: &mut u64, programs: &[String], corpus: &str) {
+    let mut files: Vec<_> = std::fs::read_dir(corpus)
+        .expect("the corpus")
+        .flatten()
+        .map(|f| f.path())
+        .filter(|f| f.extension().is_none())
+        .collect();
+    files.sort();
+    for file in files {
+        let input = std::fs::read(&file).expect("a file of the corpus");
+        let page = same_page(programs, &input).unwrap_or_else(|e| fail(*passed, &format!("{file:?}: {e}")));
+        if file.ends_with("listing") && page != LISTING.as_bytes() {
+            fail(*passed, "the listing's page is another");
+        }
+        *passed += 1;
+    }
+}
+
+fn generated(passed: &mut u64, programs: &[String], seeds: std::ops::Range<u64>) {
+    let mut lines = 0;
+    for seed in seeds {
+        let input = days::day(&mut Random::new(seed));
+        let page = same_page(programs, &input).unwrap_or_else(|e| fail(*passed, &format!("seed {seed}: {e}")));
+        lines += page.len() / 41;
+        *passed += 1;
+    }
+    println!("generated days: pages of {lines} lines");
+}
+
+/// The library's page of a state against the second program's, in a buffer of so many bytes.
+fn compare(day: &Day, room: usize) -> Result<u64, String> {
+    let Some(lent) = model::lent(day) else {
+        return Ok(1);
+    };
+    let (mut due, mut out) = (vec![UNTOUCHED; room], vec![UNTOUCHED; room]);
+    let (status, length) = match second::page::write(day, &mut due) {
+        Ok(n) => (0, n as u64),
+        Err(question) => (question, product::NO_LENGTH),
+    };
+    let found = product::page(&lent, &mut out);
+    if found != (status, length) || out != due {
+        return Err(format!(
+            "state: {day:?}\nroom: {room}\nlibrary: {found:?}\n{}\nsecond program: {:?}\n{}",
+            out.escape_ascii(),
+            (status, length),
+            due.escape_ascii()
+        ));
+    }
+    Ok(status)
+}
+
+#[derive(Default)]
+struct Statuses {
+    printed: u64,
+    unsound: u64,
+    short: u64,
+}
+
+/// A state with every kind of room; the page of n campaigns has 41 × (n + 1) bytes.
+fn every_room(passed: &mut u64, seen: &mut Statuses, day: &Day) {
+    let whole = 41 * (day.count.min(64) as usize + 1);
+    for room in [0, 1, 40, whole - 1, whole, whole + 1, whole + 300] {
+        match compare(day, room).unwrap_or_else(|e| fail(*passed, &e)) {
+            0 => seen.printed += 1,
+            1 => seen.unsound += 1,
+            _ => seen.short += 1,
+        }
+    }
+    *passed += 1;
+}
+
+/// Depth 1, width 1, where every play is a turn: n campaigns with the greatest price and as many plays as fit.
+fn greatest(n: u64) -> Day {
+    let mut day = Day::blank().open(1, 1).0;
+    let budget = MAX_BUDGET / n.max(1);
+    let price = MAX_PRICE.min(budget);
+    for _ in 0..n {
+        day = day.add(price, budget).0;
+    }
+    day = day.start().0;
+    day.views = MAX_VIEWS;
+    for c in day.campaigns.iter_mut().take(n as usize) {
+        c.plays = (c.budget / c.price).min(MAX_VIEWS);
+        (c.turns, c.named) = (c.plays, MAX_VIEWS);
+    }
+    day
+}
+
+fn made_up(passed: &mut u64, seed: u64) {
+    let (mut random, mut seen) = (Random::new(seed), Statuses::default());
+    for n in [0, 1, 2, 9, 10, 63, 64] {
+        for day in [greatest(n), states::filled(&mut random, n), states::run(&mut random, n, 50)] {
+            every_room(passed, &mut seen, &day);
+            let mut closed = day.clone();
+            states::close(&mut closed);
+            every_room(passed, &mut seen, &closed);
+        }
+    }
+    for _ in 0..2_000 {
+        let mut day = states::made_up(&mut random);
+        every_room(passed, &mut seen, &day);
+        states::mutate(&mut random, &mut day);
+        every_room(passed, &mut seen, &day);
+    }
+    for plays in [0, 1, 9, 10, 99, 100, 999, 1_000, 2_000] {
+        for price in [1, 9, 10, 99, 100, 101, 999, 9_999, 10_000, 99_999, 100_000, 999_999, MAX_PRICE] {
+            let mut day = greatest(1);
+            let c = &mut day.campaigns[0];
+            (c.price, c.plays, c.turns, c.budget) = (price, plays, plays, MAX_BUDGET);
+            day.phase = Phase::Running;
+            every_room(passed, &mut seen, &day);
+        }
+    }
+    println!("states: {} printed, {} unsound, {} without room", seen.printed, seen.unsound, seen.short);
+    if seen.printed == 0 || seen.unsound == 0 || seen.short == 0 {
+        fail(*passed, "not every kind of answer was seen");
+    }
+}
+
+fn main() {
+    let mut words: Vec<String> = std::env::args().skip(1).collect();
+    let numbers: Vec<u64> = words.drain(3..).map(|w| w.parse().expect("a number")).collect();
+    let count = numbers.first().copied().unwrap_or(300);
+    let first = numbers.get(1).copied().unwrap_or(1);
+    let mut passed = 0;
+    recorded(&mut passed, &words, &words[2]);
+    generated(&mut passed, &words, first..first + count);
+    made_up(&mut passed, first);
+    println!("{passed} passed, 0 failed");
+}
