@@ -1,5 +1,5 @@
--- Soundness: the tests of its sentence in document 01, of a state's head and its entries (f i is entry i); and the audit,
--- which also gives the figures of a sound state.
+-- Soundness: the tests of its sentence in document 01, of a state's head and its entries (f i is entry i); and the
+-- audit, which also gives the figures of a sound state.
 use mathlib.Core.Bool.{Bool, true, false, cond}
 use mathlib.Core.List.{List, [], _∷_}
 use Prim.Native.Nat.{ℕ}

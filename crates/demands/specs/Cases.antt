@@ -103,8 +103,8 @@ cases =
     plan 2 2 gives Done ∷ campaign-of 5 9 gives Done ∷ start-day gives Done ∷ view 1 gives Played 0 5 ∷
     view 1 gives Nobody ∷ ask-tally 0 gives Tallied 1 1 0 2 ∷
     close-day gives Closing 5 15 20 ∷ close-day gives Refused 11 ∷ []) ∷
-    -- a view of none is accepted and played by nobody, of three where the width is 2 gives 14, and 13 is asked before; at
-    -- its end a turn counts in that same view
+    -- a view of none is accepted and played by nobody, of three where the width is 2 gives 14, and 13 is asked before;
+    -- at its end a turn counts in that same view
     answered (
     plan 2 2 gives Done ∷ campaign-of 3 9 gives Done ∷ campaign-of 2 2 gives Done ∷ campaign-of 1 1 gives Done ∷
     start-day gives Done ∷
@@ -121,6 +121,6 @@ cases =
     view 1 gives Refused 12 ∷ []) ∷
     resumed (state Running 1 4_095) (view 0 gives Nobody ∷ view 0 gives Refused 12 ∷ view 1 gives Refused 12 ∷ []) ∷
     -- no call of a state with more: 1
-    resumed (state Running 1 4_097) (view 0 gives Refused 1 ∷ view 1 gives Refused 1 ∷ close-day gives Refused 1 ∷ ask-tally 0 gives Refused 1 ∷
-    []) ∷
+    resumed (state Running 1 4_097) (view 0 gives Refused 1 ∷ view 1 gives Refused 1 ∷ close-day gives Refused 1 ∷
+    ask-tally 0 gives Refused 1 ∷ []) ∷
     []
