@@ -7,7 +7,8 @@ use Rattle.campaigns.specs.Choice.{best, choice}
 use Rattle.campaigns.specs.Campaign.{whole, claim, sound-plan, priced, counted, uncounted, empty, sound-campaign}
 use Rattle.audit.specs.Sound.{sound-record}
 use Rattle.day.specs.Day.{blank, total-takings, total-claim, total-budgets, sound}
-use Rattle.day.specs.Calls.{first-failed, width-holds, call}
+use Rattle.questions.specs.Questions.{first-failed, width-holds}
+use Rattle.day.specs.Calls.{call}
 use Rattle.lines.specs.Numeral.{numeral, numeral-in}
 use Rattle.lines.specs.Form.{template, in-slot}
 use Rattle.lines.specs.Reading.{reading, first-of, forms, held-or, ended-or, made, numbers-of, rest-of, step, strip}

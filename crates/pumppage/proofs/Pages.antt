@@ -154,9 +154,8 @@ module _ (k : Stream) (d d₁ d₂ : List ℕ) (r : Fed) (room : reply-room ≤ 
         let g = p .1 ∙ stands s d₁ last-sound (omega (arith, same, room)) in
         omega (arith, ap length g, length-append (page-of s) (drop (length (page-of s)) d₁))
 
-    pub page-told : (w v : Wire) (n : ℕ) → x ≡ Length n → Tells w (take n d₂) v
-        → Tells w (page-of (finished (session-of k) .day)) v
-    page-told w v n e t = subst (λ (l : List ℕ). Tells w l v) (page-front n e ∙ ap page-of last-day) t
+    pub page-told : (w v : Wire) → Tells w (r .stream .day) v → Tells w (finished (session-of k) .day) v
+    page-told w v t = subst (λ (s : Day). Tells w s v) last-day t
 
     pub never-refused : (q : ℕ) → x ≡ Refusal q → ⊥
     never-refused q e = let z = printed-length in let y : _≡_ {A = ℕ} 0 1 = cc in omega arith
@@ -236,13 +235,14 @@ module _ {k : Stream} {w : Wire} {turns : ℕ} (a : Reached k w turns) {l : List
     input = split (input ++ take (r .n) l);
     got-is = more-got;
     ended-is = λ f h. absurd (never (t .wire .failed) f e);
+    day-is = λ f h. absurd (never (t .wire .failed) f e);
     told-is = λ f h. absurd (never (t .wire .failed) f e);
     none-told = λ f. r .told-is ∙ a .told-is;
   }
 
   -- the last read gave nothing
   pub ran-through : t .wire .failed ≡ false → t .wire .ended ≡ true → {u : Wire}
-      → Tells (t .wire) (page-of (finished (session-of (t .stream)) .day)) u → Prints u
+      → Tells (t .wire) (finished (session-of (t .stream)) .day) u → Prints u
   ran-through s e {u} q =
       let none : input ++ take (r .n) l ≡ input =
       ap (λ (i : ℕ). input ++ take i l) (eqb-true (r .n) 0 (sym (r .ended-is) ∙ e)) ∙ append-nil input in
@@ -256,6 +256,7 @@ module _ {k : Stream} {w : Wire} {turns : ℕ} (a : Reached k w turns) {l : List
         input = v;
         got-is = q .got-is ∙ more-got ∙ ap (counted 0) none;
         ended-is = λ f h. q .ended-is ∙ e;
+        day-is = λ f h. q .day-is ∙ state;
         told-is = λ f h.
             q .told-is
             ∙ ap₂ (λ (i : ℕ) (z : Day). counted i (page-of z)) (r .told-is ∙ a .told-is) state;
@@ -269,6 +270,7 @@ ran-spent a h = record {
   input = split (input-of (a .blocks));
   got-is = a .got-is;
   ended-is = λ f i. absurd (omega (arith, a .left));
+  day-is = λ f i. absurd (omega (arith, a .left));
   told-is = λ f i. absurd (omega (arith, a .left));
   none-told = λ f. a .told-is;
 }

@@ -31,13 +31,14 @@ abbrev pub end-state : {l : List ℕ} → Split l → Day
 end-state i = after-rest (after-lines blank (i .lines)) (i .rest)
 
 -- A whole run: reads gave blocks, which are lines and a rest. Unless a read failed or 2^64 − 1 reads were made, the
--- last read gave nothing, and as many bytes were told as the page of the state at the input's end has; that they are
--- its bytes is what `tell` requires. After a read that failed nothing is told.
+-- last read gave nothing, the state whose page was told is that at the input's end, and as many bytes were told as its
+-- page has; that they are its bytes is what `tell` requires. After a read that failed nothing is told.
 pub record Prints (r : Wire) : Type 0 where
   pub blocks : List (List ℕ)
   pub none-empty : r .failed ≡ false → None-empty blocks
   pub input : Split (input-of blocks)
   pub got-is : r .got ≡ counted 0 (input-of blocks)
   pub ended-is : r .failed ≡ false → r .reads < 2 ^ 64 - 1 → r .ended ≡ true
+  pub day-is : r .failed ≡ false → r .reads < 2 ^ 64 - 1 → r .day ≡ end-state input
   pub told-is : r .failed ≡ false → r .reads < 2 ^ 64 - 1 → r .told ≡ counted 0 (page-of (end-state input))
   pub none-told : r .failed ≡ true → r .told ≡ 0

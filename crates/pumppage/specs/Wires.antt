@@ -1,12 +1,15 @@
 -- Standard input and output, as far as contracts reach: no contract can say what a read put into the block, or what a
--- write made of its bytes. A wire counts the reads, the bytes that they gave and the bytes that were told, modulo 2^64,
--- and only `src/wire.rt` can make one.
+-- write made of its bytes. A wire has the state whose page was told, and counts the reads, the bytes that they gave and
+-- the bytes that were told, modulo 2^64; only `src/wire.rt` can make one.
 use mathlib.Core.Path.{_≡_}
 use mathlib.Core.Bool.{true, false}
 use mathlib.Core.List.{List}
 use Prim.Native.Nat.{ℕ, _+_, _%_, _^_, _≤_}
 use lib.Dec.{eqb}
 use lib.ListN.{length, take}
+use Rattle.day.specs.declared.Day.{Day}
+use Rattle.day.specs.Day.{blank}
+use Rattle.page.specs.Printing.{page-of}
 use Rattle.pumppage.specs.declared.wire.Wire.{Wire}
 use Rattle.pumppage.specs.declared.wire.Got.{Got}
 
@@ -15,7 +18,7 @@ abbrev pub counted : ℕ → List ℕ → ℕ
 counted n l = (n + length l) % 2 ^ 64
 
 abbrev pub new-wire : Wire
-new-wire = record { reads = 0; got = 0; told = 0; ended = false; failed = false; sent = true }
+new-wire = record { day = blank; reads = 0; got = 0; told = 0; ended = false; failed = false; sent = true }
 
 -- One read, after which the block is l. Whether it failed is what C answered, and free.
 pub record Reads (w : Wire) (l : List ℕ) (r : Got) : Type 0 where
@@ -26,11 +29,12 @@ pub record Reads (w : Wire) (l : List ℕ) (r : Got) : Type 0 where
   pub ended-is : r .wire .ended ≡ eqb (r .n) 0
   pub sent-is : r .wire .sent ≡ w .sent
 
--- The bytes l told. Whether they went is what C answered: it is free, but that a failure before stays one.
-pub record Tells (w : Wire) (l : List ℕ) (r : Wire) : Type 0 where
+-- The page of s told. Whether it went is what C answered: it is free, but that a failure before stays one.
+pub record Tells (w : Wire) (s : Day) (r : Wire) : Type 0 where
+  pub day-is : r .day ≡ s
   pub reads-is : r .reads ≡ w .reads
   pub got-is : r .got ≡ w .got
-  pub told-is : r .told ≡ counted (w .told) l
+  pub told-is : r .told ≡ counted (w .told) (page-of s)
   pub ended-is : r .ended ≡ w .ended
   pub failed-is : r .failed ≡ w .failed
   pub sent-before : r .sent ≡ true → w .sent ≡ true

@@ -9,7 +9,6 @@ ghost use lib.ListN.{length};
 ghost use Rattle.day.specs.Day.{sound};
 ghost use Rattle.reply.specs.Session.{reply-room, fed};
 ghost use Rattle.stream.specs.Stream.{finished, session-of, silent};
-ghost use Rattle.page.specs.Printing.{page-of};
 ghost use Rattle.pumppage.specs.Wires.{Tells};
 ghost use Rattle.pumppage.specs.Prints.{Prints};
 ghost use Rattle.pumppage.specs.Contracts.{Part, Taken};
@@ -77,7 +76,7 @@ fn read_block(wire: Wire, stream: Stream, block: &mut [u8], out: &mut [u8]) -> R
 // A last line without byte 10, and the page.
 fn finish(wire: Wire, stream: Stream, out: &mut [u8]) -> Wire
     requires { ⌜ (reply-room ≤ length (now out)) × (sound (stream .day) ≡ true) ⌝ }
-    ensures { λ r. ⌜ Tells wire (page-of (finished (session-of stream) .day)) r ⌝ }
+    ensures { λ r. ⌜ Tells wire (finished (session-of stream) .day) r ⌝ }
 {
     let fed = stream.finish(out);
     let next = fed.stream;

@@ -9,9 +9,10 @@ use libc::STDIN_FILENO;
 use libc::STDOUT_FILENO;
 use std::num::wrapping_add_u64;
 
-// How many reads were made, how many bytes they gave and how many were told, each modulo 2^64; whether the last read
-// gave nothing and whether it failed, and whether every write went through.
+// The state whose page was told, or the blank one; how many reads were made, how many bytes they gave and how many were
+// told, each modulo 2^64; whether the last read gave nothing and whether it failed, and whether every write went through.
 pub struct Wire {
+    day: Day,
     reads: u64,
     got: u64,
     told: u64,
@@ -30,7 +31,9 @@ impl Wire {
     pub fn new() -> Self
         ensures { λ r. ⌜ r ≡ new-wire ⌝ }
     {
+        let day = Day::blank();
         Wire {
+            day: day,
             reads: 0,
             got: 0,
             told: 0,
@@ -46,11 +49,13 @@ impl Wire {
     {
         let answer = libc::read(STDIN_FILENO, block);
         let n = io::count(answer, block);
+        let day = self.day;
         let reads = wrapping_add_u64(self.reads, 1);
         let got = wrapping_add_u64(self.got, n as u64);
         let failed = answer < 0;
         Got {
             wire: Wire {
+                day: day,
                 reads: reads,
                 got: got,
                 told: self.told,
@@ -65,11 +70,12 @@ impl Wire {
     // Writes the page of a state.
     pub fn tell(self, day: Day, bytes: &[u8]) -> Self
         requires { ⌜ now bytes ≡ page-of day ⌝ }
-        ensures { λ r. ⌜ Tells self (now (bytes .entry)) r ⌝ }
+        ensures { λ r. ⌜ Tells self day r ⌝ }
     {
         let went = io::write_all(STDOUT_FILENO, bytes);
         let told = wrapping_add_u64(self.told, bytes.len() as u64);
         Wire {
+            day: day,
             reads: self.reads,
             got: self.got,
             told: told,

@@ -1,4 +1,5 @@
 -- One part: what the stream takes of the block from a place on (`feed`) is that part.
+use native.Mathlib.Omega.{arith}
 use borrow.Author.Needs.{needs}
 use Rattle.pumppage.proofs.Pages.{part-is}
 use Rattle.pumppage.proofs.take_part.Statement.{statement}
@@ -11,6 +12,16 @@ returns c =
     let a = s .args in
     part-is (a .stream) (a .block .now) (a .out .now) (f .last .1 .1 .0) (a .from) (f .result) (s .pre) (f .ensures)
 
+-- no more is taken than the block has
+add-place : tie.Need-add-t8
+add-place c =
+    let f = c .before .before .before .before .feed in
+    let s = c .before .before .before .before .before .before .before .before .before in
+    let a = s .args in
+    let p = part-is (a .stream) (a .block .now) (a .out .now) (f .last .1 .1 .0) (a .from) (f .result) (s .pre)
+    (f .ensures) in
+    omega (arith, p .inside)
+
 pub take-part-spec : {M : Type 1} → statement M
 take-part-spec =
     tie.close
@@ -19,6 +30,6 @@ take-part-spec =
     (λ c. search needs)
     (λ c. search needs)
     (λ c κs. search needs)
-    (λ c. search needs)
+    add-place
     (λ c. search needs)
     returns)

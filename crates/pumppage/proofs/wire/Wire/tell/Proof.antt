@@ -1,7 +1,8 @@
 -- What is written is counted, and a write that failed before stays known: both tests go through only together.
-use mathlib.Core.Path.{refl}
+use mathlib.Core.Path.{refl, ap, _∙_}
 use borrow.Author.Needs.{needs}
 use Rattle.finite.proofs.Tests.{both-left}
+use Rattle.pumppage.specs.Wires.{counted}
 use Rattle.pumppage.proofs.wire.Wire.tell.Statement.{statement}
 use Rattle.pumppage.proofs.wire.Wire.tell.Tie as tie
 
@@ -9,9 +10,11 @@ returns : tie.Need-returns
 returns c =
     let s = c .before .before .before .before in
     record {
+      day-is = refl;
       reads-is = refl;
       got-is = refl;
-      told-is = c .before .wrapping-add-u64 .ensures;
+      told-is =
+          c .before .wrapping-add-u64 .ensures ∙ ap (counted (s .args .self .told)) (s .pre);
       ended-is = refl;
       failed-is = refl;
       sent-before = λ e. both-left (s .args .self .sent) (c .before .before .write-all .result) e;
