@@ -1,8 +1,8 @@
 -- The names of a set by its walk. The loop keeps `Names`: some names stand, and those of what is left of the walk are
 -- to come. Its measure is the number of members left, which falls by one a turn.
-use mathlib.Core.Path.{_≡_, ap, sym, subst, _∙_}
+use mathlib.Core.Path.{ap, sym, subst}
 use mathlib.Core.List.{_∷_}
-use Prim.Native.Nat.{ℕ, _+_, _≤_, _<_}
+use Prim.Native.Nat.{ℕ, _<_}
 use native.Mathlib.Omega.{arith}
 use lib.ListN.{length}
 use Rattle.sets.specs.Walk.{members}
