@@ -27,7 +27,7 @@ part-tell-end : tie.Need-part-tell-end
 part-tell-end c = inside (c .before .before .before .before)
 
 slice-reshare-prefix-tell : tie.Need-slice-reshare-prefix-tell
-slice-reshare-prefix-tell c = written-inside (c .before .before .before .before .before .feed .ensures)
+slice-reshare-prefix-tell c = omega (arith, written-inside (c .before .before .before .before .before .feed .ensures))
 
 slice-aggregate-tell : tie.Need-slice-aggregate-tell
 slice-aggregate-tell c =
