@@ -2,10 +2,9 @@
 -- figure fits. And what the audit finds is what the figures of the state are.
 use mathlib.Core.Path.{_≡_, subst⁻¹}
 use mathlib.Core.Bool.{true, false}
-use Prim.Native.Nat.{ℕ, _+_, _*_, _/_, min, _≤_, _<_}
-use native.Mathlib.Nat.{le-trans, mul-le-mul-left, le-div-iff-mul-le}
+use Prim.Native.Nat.{ℕ, _*_, _/_, _≤_, _<_}
+use native.Mathlib.Nat.{le-trans, le-div-iff-mul-le}
 use native.Mathlib.Omega.{arith}
-use Rattle.finite.specs.Finite.{sum}
 use Rattle.finite.proofs.Sums.{sum-le}
 use Rattle.campaigns.specs.declared.Campaign.{Campaign}
 use Rattle.campaigns.specs.Limits.{max-budget}
@@ -14,7 +13,7 @@ use Rattle.campaigns.specs.Contracts.{Narrow}
 use Rattle.day.specs.declared.Day.{Day}
 use Rattle.day.specs.Day.{campaign, total-budgets, sound}
 use Rattle.day.specs.Calls.{first-failed}
-use Rattle.day.proofs.State.{Sound, sound-facts, held-at}
+use Rattle.day.proofs.State.{sound-facts, held-at}
 use Rattle.noon.specs.declared.Noon.the-variants.{Refused}
 use Rattle.noon.specs.Noon.{due, total-due, figures-of, at-noon}
 
@@ -22,9 +21,8 @@ use Rattle.noon.specs.Noon.{due, total-due, figures-of, at-noon}
 pub due-within : (k : ℕ) (c : Campaign) → 1 ≤ c .price → c .price * due k c ≤ c .budget
 unfolding due whole
 due-within k c l =
-    let q : ℕ = min (c .budget / c .price) (c .named / k) in
-    let least : q ≤ c .budget / c .price = omega arith in
-    let paid : q * c .price ≤ c .budget = le-div-iff-mul-le l .0 least in
+    let least : due k c ≤ c .budget / c .price = omega arith in
+    let paid : due k c * c .price ≤ c .budget = le-div-iff-mul-le l .0 least in
     omega arith
 
 pub total-within : (s : Day) → sound s ≡ true → total-due s ≤ max-budget
