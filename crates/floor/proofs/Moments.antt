@@ -9,7 +9,8 @@ use Rattle.campaigns.specs.Choice.{best, choice}
 use Rattle.campaigns.specs.Campaign.{whole, claim, sound-plan, priced, counted, uncounted, empty, sound-campaign}
 use Rattle.audit.specs.Sound.{sound-record}
 use Rattle.day.specs.Day.{blank, total-takings, total-claim, total-budgets, sound}
-use Rattle.day.specs.Calls.{first-failed, width-holds, call}
+use Rattle.questions.specs.Questions.{first-failed, width-holds}
+use Rattle.day.specs.Calls.{call}
 use Rattle.noon.specs.Noon.{due, total-due, at-noon}
 use Rattle.demands.specs.Transcript.{final}
 use Rattle.floor.specs.Moments.{moments, Moments, Needs-history}

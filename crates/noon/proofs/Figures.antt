@@ -9,10 +9,10 @@ use Rattle.finite.proofs.Sums.{sum-le}
 use Rattle.campaigns.specs.declared.Campaign.{Campaign}
 use Rattle.campaigns.specs.Limits.{max-budget}
 use Rattle.campaigns.specs.Campaign.{whole}
-use Rattle.campaigns.specs.Contracts.{Narrow}
+use Rattle.campaigns.specs.Contracts.{Fits-arrays}
 use Rattle.day.specs.declared.Day.{Day}
 use Rattle.day.specs.Day.{campaign, total-budgets, sound}
-use Rattle.day.specs.Calls.{first-failed}
+use Rattle.questions.specs.Questions.{first-failed}
 use Rattle.day.proofs.State.{sound-facts, held-at}
 use Rattle.noon.specs.declared.Noon.the-variants.{Refused}
 use Rattle.noon.specs.Noon.{due, total-due, figures-of, at-noon}
@@ -38,10 +38,10 @@ total-within s e =
 pub read-price : (s : Day) → sound s ≡ true → (i : ℕ) → i < s .count → (c : Campaign) → c ≡ campaign s i → 1 ≤ c .price
 read-price s e i l c q = subst⁻¹ (λ (x : Campaign). 1 ≤ x .price) q (held-at s (sound-facts s e) i l .price-least)
 
-pub read-fits : (k : ℕ) (c : Campaign) (n : ℕ) → 1 ≤ c .price → Narrow c → n ≡ due k c → c .price * n < 4_294_967_296
+pub read-fits : (k : ℕ) (c : Campaign) (n : ℕ) → 1 ≤ c .price → Fits-arrays c → n ≡ due k c → c .price * n < 4_294_967_296
 read-fits k c n l w e =
     let within : c .price * due k c ≤ c .budget = due-within k c l in
-    subst⁻¹ (λ (x : ℕ). c .price * x < 4_294_967_296) e (omega (arith, within, w .budget-narrow))
+    subst⁻¹ (λ (x : ℕ). c .price * x < 4_294_967_296) e (omega (arith, within, w .budget-u32))
 
 -- the answer, by question 1
 pub noon-unsound : (s : Day) → sound s ≡ false → at-noon s ≡ Refused 1

@@ -8,7 +8,7 @@ use Rattle.campaigns.specs.Campaign.{whole}
 use Rattle.campaigns.specs.View.{full}
 use Rattle.day.specs.declared.Day.{Day}
 use Rattle.day.specs.Day.{campaign, total-takings, total-claim, sound}
-use Rattle.day.specs.Calls.{Question, question, first-failed}
+use Rattle.questions.specs.Questions.{Question, question, first-failed}
 use Rattle.noon.specs.declared.Noon.{Noon}
 use Rattle.noon.specs.declared.Noon.the-variants.{Refused, Figures}
 
