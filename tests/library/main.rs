@@ -8,14 +8,18 @@ use std::collections::BTreeMap;
 use std::fs;
 use std::process::exit;
 
-/// Constants of the header that the source has no name for: where columns begin, and the lengths of lines.
-const BY_BEHAVIOUR: [&str; 10] = [
+/// Constants of the header that the source has no name for: where columns begin, the order of the figures at noon, and
+/// the lengths of lines.
+const BY_BEHAVIOUR: [&str; 13] = [
     "TERMS_PRICE",
     "TERMS_BUDGET",
     "COUNTS_PLAYS",
     "COUNTS_TURNS",
     "COUNTS_AGE",
     "COUNTS_NAMED",
+    "NOON_FULL",
+    "NOON_CLAIM",
+    "NOON_FLOOR",
     "MAX_LINE",
     "LINE_ROOM",
     "LINE_BUFFER",

@@ -18,13 +18,14 @@ use std::io::Write;
 use std::path::{Path, PathBuf};
 use std::process::Command;
 
-const CRATES: [&str; 16] = [
+const CRATES: [&str; 17] = [
     "sets",
     "powers",
     "campaigns",
     "audit",
     "choice",
     "day",
+    "noon",
     "lines",
     "print",
     "writer",

@@ -1,5 +1,5 @@
--- The figures at noon of a few days, after each of their calls; and a sound state that no list of calls reaches, on which
--- the floor at noon fails: that it holds is a matter of history.
+-- The figures at noon of a few days, after each of their calls; and a sound state that no list of calls reaches, on
+-- which the floor at noon fails: that it holds is a matter of history.
 use mathlib.Core.Path.{_≡_}
 use mathlib.Core.Bool.{true, cond}
 use mathlib.Core.List.{List, [], _∷_}

@@ -38,7 +38,8 @@ total-within s e =
 pub read-price : (s : Day) → sound s ≡ true → (i : ℕ) → i < s .count → (c : Campaign) → c ≡ campaign s i → 1 ≤ c .price
 read-price s e i l c q = subst⁻¹ (λ (x : Campaign). 1 ≤ x .price) q (held-at s (sound-facts s e) i l .price-least)
 
-pub read-fits : (k : ℕ) (c : Campaign) (n : ℕ) → 1 ≤ c .price → Fits-arrays c → n ≡ due k c → c .price * n < 4_294_967_296
+pub read-fits : (k : ℕ) (c : Campaign) (n : ℕ) → 1 ≤ c .price → Fits-arrays c → n ≡ due k c
+    → c .price * n < 4_294_967_296
 read-fits k c n l w e =
     let within : c .price * due k c ≤ c .budget = due-within k c l in
     subst⁻¹ (λ (x : ℕ). c .price * x < 4_294_967_296) e (omega (arith, within, w .budget-u32))

@@ -2,3 +2,4 @@ pub mod Stored
 pub mod Lines
 pub mod Streamed
 pub mod Promised
+pub mod Shown

@@ -3,5 +3,6 @@
 // has the first bytes of an unfinished line beside it.
 // `include/wezghuli.h` declares these functions, and the constants of `encoding`, to C; a test keeps the two alike.
 pub mod calls;
+pub mod figures;
 pub mod streams;
 pub mod text;
