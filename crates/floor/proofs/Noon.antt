@@ -1,5 +1,5 @@
--- The floor at noon: the turns of each campaign reach what is due to it, a claim is at least the share of its turns, and
--- the total claim is at most full; so full is at least the share of what is due, at every moment that calls reach.
+-- The floor at noon: the turns of each campaign reach what is due to it, a claim is at least the share of its turns,
+-- and the total claim is at most full; so full is at least the share of what is due, at every moment that calls reach.
 use mathlib.Core.Path.{_≡_, refl, ap, ap₂, sym, _∙_, subst, subst⁻¹}
 use mathlib.Core.List.{List, [], _∷_, _++_}
 use mathlib.Core.Logic.{_⊎_, inl, inr}
