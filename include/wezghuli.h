@@ -92,6 +92,11 @@ typedef struct {
 #define WEZGHULI_ANSWER_TALLIED 4 /* plays, turns, age, named */
 #define WEZGHULI_ANSWER_CLOSING 5 /* takings, total claim, full */
 
+/* The figures of wezghuli_noon. */
+#define WEZGHULI_NOON_FULL 0
+#define WEZGHULI_NOON_CLAIM 1
+#define WEZGHULI_NOON_FLOOR 2
+
 /* words[0] of a record; its numbers stand in words[1] to words[5], and 0 where there are fewer. */
 #define WEZGHULI_FORM_PLAN 0     /* depth, width */
 #define WEZGHULI_FORM_CAMPAIGN 1 /* price, budget */
@@ -152,6 +157,15 @@ uint64_t wezghuli_tally(uint64_t head[6], uint32_t terms[128], uint16_t counts[2
 /* Closes the day: the state becomes Closed and holds its takings. Answers CLOSING with takings, total claim and full.
  * Refused: 1 the state is not sound, 11 it is not Running. */
 uint64_t wezghuli_close(uint64_t head[6], uint32_t terms[128], uint16_t counts[256], uint64_t answer[5]);
+
+/* The figures at noon, in any phase; the state stays. figures[WEZGHULI_NOON_FULL] is width^depth x takings,
+ * figures[WEZGHULI_NOON_CLAIM] the total claim, and figures[WEZGHULI_NOON_FLOOR] is
+ * (width^depth - (width - 1)^depth) x the sum, over campaigns, of price x the smaller of whole plays (budget / price)
+ * and named / depth, both rounded down. Of a state that operations made from the blank one, floor <= claim <= full at
+ * every moment; of any other sound state only the figures themselves are promised.
+ * Refused, with the figures as they were: 1 the state is not sound. WEZGHULI_STATUS_NO_HEAD. */
+uint64_t wezghuli_noon(const uint64_t head[6], const uint32_t terms[128], const uint16_t counts[256],
+    uint64_t figures[3]);
 
 /* Reads a line, handed over without its byte 10, into the words of its record: an input line or an output line.
  * Refused, with the words as they were: 16 the line has more than 200 bytes, 17 it is no form. */

@@ -8,15 +8,18 @@ use std::collections::BTreeMap;
 use std::fs;
 use std::process::exit;
 
-/// Constants of the header that the source has no name for: where columns begin, and the lengths of lines and
-/// pages.
-const BY_BEHAVIOUR: [&str; 12] = [
+/// Constants of the header that the source has no name for: where columns begin, the order of the figures at noon, and
+/// the lengths of lines and pages.
+const BY_BEHAVIOUR: [&str; 15] = [
     "TERMS_PRICE",
     "TERMS_BUDGET",
     "COUNTS_PLAYS",
     "COUNTS_TURNS",
     "COUNTS_AGE",
     "COUNTS_NAMED",
+    "NOON_FULL",
+    "NOON_CLAIM",
+    "NOON_FLOOR",
     "MAX_LINE",
     "LINE_ROOM",
     "LINE_BUFFER",

@@ -1,6 +1,6 @@
-/* What the header says and the source has no name for, tried: where columns begin, the lengths of lines and pages,
- * misuse, refusals, a stream in blocks of every length, and the stack that each function takes, found by running it on a stack that was
- * painted before. */
+/* What the header says and the source has no name for, tried: where columns begin, the figures at noon, the lengths of
+ * lines and pages, misuse, refusals, a stream in blocks of every length, and the stack that each function takes, found by
+ * running it on a stack that was painted before. */
 #define _XOPEN_SOURCE 700
 #include <stdint.h>
 #include <stdio.h>
@@ -68,6 +68,131 @@ static void columns(void)
     expect(wezghuli_close(day.head, day.terms, day.counts, answer) == 0, "closing");
     expect(day.head[WEZGHULI_HEAD_TAKINGS] == 13 && answer[1] == 13, "the takings");
     expect(day.head[WEZGHULI_HEAD_DEPTH] == 2 && day.head[WEZGHULI_HEAD_WIDTH] == 2, "the plan");
+}
+
+/* The figures at noon, from the state's own numbers and in 64 bits, whose products wrap nowhere within the limits. */
+static uint64_t figures[3];
+
+static uint64_t power(uint64_t base, uint64_t exponent)
+{
+    uint64_t result = 1;
+
+    while (exponent--)
+        result *= base;
+    return result;
+}
+
+static uint64_t takings(void)
+{
+    uint64_t sum = 0;
+
+    for (uint64_t i = 0; i < day.head[WEZGHULI_HEAD_CAMPAIGNS]; i++)
+        sum += (uint64_t)day.terms[WEZGHULI_TERMS_PRICE + i] * day.counts[WEZGHULI_COUNTS_PLAYS + i];
+    return sum;
+}
+
+static uint64_t dues(void)
+{
+    uint64_t sum = 0;
+
+    for (uint64_t i = 0; i < day.head[WEZGHULI_HEAD_CAMPAIGNS]; i++) {
+        uint64_t price = day.terms[WEZGHULI_TERMS_PRICE + i];
+        uint64_t whole = day.terms[WEZGHULI_TERMS_BUDGET + i] / price;
+        uint64_t turned = day.counts[WEZGHULI_COUNTS_NAMED + i] / day.head[WEZGHULI_HEAD_DEPTH];
+        sum += price * (whole < turned ? whole : turned);
+    }
+    return sum;
+}
+
+static int noon_is(uint64_t full, uint64_t claim, uint64_t floor)
+{
+    wezghuli_day before = day;
+
+    return wezghuli_noon(day.head, day.terms, day.counts, figures) == 0 && figures[WEZGHULI_NOON_FULL] == full
+        && figures[WEZGHULI_NOON_CLAIM] == claim && figures[WEZGHULI_NOON_FLOOR] == floor
+        && memcmp(&before, &day, sizeof day) == 0;
+}
+
+/* floor <= claim <= full, and floor and full as the header says */
+static int noon_holds(void)
+{
+    uint64_t depth = day.head[WEZGHULI_HEAD_DEPTH], width = day.head[WEZGHULI_HEAD_WIDTH];
+    uint64_t unit = power(width, depth), share = unit - power(width - 1, depth);
+
+    if (wezghuli_noon(day.head, day.terms, day.counts, figures))
+        return 0;
+    return figures[WEZGHULI_NOON_FLOOR] <= figures[WEZGHULI_NOON_CLAIM]
+        && figures[WEZGHULI_NOON_CLAIM] <= figures[WEZGHULI_NOON_FULL] && figures[WEZGHULI_NOON_FULL] == unit * takings()
+        && figures[WEZGHULI_NOON_FLOOR] == share * dues();
+}
+
+/* Document 01's listing after each of its views, and closed. */
+static void listing_at_noon(void)
+{
+    const uint64_t views[5][4] = {{3, 20, 18, 0}, {3, 32, 29, 24}, {3, 52, 42, 24}, {1, 52, 42, 39}, {2, 64, 48, 48}};
+
+    wezghuli_blank(day.head, day.terms, day.counts);
+    expect(noon_is(0, 0, 0), "the blank state at noon");
+    wezghuli_open(day.head, day.terms, day.counts, 2, 2, answer);
+    wezghuli_add(day.head, day.terms, day.counts, 5, 10, answer);
+    wezghuli_add(day.head, day.terms, day.counts, 3, 6, answer);
+    expect(noon_is(0, 0, 0), "a plan that is filled");
+    wezghuli_start(day.head, day.terms, day.counts, answer);
+    for (int i = 0; i < 5; i++) {
+        wezghuli_view(day.head, day.terms, day.counts, views[i][0], answer);
+        expect(noon_is(views[i][1], views[i][2], views[i][3]), "the listing at noon");
+    }
+    wezghuli_close(day.head, day.terms, day.counts, answer);
+    expect(noon_is(answer[3], answer[2], 48), "claim and full of the closing");
+}
+
+static uint64_t seed = 1;
+
+static uint64_t any(uint64_t below)
+{
+    seed = seed * 6364136223846793005u + 1442695040888963407u;
+    return (seed >> 33) % below;
+}
+
+static void days_at_noon(void)
+{
+    int moments = 1;
+
+    for (int n = 0; n < 200; n++) {
+        uint64_t campaigns = 1 + any(8);
+        wezghuli_blank(day.head, day.terms, day.counts);
+        wezghuli_open(day.head, day.terms, day.counts, 1 + any(4), 1 + any(4), answer);
+        for (uint64_t i = 0; i < campaigns; i++) {
+            uint64_t price = 1 + any(50);
+            wezghuli_add(day.head, day.terms, day.counts, price, price + any(300), answer);
+        }
+        wezghuli_start(day.head, day.terms, day.counts, answer);
+        for (int i = 0; i < 60; i++) {
+            wezghuli_view(day.head, day.terms, day.counts, any((uint64_t)1 << campaigns), answer);
+            moments &= noon_holds();
+        }
+    }
+    expect(moments, "every moment of 200 days");
+}
+
+static void noon(void)
+{
+    listing_at_noon();
+    days_at_noon();
+
+    /* a sound state that no day reaches: named by five views, played by none */
+    uint64_t made_up[6] = {WEZGHULI_PHASE_RUNNING, 0, 1, 1, 1, 5};
+    memset(&day, 0, sizeof day);
+    memcpy(day.head, made_up, sizeof made_up);
+    day.terms[WEZGHULI_TERMS_PRICE] = 1;
+    day.terms[WEZGHULI_TERMS_BUDGET] = 5;
+    day.counts[WEZGHULI_COUNTS_NAMED] = 5;
+    expect(noon_is(0, 0, 5), "the figures of a state that was made up");
+    day.counts[WEZGHULI_COUNTS_NAMED] = 6;
+    expect(wezghuli_noon(day.head, day.terms, day.counts, figures) == 1, "a state that is not sound");
+    day.head[WEZGHULI_HEAD_PHASE] = 3;
+    expect(wezghuli_noon(day.head, day.terms, day.counts, figures) == WEZGHULI_STATUS_NO_HEAD, "no head");
+    expect(figures[0] == 0 && figures[1] == 0 && figures[2] == 5, "a refusal leaves the figures");
 }
 
 static void lengths(void)
@@ -282,6 +407,7 @@ static void adds(void) { wezghuli_add(day.head, day.terms, day.counts, 5, 1000, 
 static void starts(void) { wezghuli_start(day.head, day.terms, day.counts, answer); }
 static void views(void) { wezghuli_view(day.head, day.terms, day.counts, 0xffff, answer); }
 static void tallies(void) { wezghuli_tally(day.head, day.terms, day.counts, 3, answer); }
+static void noons(void) { wezghuli_noon(day.head, day.terms, day.counts, figures); }
 static void closes(void) { wezghuli_close(day.head, day.terms, day.counts, answer); }
 
 static uint8_t sheet[WEZGHULI_PAGE_ROOM];
@@ -342,6 +468,7 @@ static void stacks(void)
         views();
     measure("view", views);
     measure("tally", tallies);
+    measure("noon", noons);
     measure("close", closes);
     expect(answer[0] == WEZGHULI_ANSWER_CLOSING, "the measured day was accepted");
     measure("page", prints);
@@ -365,6 +492,7 @@ static void stacks(void)
 int main(void)
 {
     columns();
+    noon();
     lengths();
     pages();
     misuse();

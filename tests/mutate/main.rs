@@ -18,7 +18,7 @@ use std::io::Write;
 use std::path::{Path, PathBuf};
 use std::process::Command;
 
-const CRATES: [&str; 19] = [
+const CRATES: [&str; 20] = [
     "sets",
     "powers",
     "campaigns",
@@ -26,6 +26,7 @@ const CRATES: [&str; 19] = [
     "choice",
     "questions",
     "day",
+    "noon",
     "lines",
     "print",
     "writer",

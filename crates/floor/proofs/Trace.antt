@@ -16,6 +16,7 @@ use Rattle.campaigns.specs.Choice.{role-of}
 use Rattle.campaigns.specs.Campaign.{whole, can-pay, aged, after, fresh}
 use Rattle.campaigns.specs.View.{names, pays, becomes}
 use Rattle.audit.proofs.Totals.{Held}
+use Rattle.noon.specs.Noon.{due}
 use Rattle.demands.proofs.Laws.{Steady}
 use Rattle.floor.specs.Floor.{Trace}
 
@@ -69,15 +70,16 @@ module _ (pl : Plan) (t : Trace) (c : Campaign) (h : Follows pl t c) (young : St
       → Follows pl (noted (names w i) t) (becomes pl w i (role-of (names w i) (pays pl w i c) q) c)
   follows-view w i q = follows-role (names w i) (pays pl w i c) q refl
 
--- the turns of a campaign reach its whole plays, or the full depths of the views that named it
+-- the turns of a campaign reach what is due to it: its whole plays, or the full depths of the views that named it
 pub turns-reach : (pl : Plan) (n : ℕ) (t : Trace) (c : Campaign) → Held pl n c → Follows pl t c
-    → min (whole c) (t .named / pl .depth) ≤ c .turns
+    → due (pl .depth) c ≤ c .turns
+unfolding due
 turns-reach pl n t c o h = go (can-pay c) refl
   where
-    go : (e : Bool) → can-pay c ≡ e → min (whole c) (t .named / pl .depth) ≤ c .turns
+    go : (e : Bool) → can-pay c ≡ e → min (whole c) (c .named / pl .depth) ≤ c .turns
     go true e =
         let m : c .named ≤ pl .depth * c .turns + c .age = h .turning (ltb-true (c .plays) (whole c) e) in
-        let u : t .named < (c .turns + 1) * pl .depth = omega (arith, h .named-is, o .young) in
+        let u : c .named < (c .turns + 1) * pl .depth = omega (arith, o .young) in
         let pos : 0 < pl .depth = omega (arith, o .young) in
         omega (arith, div-lt-iff-lt-mul pos .1 u)
     go false e = omega (arith, ltb-false (c .plays) (whole c) e, o .plays-turns)

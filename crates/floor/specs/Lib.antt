@@ -1,6 +1,7 @@
 pub mod History
 pub mod Allotment
 pub mod Floor
-pub mod Due
+pub mod Noon
+pub mod Moments
 pub mod Tight
 pub mod Short

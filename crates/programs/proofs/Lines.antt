@@ -1,10 +1,10 @@
 -- Any lines keep the demands. Lines make calls, and their answers are those of the calls, so what holds of any list of
 -- calls (demand 3, Algorithm 4) holds of any list of lines. What was paid is read off the text: the first line of an
 -- answer reads back as the record of that answer, and each line adds to the sum what its call adds to the history.
-use mathlib.Core.Path.{_≡_, refl, sym, ap, _∙_, subst, subst⁻¹}
+use mathlib.Core.Path.{_≡_, refl, sym, ap, ap₂, _∙_, subst, subst⁻¹}
 use mathlib.Core.Bool.{Bool, true, false, cond, _&&_}
 use mathlib.Core.List.{List, [], _∷_, _++_, append-assoc, append-nil}
-use Prim.Native.Nat.{ℕ, suc, _+_, _<_}
+use Prim.Native.Nat.{ℕ, suc, _+_, _≤_, _<_}
 use native.Mathlib.Omega.{arith}
 use lib.Dec.{eqb}
 use lib.ListN.{getD, take}
@@ -22,6 +22,7 @@ use Rattle.lines.proofs.Inverse.{one-text}
 use Rattle.writer.specs.Writing.{line}
 use Rattle.campaigns.specs.declared.Terms.{Terms}
 use Rattle.campaigns.specs.declared.View.{View as Lift}
+use Rattle.campaigns.specs.View.{full}
 use Rattle.campaigns.specs.Choice.{Choice}
 use Rattle.campaigns.specs.Choice.Choice.{nobody, plays}
 use Rattle.day.specs.declared.Answer.{Answer}
@@ -29,15 +30,18 @@ use Rattle.day.specs.declared.Answer.the-variants.{Refused as refusing, Done as
 use Rattle.day.specs.declared.Answer.the-variants.{Nobody as no-one, Tallied as tallied, Closing as closing}
 use Rattle.day.specs.declared.Day.{Day}
 use Rattle.day.specs.declared.Outcome.{Outcome}
-use Rattle.day.specs.Day.{blank, blank-plan, campaign, total-takings}
+use Rattle.day.specs.Day.{blank, blank-plan, campaign, total-takings, total-claim}
 use Rattle.day.specs.Calls.{Call, player, offers, view-answer}
 use Rattle.day.specs.Calls.Call.{open-plan, add-campaign, start-day, show-view, ask-tally, close-day}
 use Rattle.day.proofs.Questions.{call-elim}
+use Rattle.noon.specs.Noon.{floor-figure}
 use Rattle.demands.specs.Transcript.{Exchange, transcript, final}
 use Rattle.floor.specs.History.{History, paid-in, day-takings, opening, with-call, entered, continued, history}
 use Rattle.floor.specs.History.Starts.{from-blank}
 use Rattle.floor.specs.Floor.{Floor}
+use Rattle.floor.specs.Noon.{Noon-floor}
 use Rattle.floor.proofs.Floor.{demand-3}
+use Rattle.floor.proofs.Noon.{noon-at-end}
 use Rattle.refinement.specs.Correspondence.{Buys-alike}
 use Rattle.refinement.specs.Days.{Day-agrees}
 use Rattle.refinement.proofs.Days.{days-as-algorithm-4}
@@ -217,10 +221,22 @@ paid-is s h (l ∷ ls) =
     ∙ paid-is (next s l) (stepped h r a) ls
     ∙ ap (λ (p : ℕ). sum-over p (next s l) ls) (line-adds s h l)
 
--- Closing.
+-- Closing: the line has takings, total claim and full.
+abbrev closed-by : Day → Record
+closed-by s = Closed (total-takings s) (total-claim s) (full (s .plan) (total-takings s))
+
+closed-takings : (t c f t′ c′ f′ : ℕ) → Closed t c f ≡ Closed t′ c′ f′ → t ≡ t′
+closed-takings t c f t′ c′ f′ e = cc
+
+closed-claim : (t c f t′ c′ f′ : ℕ) → Closed t c f ≡ Closed t′ c′ f′ → c ≡ c′
+closed-claim t c f t′ c′ f′ e = cc
+
+closed-full : (t c f t′ c′ f′ : ℕ) → Closed t c f ≡ Closed t′ c′ f′ → f ≡ f′
+closed-full t c f t′ c′ f′ e = cc
+
 module _ (s : Day) (t c f : ℕ) where
   abbrev Closes : Outcome → Type 0
-  Closes o = record-of (o .answer) ≡ Closed t c f → t ≡ total-takings s
+  Closes o = record-of (o .answer) ≡ Closed t c f → Closed t c f ≡ closed-by s
 
   call-closes : (k : Call) → Closes (executed s (makes k))
   call-closes (open-plan pl) = call-elim Closes s (open-plan pl) (λ q e. cc) (λ y e. cc)
@@ -228,7 +244,7 @@ module _ (s : Day) (t c f : ℕ) where
   call-closes start-day = call-elim Closes s start-day (λ q e. cc) (λ y e. cc)
   call-closes (show-view w) = call-elim Closes s (show-view w) (λ q e. cc) (λ y. go (player s w))
     where
-      go : (ch : Choice) → record-of (view-answer (offers s w) ch) ≡ Closed t c f → t ≡ total-takings s
+      go : (ch : Choice) → record-of (view-answer (offers s w) ch) ≡ Closed t c f → Closed t c f ≡ closed-by s
       go nobody e = cc
       go (plays m) e = cc
   call-closes (ask-tally i) = call-elim Closes s (ask-tally i) (λ q e. cc) (λ y e. cc)
@@ -238,7 +254,7 @@ module _ (s : Day) (t c f : ℕ) where
   request-closes (makes k) = call-closes k
   request-closes (fails q) = λ e. cc
 
-  line-closes : (l : List ℕ) → reading (first-line (reply s l)) ≡ Got (Closed t c f) → t ≡ total-takings s
+  line-closes : (l : List ℕ) → reading (first-line (reply s l)) ≡ Got (Closed t c f) → Closed t c f ≡ closed-by s
   unfolding outcome
   line-closes l e =
       request-closes (request-of (reading l)) (got (record-of (outcome s l .answer)) (sym (said-is s l) ∙ e))
@@ -252,6 +268,25 @@ floor-is ls =
     subst⁻¹ (λ (x : Day). Floor (day-of ls) x) (state-is blank ls)
     (subst⁻¹ (λ (xs : List Exchange). Floor (history xs) (final blank (calls-of ls))) (exchanges-are blank ls)
     (demand-3 blank (calls-of ls) (from-blank (calls-of ls))))
+
+noon-is : (ls : List (List ℕ)) → Noon-floor (day-of ls) (after-lines blank ls)
+noon-is ls =
+    subst⁻¹ (λ (x : Day). Noon-floor (day-of ls) x) (state-is blank ls)
+    (subst⁻¹ (λ (xs : List Exchange). Noon-floor (history xs) (final blank (calls-of ls))) (exchanges-are blank ls)
+    (noon-at-end blank (calls-of ls) (from-blank (calls-of ls))))
+
+closing-figures : (ls : List (List ℕ)) (t c f : ℕ) → Closed t c f ≡ closed-by (after-lines blank ls)
+    → (floor-figure (after-lines blank ls) ≤ c) × (c ≤ f) × (f ≡ full (day-of ls .plan) t)
+closing-figures ls t c f e =
+    let s = after-lines blank ls in
+    let n = noon-is ls in
+    let same-t : t ≡ total-takings s = closed-takings t c f _ _ _ e in
+    let same-c : c ≡ total-claim s = closed-claim t c f _ _ _ e in
+    let same-f : f ≡ full (s .plan) (total-takings s) = closed-full t c f _ _ _ e in (
+      subst⁻¹ (λ (x : ℕ). floor-figure s ≤ x) same-c (n .claim-above),
+      subst⁻¹ (λ (x : ℕ). x ≤ f) same-c (subst⁻¹ (λ (x : ℕ). total-claim s ≤ x) same-f (n .claim-below)),
+      same-f ∙ ap₂ full (n .plan-is) (sym same-t),
+    )
 
 agrees-is : (ls : List (List ℕ)) (B : Terms → ℕ) → Buys-alike B → 1 < day-of ls .plan .width
     → Day-agrees B (day-of ls) (after-lines blank ls)
@@ -271,7 +306,10 @@ lines-keep-the-demands ls =
       exchanges-are = exchanges-are blank ls;
       paid-is = p;
       floor = floor-is ls;
-      closing-is = λ l t c f e. line-closes (after-lines blank ls) t c f l e ∙ floor-is ls .takings-is ∙ p;
+      noon = noon-is ls;
+      closing-is = λ l t c f e.
+          closed-takings t c f _ _ _ (line-closes (after-lines blank ls) t c f l e) ∙ floor-is ls .takings-is ∙ p;
+      closing-noon = λ l t c f e. closing-figures ls t c f (line-closes (after-lines blank ls) t c f l e);
       agrees = agrees-is ls;
     }
 

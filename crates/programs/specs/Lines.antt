@@ -3,7 +3,7 @@
 use mathlib.Core.Path.{_≡_}
 use mathlib.Core.Bool.{Bool, true, false, cond, _&&_}
 use mathlib.Core.List.{List, [], _∷_, _++_}
-use Prim.Native.Nat.{ℕ, _+_, _<_}
+use Prim.Native.Nat.{ℕ, _+_, _≤_, _<_}
 use lib.ListN.{take}
 use Rattle.lines.specs.declared.Record.{Record}
 use Rattle.lines.specs.declared.Record.the-variants.{Plan, Campaign, Start, View, Close, Done, Play, Nobody, Refused}
@@ -12,13 +12,16 @@ use Rattle.lines.specs.declared.Reading.{Reading}
 use Rattle.lines.specs.declared.Reading.the-variants.{Got, Refusal}
 use Rattle.lines.specs.Reading.{reading}
 use Rattle.campaigns.specs.declared.Terms.{Terms}
+use Rattle.campaigns.specs.View.{full}
 use Rattle.day.specs.declared.Answer.{Answer}
 use Rattle.day.specs.declared.Day.{Day}
 use Rattle.day.specs.Day.{blank}
 use Rattle.day.specs.Calls.{Call}
+use Rattle.noon.specs.Noon.{floor-figure}
 use Rattle.demands.specs.Transcript.{Exchange, transcript, final}
 use Rattle.floor.specs.History.{History, day-takings, history}
 use Rattle.floor.specs.Floor.{Floor}
+use Rattle.floor.specs.Noon.{Noon-floor}
 use Rattle.refinement.specs.Correspondence.{Buys-alike}
 use Rattle.refinement.specs.Days.{Day-agrees}
 use Rattle.reply.specs.Reply.{Request, request-of, outcome, reply, next}
@@ -121,9 +124,15 @@ pub record Of-lines (ls : List (List ℕ)) : Type 0 where
   pub paid-is : day-takings (day-of ls) ≡ sum-paid ls
   -- demand 3
   pub floor : Floor (day-of ls) (after-lines blank ls)
+  -- the floor at noon, of any lines: so after every line of an input
+  pub noon : Noon-floor (day-of ls) (after-lines blank ls)
   -- a line more that is answered (closed (takings T) ..): T is that sum
   pub closing-is : (l : List ℕ) (t c f : ℕ) → reading (first-line (reply (after-lines blank ls) l)) ≡ Got (Closed t c f)
       → t ≡ sum-paid ls
+  -- and its claim and full are the figures at noon, between which and the floor's figure the claim lies
+  pub closing-noon : (l : List ℕ) (t c f : ℕ)
+      → reading (first-line (reply (after-lines blank ls) l)) ≡ Got (Closed t c f)
+      → (floor-figure (after-lines blank ls) ≤ c) × (c ≤ f) × (f ≡ full (day-of ls .plan) t)
   -- at widths above 1 the views got Algorithm 4's answers
   pub agrees : (B : Terms → ℕ) → Buys-alike B → 1 < day-of ls .plan .width
       → Day-agrees B (day-of ls) (after-lines blank ls)

@@ -34,7 +34,9 @@ use Rattle.demands.proofs.Choice.{player-right}
 use Rattle.floor.specs.History.{accepted, paid-in, History, day-takings, opening, with-call, entered, continued}
 use Rattle.floor.specs.History.{history}
 use Rattle.floor.specs.Floor.{Floor}
+use Rattle.floor.specs.Noon.{Noon-floor}
 use Rattle.floor.proofs.Floor.{demand-3}
+use Rattle.floor.proofs.Noon.{noon-at-end}
 use Rattle.replay.specs.declared.Replayed.{Replayed}
 use Rattle.replay.specs.Replay.{call-in, decode, Replays}
 use Rattle.replay.specs.Contracts.{at, Runs}
@@ -250,4 +252,6 @@ replayed s ws i s₁ p l k =
       paid-is = sym (k .takings-are) ∙ ap day-takings day;
       demand-3 = λ st.
           subst⁻¹ (λ (d : Day). Floor (history (transcript s (decode ws))) d) ran (demand-3 s (decode ws) st);
+      noon = λ st.
+          subst⁻¹ (λ (d : Day). Noon-floor (history (transcript s (decode ws))) d) ran (noon-at-end s (decode ws) st);
     }

@@ -9,6 +9,7 @@ use Rattle.day.specs.Calls.Call.{open-plan, add-campaign, start-day, show-view,
 use Rattle.demands.specs.Transcript.{transcript, final}
 use Rattle.floor.specs.History.{Starts, day-takings, history}
 use Rattle.floor.specs.Floor.{Floor}
+use Rattle.floor.specs.Noon.{Noon-floor}
 use Rattle.replay.specs.declared.Replayed.{Replayed}
 
 -- the call that three words encode: kinds 0 to 5 stand for the six calls in this order, and any other kind is no call
@@ -49,3 +50,5 @@ pub record Replays (s : Day) (words : List ℕ) (r : Replayed) : Type 0 where
   pub paid-is : r .paid ≡ day-takings (history (transcript s (decode words)))
   -- demand 3 of these calls
   pub demand-3 : Starts s (decode words) → Floor (history (transcript s (decode words))) (r .day)
+  -- and the floor at noon, of the state handed back
+  pub noon : Starts s (decode words) → Noon-floor (history (transcript s (decode words))) (r .day)

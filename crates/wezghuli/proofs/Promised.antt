@@ -19,6 +19,7 @@ use Rattle.day.specs.Calls.{Call, call, number, answered, result, view-answer, 
 use Rattle.questions.specs.Questions.{first-failed}
 use Rattle.day.specs.Calls.Call.{open-plan, add-campaign, start-day, show-view, ask-tally, close-day}
 use Rattle.day.specs.Day as states
+use Rattle.noon.specs.Noon as noon
 use Rattle.lines.specs.declared.Record.{Record}
 use Rattle.lines.specs.Form.{in-range}
 use Rattle.lines.specs.OneText as read
@@ -32,9 +33,10 @@ use Rattle.stream.specs.declared.feed.Fed.{Fed}
 use Rattle.stream.specs.declared.feed.Stream.{Stream}
 use Rattle.stream.specs.Stream.{finished, session-of, stream-at, stream-of, consumed-bytes, handed-back, answered-in}
 use Rattle.stream.specs.Stream.{Comes-to, Feeds, Finishes}
-use Rattle.encoding.specs.Encoding.{is-head, is-form, record-of}
+use Rattle.encoding.specs.Encoding.{is-head, head-of, is-form, record-of}
 use Rattle.encoding.proofs.Faithful.{faithful}
-use Rattle.wezghuli.specs.Library.{Memory, state, outcome, stored, status, after, read-status, write-status}
+use Rattle.wezghuli.specs.Library.{Memory, state, outcome, stored, status, after, noon-status}
+use Rattle.wezghuli.specs.Library.{write-status}
 use Rattle.wezghuli.specs.Library.{Lent, stream-in, status-in, come-to, feed-after, finish-after}
 use Rattle.wezghuli.specs.Library.{Page-lent, day-in, page-status}
 use Rattle.wezghuli.specs.Promises.{Promises, handed-in}
@@ -152,6 +154,18 @@ call-refusal : (k : Call) (m : Memory) → is-head (m .head) ≡ true → status
 unfolding status
 call-refusal k m e = rw e (call-small (state m) k)
 
+-- the figures at noon
+noon-small : (s : Day) → noon.number (noon.at-noon s) < 100
+unfolding noon.at-noon first-failed
+noon-small s = go (states.sound s)
+  where
+    go : (b : Bool) → noon.number (noon.answered (cond b 0 1) (noon.figures-of s)) < 100
+    go true = omega arith
+    go false = omega arith
+
+noon-refusal : (h t n : List ℕ) → is-head h ≡ true → noon-status h t n < 100
+noon-refusal h t n e = rw e (noon-small (state-of (head-of h) t n))
+
 -- reading and writing
 says-small : {l : List ℕ} {q : ℕ} {v : List ℕ} → read.Says l q v → q < 100
 says-small (read.a-text r i) = omega arith
@@ -186,6 +200,7 @@ promises = record {
   feeds = feeds;
   finishes = finishes;
   call-refusal = call-refusal;
+  noon-refusal = noon-refusal;
   read-refusal = λ l. says-small (one-text .says l);
   write-refusal = write-refusal;
   page-refusal = page-refusal;

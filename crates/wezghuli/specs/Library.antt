@@ -10,6 +10,10 @@ use Rattle.day.specs.Day.{state-of}
 use Rattle.day.specs.Calls.{Call, call, number}
 use Rattle.day.specs.Calls.Call.{open-plan, add-campaign, show-view}
 use Rattle.day.specs.Day as states
+use Rattle.noon.specs.declared.Noon.{Noon}
+use Rattle.noon.specs.declared.Noon.the-variants.{Refused, Figures}
+use Rattle.noon.specs.Noon.{at-noon}
+use Rattle.noon.specs.Noon as noon
 use Rattle.lines.specs.declared.Reading.{Reading}
 use Rattle.lines.specs.declared.Reading.the-variants as reading
 use Rattle.lines.specs.OneText as read
@@ -64,6 +68,21 @@ status c m = cond (is-head (m .head)) (number (outcome c m .answer)) no-head
 
 unfoldable pub after : Call → Memory → Memory
 after c m = cond (is-head (m .head)) (stored (outcome c m) (m .answer)) m
+
+-- the figures at noon: 0 with full, the total claim and the floor's figure; the number of the question that failed, or
+-- 100, with them as they were
+abbrev pub noon-in : (head terms counts : List ℕ) → Noon
+noon-in h t n = at-noon (state-of (head-of h) t n)
+
+abbrev pub noon-status : (head terms counts : List ℕ) → ℕ
+noon-status h t n = cond (is-head h) (noon.number (noon-in h t n)) no-head
+
+abbrev pub figures-into : Noon → List ℕ → List ℕ
+figures-into (Refused q) l = l
+figures-into (Figures x c f) l = x ∷ c ∷ f ∷ []
+
+abbrev pub figures-after : (head terms counts figures : List ℕ) → List ℕ
+figures-after h t n l = cond (is-head h) (figures-into (noon-in h t n) l) l
 
 -- reading a line: 0, or the number of the question that failed with the record as it was
 abbrev pub read-status : (line : List ℕ) → ℕ

@@ -9,8 +9,8 @@ use Rattle.day.specs.Calls.{Call, call}
 use Rattle.stream.specs.declared.feed.Fed.{Fed}
 use Rattle.stream.specs.Stream.{Feeds, Finishes}
 use Rattle.encoding.specs.Encoding.{is-head, is-form}
-use Rattle.wezghuli.specs.Library.{Memory, state, status, after, read-status, write-status}
-use Rattle.wezghuli.specs.Library.{Lent, stream-in, status-in, feed-after, finish-after}
+use Rattle.wezghuli.specs.Library.{Memory, state, status, after, noon-status, read-status}
+use Rattle.wezghuli.specs.Library.{write-status, Lent, stream-in, status-in, feed-after, finish-after}
 use Rattle.wezghuli.specs.Library.{Page-lent, page-status}
 
 -- what the lent memory says that a stream handed back
@@ -29,6 +29,7 @@ pub record Promises : Type 0 where
       → Finishes (stream-in m) (m .out) (finish-after m .out) (handed-in (finish-after m))
   -- no refusal has the status of a misuse
   pub call-refusal : (k : Call) (m : Memory) → is-head (m .head) ≡ true → status k m < 100
+  pub noon-refusal : (head terms counts : List ℕ) → is-head head ≡ true → noon-status head terms counts < 100
   pub read-refusal : (line : List ℕ) → read-status line < 100
   pub write-refusal : (words out : List ℕ) → is-form words ≡ true → write-status words out < 100
   pub page-refusal : (m : Page-lent) (out : List ℕ) → is-head (m .head) ≡ true → page-status m out < 100

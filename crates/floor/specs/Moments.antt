@@ -1,0 +1,60 @@
+-- The figures at noon of a few days, after each of their calls; and a sound state that no list of calls reaches, on
+-- which the floor at noon fails: that it holds is a matter of history.
+use mathlib.Core.Path.{_≡_}
+use mathlib.Core.Bool.{true, cond}
+use mathlib.Core.List.{List, [], _∷_}
+use Prim.Native.Nat.{_≤_}
+use lib.Dec.{eqb}
+use Rattle.campaigns.specs.declared.Phase.the-variants.{Running}
+use Rattle.campaigns.specs.Campaign.{fresh}
+use Rattle.campaigns.specs.View.{full}
+use Rattle.day.specs.declared.Day.{Day}
+use Rattle.day.specs.Day.{state-with, no-terms, blank, total-takings, sound}
+use Rattle.day.specs.Calls.{Call, call}
+use Rattle.day.specs.Calls.Call.{start-day, close-day}
+use Rattle.noon.specs.declared.Noon.{Noon}
+use Rattle.noon.specs.declared.Noon.the-variants.{Figures}
+use Rattle.noon.specs.Noon.{floor-figure, at-noon}
+use Rattle.demands.specs.Transcript.{final}
+use Rattle.demands.specs.Cases.{plan, campaign-of, view}
+
+-- the figures after each call
+unfoldable pub moments : Day → List Call → List Noon
+moments s [] = []
+moments s (c ∷ cs) = at-noon (call s c .day) ∷ moments (call s c .day) cs
+
+-- document 01's listing, at depth 2 and width 2
+abbrev pub first-day : List Call
+first-day = plan 2 2 ∷ campaign-of 5 10 ∷ campaign-of 3 6 ∷ start-day ∷ view 3 ∷ view 3 ∷ view 3 ∷ view 1 ∷ view 2 ∷
+    close-day ∷ []
+
+-- another day behind it, at depth 1: its figures begin again
+abbrev pub second-day : List Call
+second-day = plan 1 2 ∷ campaign-of 2 2 ∷ campaign-of 1 1 ∷ start-day ∷ view 3 ∷ []
+
+-- a day of width 1: a play is due once the campaign was named twice, and a cent is left over
+abbrev pub width-1 : List Call
+width-1 = plan 2 1 ∷ campaign-of 3 7 ∷ start-day ∷ view 1 ∷ view 1 ∷ view 1 ∷ view 1 ∷ view 1 ∷ []
+
+-- what nothing was paid for
+abbrev pub nothing : Noon
+nothing = Figures 0 0 0
+
+pub record Moments : Type 0 where
+  pub listing : moments blank first-day ≡
+      nothing ∷ nothing ∷ nothing ∷ nothing ∷ Figures 20 18 0 ∷ Figures 32 29 24 ∷ Figures 52 42 24 ∷
+      Figures 52 42 39 ∷ Figures 64 48 48 ∷ Figures 64 48 48 ∷ []
+  pub next-day : moments (final blank first-day) second-day ≡
+      nothing ∷ nothing ∷ nothing ∷ nothing ∷ Figures 4 3 3 ∷ []
+  pub narrow : moments blank width-1 ≡
+      nothing ∷ nothing ∷ nothing ∷ Figures 3 3 0 ∷ Figures 6 6 3 ∷ Figures 6 6 3 ∷ Figures 6 6 6 ∷ Figures 6 6 6 ∷ []
+
+-- depth 1, width 1, five accepted views: a campaign of price 1 and five plays that each of them named and none played
+abbrev pub unplayed : Day
+unplayed = state-with Running (record { depth = 1; width = 1 }) 1 5 (λ i. cond (eqb i 0)
+    (record { price = 1; budget = 5; plays = 0; turns = 0; age = 0; named = 5 }) (fresh no-terms))
+
+pub record Needs-history : Type 0 where
+  pub is-sound : sound unplayed ≡ true
+  pub figures-are : at-noon unplayed ≡ Figures 0 0 5
+  pub not-kept : floor-figure unplayed ≤ full (unplayed .plan) (total-takings unplayed) → ⊥

@@ -1,0 +1,49 @@
+-- The figures that an owner can compare at noon, or at any other moment of a day (document 02, request 1).
+use mathlib.Core.List.{List, [], _∷_}
+use Prim.Native.Nat.{ℕ, zero, suc, _*_, _/_, min}
+use Rattle.finite.specs.Finite.{sum}
+use Rattle.powers.specs.Power.{share}
+use Rattle.campaigns.specs.declared.Campaign.{Campaign}
+use Rattle.campaigns.specs.Campaign.{whole}
+use Rattle.campaigns.specs.View.{full}
+use Rattle.day.specs.declared.Day.{Day}
+use Rattle.day.specs.Day.{campaign, total-takings, total-claim, sound}
+use Rattle.questions.specs.Questions.{Question, question, first-failed}
+use Rattle.noon.specs.declared.Noon.{Noon}
+use Rattle.noon.specs.declared.Noon.the-variants.{Refused, Figures}
+
+-- what is due to a campaign at depth k: the smaller of whole plays and named / depth rounded down
+unfoldable pub due : (k : ℕ) → Campaign → ℕ
+due k c = min (whole c) (c .named / k)
+
+-- the sum, over campaigns, of price × what is due
+unfoldable pub total-due : Day → ℕ
+total-due s = sum (s .count) (λ i. campaign s i .price * due (s .plan .depth) (campaign s i))
+
+-- the floor's figure: (d^k − (d−1)^k) times that sum
+abbrev pub floor-figure : Day → ℕ
+floor-figure s = share (s .plan .depth) (s .plan .width) * total-due s
+
+-- the number of an answer, 0 where it is accepted, and its values
+abbrev pub number : Noon → ℕ
+number (Refused q) = q
+number (Figures x c f) = 0
+
+abbrev pub values : Noon → List ℕ
+values (Refused q) = q ∷ []
+values (Figures x c f) = x ∷ c ∷ f ∷ []
+
+-- is the state sound; no more is asked
+abbrev pub noon-questions : Day → List Question
+noon-questions s = question 1 (sound s) ∷ []
+
+abbrev pub answered : ℕ → Noon → Noon
+answered zero x = x
+answered (suc q) x = Refused (suc q)
+
+-- full, the total claim and the floor's figure
+abbrev pub figures-of : Day → Noon
+figures-of s = Figures (full (s .plan) (total-takings s)) (total-claim s) (floor-figure s)
+
+unfoldable pub at-noon : Day → Noon
+at-noon s = answered (first-failed (noon-questions s)) (figures-of s)
