@@ -32,9 +32,10 @@ first-day = plan 2 2 ∷ campaign-of 5 10 ∷ campaign-of 3 6 ∷ start-day ∷ 
 abbrev pub second-day : List Call
 second-day = plan 1 2 ∷ campaign-of 2 2 ∷ campaign-of 1 1 ∷ start-day ∷ view 3 ∷ []
 
--- a day of width 1: a play is due once the campaign was named twice, and a cent is left over
+-- a day of width 1: a play is due for every two views that name the campaign, a view of none adds nothing, and a cent
+-- is left over
 abbrev pub width-1 : List Call
-width-1 = plan 2 1 ∷ campaign-of 3 7 ∷ start-day ∷ view 1 ∷ view 1 ∷ view 1 ∷ view 1 ∷ view 1 ∷ []
+width-1 = plan 2 1 ∷ campaign-of 3 7 ∷ start-day ∷ view 1 ∷ view 1 ∷ view 0 ∷ view 1 ∷ view 1 ∷ view 1 ∷ []
 
 -- what nothing was paid for
 abbrev pub nothing : Noon
@@ -47,7 +48,8 @@ pub record Moments : Type 0 where
   pub next-day : moments (final blank first-day) second-day ≡
       nothing ∷ nothing ∷ nothing ∷ nothing ∷ Figures 4 3 3 ∷ []
   pub narrow : moments blank width-1 ≡
-      nothing ∷ nothing ∷ nothing ∷ Figures 3 3 0 ∷ Figures 6 6 3 ∷ Figures 6 6 3 ∷ Figures 6 6 6 ∷ Figures 6 6 6 ∷ []
+      nothing ∷ nothing ∷ nothing ∷ Figures 3 3 0 ∷ Figures 6 6 3 ∷ Figures 6 6 3 ∷ Figures 6 6 3 ∷ Figures 6 6 6 ∷
+      Figures 6 6 6 ∷ []
 
 -- depth 1, width 1, five accepted views: a campaign of price 1 and five plays that each of them named and none played
 abbrev pub unplayed : Day
