@@ -13,7 +13,8 @@ use Rattle.lines.specs.Numeral.{numeral}
 use Rattle.lines.specs.Form.{bytes}
 use Rattle.lines.proofs.Plain.{plain, plain-at}
 use Rattle.page.specs.Page.{Row, Figures, line-length, flush, spaces, cents, row-text, total-text, row-lines}
-use Rattle.page.specs.Page.{page, Row-fits, All-fit, Fits, value, figure-in, read-row, with-row, read-lines, read-page}
+use Rattle.page.specs.Page.{page, Row-fits, All-fit, Fits, value}
+use Rattle.page.specs.Page.{figure-in, read-row, with-row, read-lines, read-page}
 use Rattle.page.proofs.Texts.{flush-length, number-3, number-6, cents-11, cents-14, row-length, total-length}
 use Rattle.page.proofs.Texts.{row-plain, total-plain, value-number, value-amount}
 

@@ -10,7 +10,8 @@ use libc::STDOUT_FILENO;
 use std::num::wrapping_add_u64;
 
 // The state whose page was told, or the blank one; how many reads were made, how many bytes they gave and how many were
-// told, each modulo 2^64; whether the last read gave nothing and whether it failed, and whether every write went through.
+// told, each modulo 2^64; whether the last read gave nothing and whether it failed, and whether every write went
+// through.
 pub struct Wire {
     day: Day,
     reads: u64,

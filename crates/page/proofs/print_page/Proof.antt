@@ -40,7 +40,9 @@ module _ (c : tie.Else1) where
   audit = c .before .before .audited .result
 
   is-sound : sound state ≡ true
-  is-sound = sym (sound-told state audit (c .before .before .audited .ensures)) ∙ not-false (audit .sound) (c .if1 .left)
+  is-sound =
+      let told = sound-told state audit (c .before .before .audited .ensures) in
+      sym told ∙ not-false (audit .sound) (c .if1 .left)
 
   facts : Sound state
   facts = sound-facts state is-sound
