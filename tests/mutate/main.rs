@@ -2,7 +2,7 @@
 //!
 //! mutants ROOT FOLDER [--each N] [--limit SECONDS] [--sample N] [--list | --compile] (CRATE | ID)...
 //! ROOT is the project; FOLDER gets `list`, `results`, the logs in `log` and the copy that is changed. What stands in
-//! `results` is not run again, unless the crate is another by now or the time was too short. ROOT/docs/MUTANTS.md is
+//! `results` is not run again, unless the crate is another by now or the time was too short. ROOT/tests/mutate/MUTANTS.md is
 //! written anew.
 
 mod change;
@@ -285,5 +285,5 @@ fn main() {
         return;
     }
     let text = report::text(&all, &report::read(&results), o.each);
-    fs::write(root.join("docs/MUTANTS.md"), text).expect("the report");
+    fs::write(root.join("tests/mutate/MUTANTS.md"), text).expect("the report");
 }
