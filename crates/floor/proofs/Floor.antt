@@ -12,6 +12,8 @@ use borrow.Author.Tests.{eqb-true, ltb-true, ltb-false}
 use Rattle.finite.specs.Finite.{sum}
 use Rattle.finite.proofs.Sums.{sum-le, sum-eq, sum-mul}
 use Rattle.powers.specs.Power.{share}
+use Rattle.allotments.specs.Allotment.{times}
+use Rattle.allotments.proofs.Takings.{by-campaign, takings-eq}
 use Rattle.campaigns.specs.declared.Phase.{Phase}
 use Rattle.campaigns.specs.declared.Plan.{Plan}
 use Rattle.campaigns.specs.declared.Terms.{Terms}
@@ -27,34 +29,11 @@ use Rattle.day.proofs.State.{Sound, sound-facts, held-at}
 use Rattle.demands.specs.Transcript.{transcript, final}
 use Rattle.demands.proofs.Laws.{claim-of, claim-turns}
 use Rattle.floor.specs.History.{Starts, History, day-takings, history}
-use Rattle.floor.specs.Allotment.{takings-of, times}
 use Rattle.floor.specs.Floor.{trace, price-of, whole-of, falls-short, unstruck, Allotted, Covered, Floor}
-use Rattle.floor.specs.Floor.{Demand-3}
+use Rattle.floor.specs.Floor.{takings-of, Demand-3}
 use Rattle.floor.specs.Due.{due, Dues, At-every-moment}
 use Rattle.floor.proofs.Trace.{turns-reach}
 use Rattle.floor.proofs.Reach.{Reached, reached}
-use Rattle.floor.proofs.Allotment.{double-count}
-
--- past the last campaign there is no price
-price-past : (h : History) (i : ℕ) → length (h .terms) ≤ i → price-of h i ≡ 0
-price-past h i l = ap (λ (t : Terms). t .price) (List·getD-eq-default (h .terms) no-terms l)
-
-unstruck-past : (h : History) (i : ℕ) → length (h .terms) ≤ i → unstruck h i ≡ 0
-unstruck-past h i l = go (falls-short h i)
-  where
-    go : (b : Bool) → cond b 0 (price-of h i) ≡ 0
-    go true = refl
-    go false = price-past h i l
-
--- where no campaign falls short, nothing is struck out
-none-struck : (h : History) → ((i : ℕ) → i < length (h .terms) → falls-short h i ≡ false) → (i : ℕ)
-    → unstruck h i ≡ price-of h i
-none-struck h none i = go (ltb i (length (h .terms))) refl
-  where
-    go : (b : Bool) → ltb i (length (h .terms)) ≡ b → unstruck h i ≡ price-of h i
-    go true e = rw (none i (ltb-true i (length (h .terms)) e))
-    go false e =
-        unstruck-past h i (ltb-false i (length (h .terms)) e) ∙ sym (price-past h i (ltb-false i (length (h .terms)) e))
 
 -- an allotment takes no more than what is due, once the campaigns that fall short are struck out
 module _ (h : History) (deep : 0 < h .plan .depth) (to : ℕ → ℕ) (al : Allotted h to) where
@@ -68,11 +47,11 @@ module _ (h : History) (deep : 0 < h .plan .depth) (to : ℕ → ℕ) (al : Allo
           let w : whole-of h i * h .plan .depth ≤ trace h i .named = omega (arith, ltb-false) in
           mul-le-mul-left (price-of h i) (omega (arith, le-div-iff-mul-le deep .1 w, al .bought i l))
 
-  due-enough : takings-of (unstruck h) (h .views) to ≤ sum (length (h .terms)) (λ i. price-of h i * due h i)
+  due-enough : takings-of h (unstruck h) to ≤ sum (length (h .terms)) (λ i. price-of h i * due h i)
   due-enough =
       omega (
         arith,
-        double-count (length (h .terms)) (unstruck h) (unstruck-past h) (length (h .views)) to,
+        by-campaign (length (h .terms)) (unstruck h) (length (h .views)) to,
         sum-le (length (h .terms)) (λ i. unstruck h i * times (length (h .views)) to i)
             (λ i. price-of h i * due h i) part,
       )
@@ -123,14 +102,14 @@ module _ (s : Day) (h : History) (r : Reached s h) where
   claims-full : total-claim s ≤ full (s .plan) (day-takings h)
   claims-full = subst (λ (x : ℕ). total-claim s ≤ full (s .plan) x) (r .tracks .paid-is) (p .covered)
 
-  covers : (to : ℕ → ℕ) → Allotted h to → Covered h (takings-of (unstruck h) (h .views) to)
+  covers : (to : ℕ → ℕ) → Allotted h to → Covered h (takings-of h (unstruck h) to)
   covers to al =
       subst
-      (λ (pl : Plan). share (pl .depth) (pl .width) * takings-of (unstruck h) (h .views) to ≤ full pl (day-takings h))
+      (λ (pl : Plan). share (pl .depth) (pl .width) * takings-of h (unstruck h) to ≤ full pl (day-takings h))
       (r .tracks .plan-is)
       (le-trans
       (mul-le-mul-left (share (s .plan .depth) (s .plan .width))
-      (subst (λ (n : ℕ). takings-of (unstruck h) (h .views) to ≤ sum n (λ i. price-of h i * due h i)) (r .tracks .many)
+      (subst (λ (n : ℕ). takings-of h (unstruck h) to ≤ sum n (λ i. price-of h i * due h i)) (r .tracks .many)
       (due-enough h (omega (arith, sized .deep, depth-is)) to al)))
       (le-trans claims-due claims-full))
 
@@ -139,8 +118,8 @@ module _ (s : Day) (h : History) (r : Reached s h) where
     floor =
         λ none to al.
         subst (λ (x : ℕ). Covered h x)
-        (sum-eq (length (h .views)) (λ j. unstruck h (to j)) (λ j. price-of h (to j))
-        (λ j l. none-struck h none (to j))) (covers to al);
+        (takings-eq (length (h .terms)) (unstruck h) (price-of h) (length (h .views)) to (λ i l. rw (none i l)))
+        (covers to al);
     struck = covers;
     takings-is = r .tracks .paid-is;
     closed-is =

@@ -1,6 +1,5 @@
 pub mod Trace
 pub mod Reach
-pub mod Allotment
 pub mod Floor
 pub mod Tight
 pub mod Short

@@ -1,0 +1,4 @@
+pub mod Takings
+pub mod Cases
+pub mod Duality
+pub mod Most
