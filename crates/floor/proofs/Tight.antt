@@ -92,5 +92,5 @@ tight-of (x ∷ xs) c = (
 pub tight : Tight exact-days
 unfolding day-of transcript continued call first-failed sound sound-record blank sum count every table total within size
     member width-holds weight share whole claim total-takings total-claim total-budgets sound-plan priced counted
-    uncounted empty sound-campaign best choice
-tight = tight-of exact-days ((refl, refl), ((refl, refl), ((refl, refl), ((refl, refl), ((refl, refl), ((refl, refl), tt)))))) times takings
+    uncounted empty sound-campaign best choice times takings
+tight = tight-of exact-days ((refl, refl), ((refl, refl), ((refl, refl), ((refl, refl), ((refl, refl), ((refl, refl), tt))))))
