@@ -3,3 +3,4 @@ pub mod Lines
 pub mod Pages
 pub mod Streamed
 pub mod Promised
+pub mod Searches

@@ -3,6 +3,7 @@
 // lines has the first bytes of an unfinished line beside it.
 // `include/wezghuli.h` declares these functions, and the constants of `encoding`, to C; a test keeps the two alike.
 pub mod calls;
+pub mod search;
 pub mod station;
 pub mod streams;
 pub mod text;
