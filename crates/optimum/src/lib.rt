@@ -1,7 +1,6 @@
 // What the day could have earned: the search for an allotment with the greatest takings, and its check, for a state of
 // any phase by its head and its two arrays.
 use campaigns::Head;
-use campaigns::entry::wide32;
 use day::ops::audited;
 ghost use mathlib.Core.Path.{_≡_};
 ghost use Prim.Native.Nat.{ℕ, _<_, _≤_};

@@ -1,7 +1,7 @@
 -- What the exported search and check leave: everything as it was where the words are no head, and else what the
 -- operation on a state leaves.
-use mathlib.Core.Path.{_≡_, refl, ap, sym, _∙_, subst}
-use mathlib.Core.Bool.{Bool, true, false}
+use mathlib.Core.Path.{_≡_, refl, ap, _∙_, subst}
+use mathlib.Core.Bool.{true, false}
 use mathlib.Core.List.{List}
 use Prim.Native.Nat.{ℕ, zero, suc}
 use Rattle.finite.proofs.Tests.{never}
