@@ -14,10 +14,10 @@ use borrow.Author.Tests.{le-leb, lt-leb}
 use Rattle.finite.specs.Finite.{sum, one-if, count, every, all}
 use Rattle.finite.proofs.Sums.{sum-zero, sum-next, sum-upto, count-below}
 use Rattle.finite.proofs.Tests.{every-of, every-not, every-next, both-join}
-use Rattle.sets.specs.Set.{member, next}
+use Rattle.sets.specs.Set.{member, next, beyond}
 use Rattle.sets.proofs.Bits.{bit-past, bit-false}
-use Rattle.sets.proofs.Walk.{next-is}
 use Rattle.allotments.specs.Allotment.{at, times, brings, takings}
+use Rattle.allotments.proofs.Walks.{Walking, walking-end, hand-small, hand-in, walking-turn}
 use Rattle.allotments.proofs.Cases.{same-or-not, one-same, one-other}
 use Rattle.certificate.specs.declared.Rest.{Rest}
 use Rattle.certificate.specs.Contracts.{rest-of}
@@ -105,57 +105,47 @@ module _ (n : ℕ) (wholes : List ℕ) (to : ℕ → ℕ) where
     left-end = every-of n (λ i. leb (times j to i) (at wholes i)) (λ i l. le-leb (times j to i) (at wholes i)
         (omega (arith, now .each i l)))
 
--- the walk of a view's names, of which those below i passed
-pub record Walked (view : ℕ) (p : ℕ → Bool) (i : ℕ) : Type 0 where
-  pub most : i ≤ 64
-  pub here : i < 64 → member view i ≡ true
-  pub done : (k : ℕ) → k < i → cond (member view k) (p k) true ≡ true
+-- the walk of a view's names: those that are not left passed
+abbrev Passes : (view : ℕ) → (ℕ → Bool) → ℕ → Type 0
+Passes view p k = cond (member view k) (p k) true ≡ true
+
+abbrev pub Walked : (view : ℕ) → (ℕ → Bool) → (left : ℕ) → Type 0
+Walked view p left = Walking view left (Passes view p)
 
 module _ (view : ℕ) (p : ℕ → Bool) where
-  unnamed : (k : ℕ) → member view k ≡ false → cond (member view k) (p k) true ≡ true
-  unnamed k e = ap (λ (b : Bool). cond b (p k) true) e
+  pub walked-start : view < 2 ^ 64 → Walked view p view
+  walked-start small = record {
+    small = small;
+    part = λ d l m. m;
+    done = λ d l m. ap (λ (b : Bool). cond b (p d) true)
+        m;
+  }
 
-  pub walked-start : (i : ℕ) → i ≡ next view 0 → Walked view p i
-  walked-start i e =
-      let x = next-is view 0 (omega arith) in
-      record {
-        most = omega (arith, x .high);
-        here = λ l. ap (member view) e ∙ x .here (omega arith);
-        done = λ k l.
-            unnamed k (x .gap k (omega arith) (omega arith));
-      }
+  pub walked-end : (n left : ℕ) → n ≤ 64 → left ≡ 0 → Walked view p left → every n (λ k. cond (member view k) (p k)
+      true) ≡ true
+  walked-end n left few e w = every-of n (λ k. cond (member view k) (p k) true) (λ k m. walking-end view left
+      (Passes view p) w e k (omega arith))
 
-  pub walked-next : (i r : ℕ) → i < 64 → Walked view p i → p i ≡ true → r ≡ next view (i + 1) → Walked view p r
-  walked-next i r l now ok e =
-      let x = next-is view (i + 1) (omega arith) in
-      record {
-        most = omega (arith, x .high);
-        here = λ k. ap (member view) e ∙ x .here (omega arith);
-        done = λ k m. go k m (ltb k i) refl;
-      }
-    where
-      tested : (b : Bool) → cond b (p i) true ≡ true
-      tested true = ok
-      tested false = refl
+  module _ (left c : ℕ) (some : left ≡ 0 → ⊥) (c-is : c ≡ next left 0) (w : Walked view p left) where
+    -- the name at hand
+    pub walked-small : c < 64
+    walked-small = hand-small left (w .small) some c c-is
 
-      go : (k : ℕ) → k < r → (b : Bool) → ltb k i ≡ b → cond (member view k) (p k) true ≡ true
-      go k m true q = now .done k (ltb-true k i q)
-      go k m false q = ⊎-elim
-          (λ s. ap (λ (y : ℕ). cond (member view y) (p y) true) s ∙ tested (member view i))
-          (λ ne. unnamed k (next-is view (i + 1) (omega arith) .gap k (omega (arith, ltb-false k i q)) (omega arith)))
-          (same-or-not k i)
+    pub walked-named : member view c ≡ true
+    walked-named = w .part c walked-small (hand-in left (w .small) some c c-is)
 
-  -- the walk went on
-  pub walked-on : (i r : ℕ) → i < 64 → r ≡ next view (i + 1) → (i < r) × (r ≤ 64)
-  walked-on i r l e = let x = next-is view (i + 1) (omega arith) in (omega (arith, x .low), omega (arith, x .high))
+    pub walked-turn : (left' : ℕ) → left' ≡ beyond left c → p c ≡ true → Walked view p left'
+    walked-turn left' e ok =
+        walking-turn left (w .small) some c c-is view left' (Passes view p) (Passes view p) e w (λ d l ne h. h)
+        (tested (member view c))
+      where
+        tested : (b : Bool) → cond b (p c) true ≡ true
+        tested true = ok
+        tested false = refl
 
-  pub walked-end : (n i : ℕ) → n ≤ 64 → 64 ≤ i → Walked view p i → every n (λ k. cond (member view k) (p k) true) ≡ true
-  walked-end n i few l now = every-of n (λ k. cond (member view k) (p k) true) (λ k m. now .done k (omega arith))
-
-  pub walked-stop : (n i : ℕ) → i < n → i < 64 → Walked view p i → p i ≡ false → every n (λ k. cond (member view k)
-      (p k) true) ≡ false
-  walked-stop n i l k now e = every-not n (λ k. cond (member view k) (p k) true) i l
-      (ap (λ (b : Bool). cond b (p i) true) (now .here k) ∙ e)
+    pub walked-stop : (n : ℕ) → c < n → p c ≡ false → every n (λ k. cond (member view k) (p k) true) ≡ false
+    walked-stop n l e = every-not n (λ k. cond (member view k) (p k) true) c l (ap (λ (b : Bool). cond b (p c) true)
+        walked-named ∙ e)
 
 -- the takings of the views below j, each of which adds a price of 32 bits
 abbrev pub Summed : (n : ℕ) (price to : ℕ → ℕ) (j sum : ℕ) → Type 0

@@ -77,9 +77,9 @@ fn view_covered<'a>(
     requires { ⌜ (count ≤ 64) × (count ≤ length (now surplus)) × (within count view ≡ true) ⌝ }
     ensures { λ r. ⌜ r ≡ covered count (at (now (prices .entry))) (at (now (surplus .entry))) view figure ⌝ }
 {
-    let mut i = sets::next_from(view, 0);
-    while i < 64 {
-        let at = i as usize;
+    let mut left = view;
+    while left != 0 {
+        let at = sets::first(left) as usize;
         let price = wide32(prices[at]);
         let own = surplus[at];
         if own < price {
@@ -87,7 +87,7 @@ fn view_covered<'a>(
                 return false;
             }
         }
-        i = sets::next_from(view, i + 1);
+        left = sets::rest(left);
     }
     true
 }

@@ -11,7 +11,7 @@ use Rattle.finite.proofs.Sums.{sum-eq, sum-add}
 use Rattle.finite.proofs.Tests.{never}
 use Rattle.sets.specs.Set.{member, including, without}
 use Rattle.sets.proofs.Algebra.{including-same, including-other, without-member}
-use Rattle.sets.proofs.Walk.{within-member}
+use Rattle.sets.proofs.Bounds.{within-member}
 use Rattle.allotments.specs.Allotment.{at, brings, takings, Certified}
 use Rattle.allotments.proofs.Cases.{same-or-not, true-or-not}
 use Rattle.allotments.proofs.Takings.{by-campaign}

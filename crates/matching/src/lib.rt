@@ -62,11 +62,11 @@ fn freeze(level: &mut [u64; 64], set: u64, price: u64)
     requires { ⌜ length (now level) ≡ 64 ⌝ }
     ensures { λ _. ⌜ Frozen (now (level .entry)) (now (level .exit)) set price ⌝ }
 {
-    let mut c = sets::next_from(set, 0);
-    while c < 64 {
-        let at = c as usize;
+    let mut left = set;
+    while left != 0 {
+        let at = sets::first(left) as usize;
         level[at] = price;
-        c = sets::next_from(set, c + 1);
+        left = sets::rest(left);
     }
 }
 

@@ -32,7 +32,7 @@ fn all_within(count: u64, views: &[u64]) -> bool
 {
     let mut j = 0;
     while j < views.len() {
-        if sets::next_from(views[j], count) < 64 {
+        if !sets::within(views[j], count) {
             return false;
         }
         j += 1;
