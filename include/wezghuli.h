@@ -36,6 +36,8 @@ extern "C" {
 #define WEZGHULI_STATUS_NO_STREAM 102
 /* The buffer for answers is shorter than WEZGHULI_REPLY_ROOM. */
 #define WEZGHULI_STATUS_NO_ROOM 103
+/* What was lent to wezghuli_check is no allotment with figures that fit it. */
+#define WEZGHULI_STATUS_NO_FIT 104
 
 /* The limits of a plan and its campaigns; money is in cents. */
 #define WEZGHULI_MAX_DEPTH 32
@@ -197,6 +199,29 @@ uint64_t wezghuli_finish(uint64_t head[6], uint32_t terms[128], uint16_t counts[
  * Refused, with out and length as they were: 1 the state is not sound, 18 the page does not fit out. */
 uint64_t wezghuli_page(const uint64_t head[6], const uint32_t terms[128], const uint16_t counts[256],
     uint8_t *out, size_t out_len, uint64_t length[1]);
+
+/* Finds an allotment of the views with the greatest takings that the plan of a state of any phase allows, and figures
+ * that show it to be greatest. views are the accepted views in order, each its set of unpaused names. Written are
+ * allotment[j], the campaign that view j goes to or 64 for nobody; surplus[i], the figure of campaign i; and worth[j],
+ * that of view j, all in cents. Entries beyond the views and beyond the campaigns keep their values. The takings are
+ * the sum of the prices of the campaigns in allotment. Which of several greatest allotments is found is free, and so
+ * are its figures: wezghuli_check accepts whatever comes out.
+ * Refused, with all three as they were: 1 the state is not sound, 19 there are more than 256 views, 13 one names a
+ * campaign that is not in the plan, 18 allotment or worth has fewer entries than there are views, or surplus than
+ * campaigns. */
+uint64_t wezghuli_search(const uint64_t head[6], const uint32_t terms[128], const uint16_t counts[256],
+    const uint64_t *views, size_t views_len, uint64_t *allotment, size_t allotment_len,
+    uint64_t *surplus, size_t surplus_len, uint64_t *worth, size_t worth_len);
+
+/* Accepts an allotment with figures for which all of this holds, and rejects all else with WEZGHULI_STATUS_NO_FIT: each
+ * view goes to nobody or to a campaign that it names, no campaign is given more than its whole plays, a campaign's
+ * figure plus a view's is at least the price wherever that view names that campaign, and the campaign figures × whole
+ * plays plus the view figures sum to the takings. No allotment takes more than one that is accepted. The figures may be
+ * any numbers.
+ * Refused: as wezghuli_search. */
+uint64_t wezghuli_check(const uint64_t head[6], const uint32_t terms[128], const uint16_t counts[256],
+    const uint64_t *views, size_t views_len, const uint64_t *allotment, size_t allotment_len,
+    const uint64_t *surplus, size_t surplus_len, const uint64_t *worth, size_t worth_len);
 
 #ifdef __cplusplus
 }

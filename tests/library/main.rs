@@ -29,13 +29,14 @@ const BY_BEHAVIOUR: [&str; 15] = [
 ];
 
 /// Programs in Rust that declare functions of the library.
-const RUST: [&str; 7] = [
+const RUST: [&str; 8] = [
     "examples/rust/day.rs",
     "tests/states/library.rs",
     "tests/lines/product.rs",
     "tests/page/product.rs",
     "bench/lines.rs",
     "bench/page.rs",
+    "bench/search.rs",
     "bench/view/library.rs",
 ];
 

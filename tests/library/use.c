@@ -9,8 +9,9 @@
 
 #include "wezghuli.h"
 
-/* The stack that docs/INTEGRATION.md promises to be enough. */
+/* The stack that docs/INTEGRATION.md promises to be enough, and that of the search, whose chains are up to 64 long. */
 #define STACK_LIMIT 8192
+#define SEARCH_LIMIT 12288
 
 _Static_assert(WEZGHULI_LINE_ROOM == WEZGHULI_MAX_LINE + 1, "the longest line that is read, and its byte 10");
 _Static_assert(sizeof(wezghuli_day) == 1072, "a state has no gaps");
@@ -449,6 +450,102 @@ static void measure(const char *name, void (*run)(void))
     expect(bytes <= STACK_LIMIT, name);
 }
 
+/* What the day could have earned: of the listing's views, with two entries more than are used. */
+static uint64_t shown[257] = {3, 3, 3, 1, 2};
+static uint64_t allotment[259], surplus[66], worth[259];
+static size_t views_shown;
+
+static uint64_t search_with(size_t entries, size_t campaigns, size_t figures)
+{
+    return wezghuli_search(day.head, day.terms, day.counts, shown, views_shown, allotment, entries, surplus, campaigns,
+        worth, figures);
+}
+
+static uint64_t check_with(size_t entries, size_t campaigns, size_t figures)
+{
+    return wezghuli_check(day.head, day.terms, day.counts, shown, views_shown, allotment, entries, surplus, campaigns,
+        worth, figures);
+}
+
+static int untouched(size_t entries, size_t campaigns)
+{
+    for (size_t j = entries; j < 259; j++)
+        if (allotment[j] != 777 || worth[j] != 777)
+            return 0;
+    for (size_t i = campaigns; i < 66; i++)
+        if (surplus[i] != 777)
+            return 0;
+    return 1;
+}
+
+static void forget(void)
+{
+    for (size_t j = 0; j < 259; j++)
+        allotment[j] = worth[j] = 777;
+    for (size_t i = 0; i < 66; i++)
+        surplus[i] = 777;
+}
+
+static void searches(void)
+{
+    uint64_t paid = 0;
+
+    run_day();
+    views_shown = 5;
+    forget();
+    expect(search_with(4, 66, 259) == 18 && search_with(259, 2, 259) == 18 && search_with(259, 66, 4) == 18
+        && untouched(0, 0), "18 leaves all");
+    shown[4] = 8;
+    expect(search_with(0, 0, 0) == 13 && check_with(0, 0, 0) == 13 && untouched(0, 0), "13 before 18");
+    views_shown = 257;
+    expect(search_with(0, 0, 0) == 19 && check_with(0, 0, 0) == 19 && untouched(0, 0), "19 before 13");
+    day.head[WEZGHULI_HEAD_DEPTH] = 0;
+    expect(search_with(0, 0, 0) == 1 && check_with(0, 0, 0) == 1 && untouched(0, 0), "1 before 19");
+    day.head[WEZGHULI_HEAD_PHASE] = 3;
+    expect(search_with(0, 0, 0) == WEZGHULI_STATUS_NO_HEAD && check_with(0, 0, 0) == WEZGHULI_STATUS_NO_HEAD
+        && untouched(0, 0), "no head");
+    run_day();
+    views_shown = 5;
+    shown[4] = 2;
+    expect(search_with(259, 66, 259) == 0 && untouched(5, 3), "found, and entries beyond as they were");
+    for (size_t j = 0; j < 5; j++)
+        paid += allotment[j] < 64 ? day.terms[allotment[j]] : 0;
+    expect(paid == 16, "all that two campaigns can pay");
+    expect(check_with(5, 3, 5) == 0, "the check accepts it");
+    surplus[0]++;
+    expect(check_with(5, 3, 5) == WEZGHULI_STATUS_NO_FIT, "a figure too large");
+    surplus[0] = UINT64_MAX;
+    expect(check_with(5, 3, 5) == WEZGHULI_STATUS_NO_FIT, "a sum that would wrap");
+    expect(search_with(5, 3, 5) == 0, "found again");
+    allotment[0] = 65;
+    expect(check_with(5, 3, 5) == WEZGHULI_STATUS_NO_FIT, "an entry that is nobody's");
+    views_shown = 0;
+    expect(search_with(0, 3, 0) == 0 && check_with(0, 3, 0) == 0, "no views");
+}
+
+/* view j names j and j + 1, and the dearest are served first: the last search goes through all 64 campaigns */
+static void chained(void)
+{
+    search_with(259, 66, 259);
+}
+
+static void longest_chain(void)
+{
+    size_t bytes;
+
+    wezghuli_blank(day.head, day.terms, day.counts);
+    wezghuli_open(day.head, day.terms, day.counts, 1, 1, answer);
+    for (uint64_t i = 0; i < 64; i++)
+        wezghuli_add(day.head, day.terms, day.counts, i + 1, i + 1, answer);
+    for (uint64_t j = 0; j < 63; j++)
+        shown[j] = (uint64_t)3 << j;
+    views_shown = 63;
+    expect(search_with(259, 66, 259) == 0, "the longest chain is searched");
+    bytes = taken(chained);
+    printf("stack of %-10s %5zu bytes of %d\n", "search", bytes, SEARCH_LIMIT);
+    expect(bytes <= SEARCH_LIMIT, "search");
+}
+
 static void stacks(void)
 {
     size_t none = taken(empty);
@@ -498,6 +595,8 @@ int main(void)
     misuse();
     refusals();
     streams();
+    searches();
+    longest_chain();
     stacks();
     printf("%u passed, %u failed\n", passed, failed);
     return failed != 0;

@@ -21,7 +21,7 @@ impl Rng {
 
     // numbers of every length, and those beside a limit
     fn number(&mut self) -> u64 {
-        const LIMITS: [u64; 9] = [0, 1, 9, 10, 18, 63, 4_294_967_295, 9_999_999_999_999_999_999, u64::MAX];
+        const LIMITS: [u64; 9] = [0, 1, 9, 10, 19, 63, 4_294_967_295, 9_999_999_999_999_999_999, u64::MAX];
         match self.below(4) {
             0 => LIMITS[self.below(9)].wrapping_add(self.next() % 3).wrapping_sub(1),
             1 => self.next() % 64,
@@ -97,7 +97,7 @@ const NO_FORMS: [&[u8]; 43] = [
     b"", b"(", b")", b"()", b"(start", b"start)", b"(start) ", b" (start)", b"(start)\n", b"(start)\r", b"\n(start)",
     b"(START)", b"(Start)", b"(start\0", b"(view 64)", b"(view 0 0)", b"(view 1 0)", b"(view  0)", b"(view 0 )",
     b"(view 00)", b"(view 01)", b"(view 0  1)", b"(view 18446744073709551616)", b"(view -1)", b"(refused 0)",
-    b"(refused 19)", b"(play 64 (paid 5))", b"(plan (depth 02) (width 2))", b"(plan (depth 4294967296) (width 2))",
+    b"(refused 20)", b"(play 64 (paid 5))", b"(plan (depth 02) (width 2))", b"(plan (depth 4294967296) (width 2))",
     b"(plan  (depth 2) (width 2))", b"(closed (takings 16) (claim 0) (full 18446744073709551616))",
     b"(campaign (price 1) (budget 4294967296))", b"(nobody\xff", b"(plan (depth ) (width 2))",
     b"(pause)", b"(pause 0)", b"(resume 0)", b"(resume 1)", b"(tally 0)", b"(tally 63)", b"(closed)", b"(play 0)",
@@ -115,7 +115,7 @@ fn edges(t: &mut Tally) {
     t.expect(b"(ok)", Ok((5, &[])));
     t.expect(b"(play 63 (paid 5))", Ok((6, &[63, 5])));
     t.expect(b"(nobody)", Ok((7, &[])));
-    t.expect(b"(refused 18)", Ok((8, &[18])));
+    t.expect(b"(refused 19)", Ok((8, &[19])));
     t.expect(b"(closed (takings 16) (claim 0) (full 18446744073709551615))", Ok((9, &[16, 0, u64::MAX])));
     t.expect(b"(tally 0 (plays 2) (turns 2) (age 0) (named 4))", Ok((10, &[0, 2, 2, 0, 4])));
     NO_FORMS.iter().for_each(|line| t.expect(line, NO));
@@ -127,7 +127,7 @@ fn edges(t: &mut Tally) {
     let full = second::print(&Rec { form: 3, numbers: [u64::MAX, 0, 0, 0, 0] });
     t.expect(full.as_bytes(), Ok((3, &[u64::MAX])));
     for form in 0..11 {
-        for n in [0, 1, 18, 19, 63, 64, 4294967295, 4294967296, u64::MAX] {
+        for n in [0, 1, 19, 20, 63, 64, 4294967295, 4294967296, u64::MAX] {
             let r = Rec { form, numbers: [n; 5] };
             let len = second::print(&r).len() + 1;
             [0, 1, len - 1, len, len + 1, 300].iter().for_each(|room| t.write(&r, *room));

@@ -107,3 +107,6 @@ no-stream = 102
 
 abbrev pub no-room : ℕ
 no-room = 103
+
+abbrev pub no-fit : ℕ
+no-fit = 104

@@ -27,6 +27,9 @@ pub const STATUS_NO_STREAM: u64 = 102;
 // There is no room for the longest answer.
 pub const STATUS_NO_ROOM: u64 = 103;
 
+// What was lent to the check is no allotment with figures that fit it.
+pub const STATUS_NO_FIT: u64 = 104;
+
 // The words of a head.
 pub const HEAD_PHASE: usize = 0;
 

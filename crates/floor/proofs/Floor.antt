@@ -11,6 +11,8 @@ use lib.ListN.{length, List·getD-eq-default}
 use borrow.Author.Tests.{eqb-true, ltb-true, ltb-false}
 use Rattle.finite.proofs.Sums.{sum-le, sum-eq}
 use Rattle.powers.specs.Power.{share}
+use Rattle.allotments.specs.Allotment.{times}
+use Rattle.allotments.proofs.Takings.{by-campaign, takings-eq}
 use Rattle.campaigns.specs.declared.Phase.{Phase}
 use Rattle.campaigns.specs.declared.Plan.{Plan}
 use Rattle.campaigns.specs.declared.Terms.{Terms}
@@ -23,34 +25,11 @@ use Rattle.day.specs.Calls.{Call}
 use Rattle.day.proofs.State.{Sound, sound-facts}
 use Rattle.demands.specs.Transcript.{transcript, final}
 use Rattle.floor.specs.History.{Starts, History, history}
-use Rattle.floor.specs.Allotment.{takings-of, times}
 use Rattle.floor.specs.Floor.{trace, price-of, whole-of, falls-short, unstruck, Allotted, Covered, Floor}
-use Rattle.floor.specs.Floor.{Demand-3}
+use Rattle.floor.specs.Floor.{takings-of, Demand-3}
 use Rattle.floor.specs.Noon.{due-of, day-due}
 use Rattle.floor.proofs.Reach.{Reached, reached}
 use Rattle.floor.proofs.Noon.{floor-day}
-use Rattle.floor.proofs.Allotment.{double-count}
-
--- past the last campaign there is no price
-price-past : (h : History) (i : ℕ) → length (h .terms) ≤ i → price-of h i ≡ 0
-price-past h i l = ap (λ (t : Terms). t .price) (List·getD-eq-default (h .terms) no-terms l)
-
-unstruck-past : (h : History) (i : ℕ) → length (h .terms) ≤ i → unstruck h i ≡ 0
-unstruck-past h i l = go (falls-short h i)
-  where
-    go : (b : Bool) → cond b 0 (price-of h i) ≡ 0
-    go true = refl
-    go false = price-past h i l
-
--- where no campaign falls short, nothing is struck out
-none-struck : (h : History) → ((i : ℕ) → i < length (h .terms) → falls-short h i ≡ false) → (i : ℕ)
-    → unstruck h i ≡ price-of h i
-none-struck h none i = go (ltb i (length (h .terms))) refl
-  where
-    go : (b : Bool) → ltb i (length (h .terms)) ≡ b → unstruck h i ≡ price-of h i
-    go true e = rw (none i (ltb-true i (length (h .terms)) e))
-    go false e =
-        unstruck-past h i (ltb-false i (length (h .terms)) e) ∙ sym (price-past h i (ltb-false i (length (h .terms)) e))
 
 -- an allotment takes no more than what is due, once the campaigns that fall short are struck out
 module _ (h : History) (deep : 0 < h .plan .depth) (to : ℕ → ℕ) (al : Allotted h to) where
@@ -64,11 +43,11 @@ module _ (h : History) (deep : 0 < h .plan .depth) (to : ℕ → ℕ) (al : Allo
           let w : whole-of h i * h .plan .depth ≤ trace h i .named = omega (arith, ltb-false) in
           mul-le-mul-left (price-of h i) (omega (arith, le-div-iff-mul-le deep .1 w, al .bought i l))
 
-  due-enough : takings-of (unstruck h) (h .views) to ≤ day-due h
+  due-enough : takings-of h (unstruck h) to ≤ day-due h
   due-enough =
       omega (
         arith,
-        double-count (length (h .terms)) (unstruck h) (unstruck-past h) (length (h .views)) to,
+        by-campaign (length (h .terms)) (unstruck h) (length (h .views)) to,
         sum-le (length (h .terms)) (λ i. unstruck h i * times (length (h .views)) to i)
             (λ i. price-of h i * due-of h i) part,
       )
@@ -77,7 +56,7 @@ module _ (s : Day) (h : History) (r : Reached s h) where
   p : Sound s
   p = sound-facts s (r .is-sound)
 
-  covers : (to : ℕ → ℕ) → Allotted h to → Covered h (takings-of (unstruck h) (h .views) to)
+  covers : (to : ℕ → ℕ) → Allotted h to → Covered h (takings-of h (unstruck h) to)
   covers to al =
       let deep : 0 < h .plan .depth =
       subst (λ (pl : Plan). 0 < pl .depth) (r .tracks .plan-is) (plan-sized (s .plan) (p .plan-sound) .deep) in
@@ -88,8 +67,8 @@ module _ (s : Day) (h : History) (r : Reached s h) where
     floor =
         λ none to al.
         subst (λ (x : ℕ). Covered h x)
-        (sum-eq (length (h .views)) (λ j. unstruck h (to j)) (λ j. price-of h (to j))
-        (λ j l. none-struck h none (to j))) (covers to al);
+        (takings-eq (length (h .terms)) (unstruck h) (price-of h) (length (h .views)) to (λ i l. rw (none i l)))
+        (covers to al);
     struck = covers;
     takings-is = r .tracks .paid-is;
     closed-is =

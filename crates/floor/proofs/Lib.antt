@@ -1,6 +1,5 @@
 pub mod Trace
 pub mod Reach
-pub mod Allotment
 pub mod Noon
 pub mod Floor
 pub mod Moments

@@ -13,6 +13,7 @@ use Rattle.finite.specs.Finite.{one-if, total}
 use Rattle.finite.proofs.Tests.{never, one-more}
 use Rattle.finite.proofs.Sums.{sum-zero}
 use Rattle.finite.proofs.Tables.{total-snoc}
+use Rattle.sets.specs.Set.{within}
 use Rattle.campaigns.specs.declared.Phase.{Phase}
 use Rattle.campaigns.specs.declared.Phase.the-variants.{Filling, Running, Closed}
 use Rattle.campaigns.specs.declared.Plan.{Plan}
@@ -41,7 +42,7 @@ use Rattle.demands.proofs.Refusals.{result-number}
 use Rattle.floor.specs.History.{accepted, Starts, History, day-takings, opening, paid-in, with-call, entered}
 use Rattle.floor.specs.History.{continued, history}
 use Rattle.floor.specs.History.Starts.{from-blank, from-opening}
-use Rattle.floor.specs.Floor.{trace}
+use Rattle.floor.specs.Floor.{trace, no-view, names-at}
 use Rattle.floor.proofs.Trace.{Follows, follows-fresh, follows-view}
 
 -- the state s holds the day h
@@ -51,6 +52,7 @@ pub record Tracks (s : Day) (h : History) : Type 0 where
   pub follows : (i : ℕ) → i < s .count → Follows (s .plan) (trace h i) (campaign s i)
   pub paid-is : total-takings s ≡ day-takings h
   pub unviewed : is-filling (s .phase) ≡ true → h .views ≡ []
+  pub inside : (j : ℕ) → j < length (h .views) → within (s .count) (names-at h j) ≡ true
 
 tracks-opening : (p : Phase) (pl : Plan) → Tracks (empty-plan p pl) (opening pl)
 unfolding total-takings total
@@ -61,6 +63,7 @@ tracks-opening p pl =
       follows = λ i l. absurd (not-suc-le-zero l);
       paid-is = sum-zero _;
       unviewed = λ _. refl;
+      inside = λ j l. absurd (not-suc-le-zero l);
     }
 
 tracks-blank : Tracks blank (opening blank-plan)
@@ -108,6 +111,9 @@ module _ (s : Day) (h : History) (e : sound s ≡ true) (k : Tracks s h) where
               sum-state-with Filling (s .plan) (s .count + 1) (s .accepted) (with-campaign s t) spending few
               ∙ takings-with-campaign s t ∙ k .paid-is;
           unviewed = λ _. k .unviewed (y .1 .0);
+          inside =
+              λ j l.
+              absurd (not-suc-le-zero (subst (λ (vs : List View). j < length vs) (k .unviewed (y .1 .0)) l));
         }
       where
         old : (j : ℕ) → j < s .count → Follows (s .plan) (trace more j) (with-campaign s t j)
@@ -122,7 +128,7 @@ module _ (s : Day) (h : History) (e : sound s ≡ true) (k : Tracks s h) where
             rw (snoc-last (h .terms) t (s .count) (k .many), with-campaign-new s t, k .unviewed (y .1 .0))
             (follows-fresh (s .plan) t)
 
-  module _ (w : View) where
+  module _ (w : View) (y : Yes (questions s (show-view w))) where
     tracks-view : (a : Answer) → paid-in a ≡ paid (offers s w) (player s w)
         → Tracks (result s (show-view w) .day) (with-call h (show-view w) a)
     unfolding total-takings total
@@ -147,6 +153,12 @@ module _ (s : Day) (h : History) (e : sound s ≡ true) (k : Tracks s h) where
             total-snoc paid-in (h .answers) a,
           );
       unviewed = λ z. absurd (never false refl z);
+      inside =
+          λ j l.
+          one-more (λ i. within (s .count) (getD (h .views ++ (w ∷ [])) i no-view .set) ≡ true) (length (h .views))
+          (λ i m. rw (List·getD-append (h .views) (w ∷ []) no-view i m) (k .inside i m))
+          (rw (getD-append-seam (h .views) w [] no-view) (y .1 .1 .1 .0))
+          j (omega (arith, length-append (h .views) (w ∷ [])));
     }
 
   keeps-result : (c : Call) → Yes (questions s c) → Tracks (result s c .day) (with-call h c (result s c .answer))
@@ -160,9 +172,10 @@ module _ (s : Day) (h : History) (e : sound s ≡ true) (k : Tracks s h) where
         follows = k .follows;
         paid-is = k .paid-is;
         unviewed = λ z. absurd (never false refl z);
+        inside = k .inside;
       }
   keeps-result (show-view w) y =
-      tracks-view w (view-answer (offers s w) (player s w)) (view-answer-paid (offers s w) (player s w))
+      tracks-view w y (view-answer (offers s w) (player s w)) (view-answer-paid (offers s w) (player s w))
   keeps-result (ask-tally i) y = k
   keeps-result close-day y =
       record {
@@ -171,6 +184,7 @@ module _ (s : Day) (h : History) (e : sound s ≡ true) (k : Tracks s h) where
         follows = k .follows;
         paid-is = k .paid-is;
         unviewed = λ z. absurd (never false refl z);
+        inside = k .inside;
       }
 
   keeps : (c : Call) → Keeps h c (call s c)

@@ -8,6 +8,7 @@ use borrow.Author.Tests.{leb-true}
 use Rattle.finite.specs.Finite.{sum, count, every, table, total}
 use Rattle.sets.specs.Set.{member, size, within}
 use Rattle.powers.specs.Power.{weight, share}
+use Rattle.allotments.specs.Allotment.{times, takings}
 use Rattle.campaigns.specs.Choice.{best, choice}
 use Rattle.campaigns.specs.Campaign.{whole, claim, sound-plan, priced, counted, uncounted, empty, sound-campaign}
 use Rattle.audit.specs.Sound.{sound-record}
@@ -19,8 +20,7 @@ use Rattle.day.specs.Calls.{call}
 use Rattle.demands.specs.Transcript.{transcript}
 use Rattle.floor.specs.History.{History, continued}
 use Rattle.floor.specs.History.Starts.{from-blank}
-use Rattle.floor.specs.Allotment.{takings-of}
-use Rattle.floor.specs.Floor.{price-of, unstruck, falls-short, Allotted, Covered}
+use Rattle.floor.specs.Floor.{price-of, unstruck, falls-short, Allotted, takings-of, Covered}
 use Rattle.floor.specs.Short.{short-calls, short-day, short-to, Proviso-needed}
 use Rattle.floor.proofs.Tight.{allotted-of}
 
@@ -45,11 +45,11 @@ record Computed (h : History) : Type 0 where
   allotted : Allotted h short-to
   enough : falls-short h 0 ≡ false
   short : falls-short h 1 ≡ true
-  not-covered : Covered h (takings-of (price-of h) (h .views) short-to) → ⊥
-  covered : Covered h (takings-of (unstruck h) (h .views) short-to)
+  not-covered : Covered h (takings-of h (price-of h) short-to) → ⊥
+  covered : Covered h (takings-of h (unstruck h) short-to)
 
 computed : Computed day
-unfolding day sum count every total member share whole
+unfolding day sum count every total member share whole times takings
 computed = record {
   allotted = allotted-of day short-to refl refl;
   enough = refl;

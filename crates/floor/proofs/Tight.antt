@@ -11,6 +11,8 @@ use Rattle.finite.specs.Finite.{sum, count, every, all, table, total}
 use Rattle.finite.proofs.Tests.{all-parts, every-at}
 use Rattle.sets.specs.Set.{member, size, within}
 use Rattle.powers.specs.Power.{weight, share}
+use Rattle.allotments.specs.Allotment.{times, takings, entry-fits}
+use Rattle.allotments.proofs.Takings.{entry-given}
 use Rattle.campaigns.specs.Choice.{best, choice}
 use Rattle.campaigns.specs.Campaign.{whole, claim, sound-plan, priced, counted, uncounted, empty, sound-campaign}
 use Rattle.campaigns.specs.View.{names, full}
@@ -23,43 +25,32 @@ use Rattle.day.specs.Calls.{call}
 use Rattle.demands.specs.Transcript.{transcript}
 use Rattle.floor.specs.History.{History, day-takings, continued, history}
 use Rattle.floor.specs.History.Starts.{from-blank}
-use Rattle.floor.specs.Allotment.{times, view-at, takings-of}
-use Rattle.floor.specs.Floor.{price-of, whole-of, falls-short, Allotted}
+use Rattle.floor.specs.Floor.{price-of, whole-of, falls-short, names-at, Allotted, takings-of}
 use Rattle.floor.specs.Tight.{Met, Exact, exact-days, calls-of, Tight}
 
 -- the tests that a computed day passes
 abbrev met-tests : History → (ℕ → ℕ) → List Bool
 met-tests h to =
     every (length (h .terms)) (λ i. not (falls-short h i)) ∷ ltb 0 (day-takings h) ∷ every (length (h .views))
-    (λ j. eqb (to j) 64 || names (view-at (h .views) j) (to j)) ∷
+    (λ j. entry-fits (names-at h j) (to j)) ∷
     every (length (h .terms)) (λ i. leb (times (length (h .views)) to i) (whole-of h i)) ∷
-    eqb (share (h .plan .depth) (h .plan .width) * takings-of (price-of h) (h .views) to)
+    eqb (share (h .plan .depth) (h .plan .width) * takings-of h (price-of h) to)
     (full (h .plan) (day-takings h)) ∷ []
-
-either : (a b : Bool) → (a || b) ≡ true → (a ≡ true) ⊎ (b ≡ true)
-either true b e = inl refl
-either false b e = inr e
 
 -- an allotment, by two tests
 pub allotted-of : (h : History) (to : ℕ → ℕ)
-    → every (length (h .views)) (λ j. eqb (to j) 64 || names (view-at (h .views) j) (to j)) ≡ true
+    → every (length (h .views)) (λ j. entry-fits (names-at h j) (to j)) ≡ true
     → every (length (h .terms)) (λ i. leb (times (length (h .views)) to i) (whole-of h i)) ≡ true → Allotted h to
 allotted-of h to g b = record {
   given =
       λ j l.
-      given j
-      (either (eqb (to j) 64) (names (view-at (h .views) j) (to j))
-      (every-at (length (h .views)) (λ j. eqb (to j) 64 || names (view-at (h .views) j) (to j)) g j l));
+      entry-given (names-at h j) (to j)
+      (every-at (length (h .views)) (λ j. entry-fits (names-at h j) (to j)) g j l);
   bought =
       λ i l.
       leb-true (times (length (h .views)) to i) (whole-of h i)
       (every-at (length (h .terms)) (λ i. leb (times (length (h .views)) to i) (whole-of h i)) b i l);
 }
-  where
-    given : (j : ℕ) → (eqb (to j) 64 ≡ true) ⊎ (names (view-at (h .views) j) (to j) ≡ true)
-        → (to j ≡ 64) ⊎ (names (view-at (h .views) j) (to j) ≡ true)
-    given j (inl a) = inl (eqb-true (to j) 64 a)
-    given j (inr b) = inr b
 
 met-of : (h : History) (to : ℕ → ℕ) → all (met-tests h to) ≡ true → Met h to
 met-of h to e =
@@ -101,5 +92,5 @@ tight-of (x ∷ xs) c = (
 pub tight : Tight exact-days
 unfolding day-of transcript continued call first-failed sound sound-record blank sum count every table total within size
     member width-holds weight share whole claim total-takings total-claim total-budgets sound-plan priced counted
-    uncounted empty sound-campaign best choice
+    uncounted empty sound-campaign best choice times takings
 tight = tight-of exact-days ((refl, refl), ((refl, refl), ((refl, refl), ((refl, refl), ((refl, refl), ((refl, refl), tt))))))

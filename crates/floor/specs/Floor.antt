@@ -7,8 +7,10 @@ use lib.Dec.{ltb}
 use lib.ListN.{getD, length}
 use Rattle.finite.specs.Finite.{one-if, total}
 use Rattle.powers.specs.Power.{share}
+use Rattle.allotments.specs.Allotment.{Allotment, takings}
 use Rattle.campaigns.specs.declared.Phase.the-variants.{Closed}
 use Rattle.campaigns.specs.declared.Terms.{Terms}
+use Rattle.campaigns.specs.declared.View.{View}
 use Rattle.campaigns.specs.Campaign.{whole, fresh}
 use Rattle.campaigns.specs.View.{names, full}
 use Rattle.day.specs.declared.Day.{Day}
@@ -16,7 +18,6 @@ use Rattle.day.specs.Day.{no-terms, total-takings}
 use Rattle.day.specs.Calls.{Call}
 use Rattle.demands.specs.Transcript.{transcript, final}
 use Rattle.floor.specs.History.{History, day-takings, Starts, history}
-use Rattle.floor.specs.Allotment.{Allotment, takings-of}
 
 -- what was handed in about campaign i: its price and budget, and how many of the day's views named it, also after it is
 -- spent
@@ -41,9 +42,19 @@ falls-short h i = ltb (trace h i .named) (h .plan .depth * whole-of h i)
 abbrev pub unstruck : History → ℕ → ℕ
 unstruck h i = cond (falls-short h i) 0 (price-of h i)
 
--- an allotment of the day's accepted views
+-- the names that view j of the day found
+abbrev pub no-view : View
+no-view = record { set = 0 }
+
+abbrev pub names-at : History → ℕ → ℕ
+names-at h j = getD (h .views) j no-view .set
+
+-- an allotment of the day's accepted views, and its takings where a campaign's price is `price`
 abbrev pub Allotted : History → (ℕ → ℕ) → Type 0
-Allotted h to = Allotment (length (h .terms)) (whole-of h) (h .views) to
+Allotted h to = Allotment (length (h .terms)) (whole-of h) (length (h .views)) (names-at h) to
+
+abbrev pub takings-of : History → (price : ℕ → ℕ) → (ℕ → ℕ) → ℕ
+takings-of h price to = takings (length (h .terms)) price (length (h .views)) to
 
 -- (width to the power depth, less (width − 1) to the power depth) × an amount is at most width to the power depth × the
 -- day's takings
@@ -54,9 +65,9 @@ Covered h x = share (h .plan .depth) (h .plan .width) * x ≤ full (h .plan) (da
 pub record Floor (h : History) (s : Day) : Type 0 where
   -- provided that no campaign falls short, the takings of every allotment are covered
   pub floor : ((i : ℕ) → i < length (h .terms) → falls-short h i ≡ false) → (to : ℕ → ℕ) → Allotted h to
-      → Covered h (takings-of (price-of h) (h .views) to)
+      → Covered h (takings-of h (price-of h) to)
   -- in any case they are without the part of the campaigns that fall short
-  pub struck : (to : ℕ → ℕ) → Allotted h to → Covered h (takings-of (unstruck h) (h .views) to)
+  pub struck : (to : ℕ → ℕ) → Allotted h to → Covered h (takings-of h (unstruck h) to)
   -- the takings of the state, and those that its phase holds if it is Closed, are the day's takings
   pub takings-is : total-takings s ≡ day-takings h
   pub closed-is : (x : ℕ) → s .phase ≡ Closed x → x ≡ day-takings h

@@ -1,5 +1,4 @@
 pub mod History
-pub mod Allotment
 pub mod Floor
 pub mod Noon
 pub mod Moments

@@ -11,8 +11,7 @@ use Rattle.day.specs.Calls.Call.{start-day, close-day}
 use Rattle.demands.specs.Transcript.{transcript}
 use Rattle.demands.specs.Cases.{plan, campaign-of, view}
 use Rattle.floor.specs.History.{Starts, History, history}
-use Rattle.floor.specs.Allotment.{takings-of}
-use Rattle.floor.specs.Floor.{price-of, unstruck, falls-short, Allotted, Covered}
+use Rattle.floor.specs.Floor.{price-of, unstruck, falls-short, Allotted, takings-of, Covered}
 
 -- campaigns 0 and 1 of price 2 and budget 3, so of one play with a cent left over; {0, 1} plays 0, and {0} plays nobody
 abbrev pub short-calls : List Call
@@ -32,5 +31,5 @@ pub record Proviso-needed : Type 0 where
   pub allotted : Allotted short-day short-to
   pub enough : falls-short short-day 0 ≡ false
   pub short : falls-short short-day 1 ≡ true
-  pub not-covered : Covered short-day (takings-of (price-of short-day) (short-day .views) short-to) → ⊥
-  pub covered : Covered short-day (takings-of (unstruck short-day) (short-day .views) short-to)
+  pub not-covered : Covered short-day (takings-of short-day (price-of short-day) short-to) → ⊥
+  pub covered : Covered short-day (takings-of short-day (unstruck short-day) short-to)

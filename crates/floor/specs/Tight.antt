@@ -12,15 +12,14 @@ use Rattle.day.specs.Calls.Call.{start-day}
 use Rattle.demands.specs.Transcript.{transcript}
 use Rattle.demands.specs.Cases.{plan, campaign-of, view}
 use Rattle.floor.specs.History.{Starts, History, day-takings, history}
-use Rattle.floor.specs.Allotment.{takings-of}
-use Rattle.floor.specs.Floor.{price-of, falls-short, Allotted}
+use Rattle.floor.specs.Floor.{price-of, falls-short, Allotted, takings-of}
 
 -- no campaign falls short, something is paid, and an allotment makes both sides of the floor equal
 pub record Met (h : History) (to : ℕ → ℕ) : Type 0 where
   pub none-short : (i : ℕ) → i < length (h .terms) → falls-short h i ≡ false
   pub paying : 0 < day-takings h
   pub allotted : Allotted h to
-  pub equal : share (h .plan .depth) (h .plan .width) * takings-of (price-of h) (h .views) to
+  pub equal : share (h .plan .depth) (h .plan .width) * takings-of h (price-of h) to
       ≡ full (h .plan) (day-takings h)
 
 -- a day of campaigns of price 1 and one play each: its views, who plays each of them, and to whom an allotment gives

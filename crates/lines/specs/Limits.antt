@@ -31,9 +31,9 @@ max-campaign = 63
 abbrev pub set-bits : ℕ
 set-bits = 64
 
--- the highest refusal number that document 01 gives; a request that brings another raises it
+-- the highest refusal number that documents 01 and 02 give so far; a request that brings another raises it
 abbrev pub max-question : ℕ
-max-question = 18
+max-question = 19
 
 -- all of 64 bits: takings, claim, full, and a view's set
 abbrev pub max-u64 : ℕ

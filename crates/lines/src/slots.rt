@@ -20,7 +20,7 @@ pub const MAX_CAMPAIGN: u64 = 63;
 pub const SET_BITS: u64 = MAX_CAMPAIGN + 1;
 
 // The highest refusal number.
-pub const MAX_QUESTION: u64 = 18;
+pub const MAX_QUESTION: u64 = 19;
 
 // Takings, claim and full, and the set of a view: all of 64 bits.
 pub const MAX_U64: u64 = 18_446_744_073_709_551_615;

@@ -4,3 +4,4 @@ pub mod Pages
 pub mod Streamed
 pub mod Promised
 pub mod Shown
+pub mod Searches

@@ -1,2 +1,3 @@
 pub mod Library
+pub mod Search
 pub mod Promises

@@ -1,0 +1,5 @@
+pub mod Takings
+pub mod Cases
+pub mod Walks
+pub mod Duality
+pub mod Most

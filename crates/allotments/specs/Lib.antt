@@ -1,0 +1,3 @@
+pub mod Allotment
+pub mod Most
+pub mod Contracts

@@ -1,0 +1,22 @@
+-- The greatest takings, as a number: the last view goes to nobody, or to a campaign that it names and that has plays
+-- left.
+use mathlib.Core.Bool.{cond, _&&_}
+use Prim.Native.Nat.{ℕ, zero, suc, _+_, _-_, max}
+use lib.Dec.{ltb, eqb}
+use Rattle.sets.specs.Set.{member}
+
+-- the greatest of f at the indices below n, 0 where there is none
+unfoldable pub greatest : ℕ → (ℕ → ℕ) → ℕ
+greatest zero f = 0
+greatest (suc n) f = max (greatest n f) (f n)
+
+-- one play less for c
+abbrev pub less : (ℕ → ℕ) → ℕ → ℕ → ℕ
+less left c d = cond (eqb d c) (left d - 1) (left d)
+
+-- the most that the first m views bring, where a campaign c has left c plays
+unfoldable pub most : ℕ → (ℕ → ℕ) → (ℕ → ℕ) → ℕ → (ℕ → ℕ) → ℕ
+most n price left zero view = 0
+most n price left (suc m) view =
+    max (most n price left m view)
+    (greatest n (λ c. cond (member (view m) c && ltb 0 (left c)) (price c + most n price (less left c) m view) 0))

@@ -1,0 +1,94 @@
+// One more view for a campaign, by a chain of exchanges that moves a held view to another campaign.
+ghost use mathlib.Core.Path.{_≡_};
+ghost use Prim.Native.Nat.{_<_, _≤_};
+ghost use lib.ListN.{length};
+ghost use Rattle.exchange.specs.Contracts.{Taken, first-free, Ready, Sought-is};
+
+// What a search ends with: whether a view was found, and the set of campaigns visited.
+pub struct Sought {
+    pub found: bool,
+    pub visited: u64,
+}
+
+// The first view from `from` on that is given to nobody, or the number of views. A view that was once given is never
+// free again, so that a search starts to look where the last one ended.
+pub fn first_open(n: usize, allotment: &[u64], from: usize) -> usize
+    requires { ⌜ (n ≤ length (now allotment)) × (from ≤ n) ⌝ }
+    requires { ⌜ Taken (now allotment) from ⌝ }
+    ensures { λ r. ⌜ (r ≤ n) × Taken (now (allotment .entry)) r ⌝ }
+{
+    let mut j = from;
+    while j < n {
+        if allotment[j] == 64 {
+            return j;
+        }
+        j += 1;
+    }
+    j
+}
+
+// The first view that names the campaign and is given to nobody, or their number where there is none. Those below
+// `first` are given. The holder is tested first: that branch is foreseen, the other is not.
+fn free_view(views: &[u64], allotment: &[u64], campaign: u64, first: usize) -> usize
+    requires { ⌜ (length (now views) ≤ length (now allotment)) × (campaign < 64) × (first ≤ length (now views)) ⌝ }
+    requires { ⌜ Taken (now allotment) first ⌝ }
+    ensures { λ r. ⌜ r ≡ first-free (now (views .entry)) (now (allotment .entry)) campaign ⌝ }
+{
+    let mut j = first;
+    while j < views.len() {
+        let holder = allotment[j];
+        let v = views[j];
+        if (holder == 64) & sets::has(v, campaign) {
+            return j;
+        }
+        j += 1;
+    }
+    j
+}
+
+// One more view for the campaign: a free one, or one whose holder gets another in its place. At each call the campaigns
+// not visited are fewer.
+pub fn seek(
+    views: &[u64],
+    allotment: &mut [u64],
+    campaign: u64,
+    visited: u64,
+    first: usize,
+) -> Sought
+    requires { ⌜ Ready (now views) (now allotment) campaign visited first ⌝ }
+    ensures { λ r. ⌜ Sought-is (now (views .entry)) (now (allotment .entry)) (now (allotment .exit)) campaign visited
+        (r .found) (r .visited) ⌝ }
+{
+    let free = free_view(views, allotment, campaign, first);
+    if free < views.len() {
+        allotment[free] = campaign;
+        return Sought {
+            found: true,
+            visited: visited,
+        };
+    }
+    let mut seen = sets::including(visited, campaign);
+    let mut j = 0;
+    while j < views.len() {
+        let v = views[j];
+        if sets::has(v, campaign) {
+            let holder = allotment[j];
+            if !sets::has(seen, holder) {
+                let r = seek(views, allotment, holder, seen, first);
+                if r.found {
+                    allotment[j] = campaign;
+                    return Sought {
+                        found: true,
+                        visited: r.visited,
+                    };
+                }
+                seen = r.visited;
+            }
+        }
+        j += 1;
+    }
+    Sought {
+        found: false,
+        visited: seen,
+    }
+}

@@ -1,0 +1,6 @@
+pub mod Fill
+pub mod Freezing
+pub mod Serving
+pub mod Standing
+pub mod Matching
+pub mod Best

@@ -1,0 +1,107 @@
+-- k views more are found; a search that fails ends the serving, and what it visited is closed.
+use mathlib.Core.Path.{_≡_, refl, subst⁻¹, _∙_}
+use mathlib.Core.Logic.{inl, inr}
+use mathlib.Core.List.{List}
+use Prim.Native.Nat.{ℕ, _-_, _≤_}
+use native.Mathlib.Omega.{arith}
+use lib.ListN.{length}
+use borrow.Author.Tests.{not-true, not-false}
+use Rattle.exchange.specs.Contracts.{Ready, Failed}
+use Rattle.matching.specs.Contracts.{Gains}
+use Rattle.matching.proofs.Serving.{gains-none, gains-one, ready-from, ready-after}
+use Rattle.matching.proofs.serve.Statement.{statement}
+use Rattle.matching.proofs.serve.Tie as tie
+
+abbrev Inv-loop : tie.InvT-loop
+Inv-loop views to₀ campaign closed plays from n first₀ k₀ to first k = (k ≤ plays) × (length to ≡ length to₀) × Gains
+    views to₀ to campaign closed k × Ready views to campaign closed first
+
+abbrev μ-loop : tie.MeasureT-loop
+μ-loop views to₀ campaign closed plays from n first₀ k₀ to first k = plays - k
+
+loop-holds : tie.Need-loop-holds Inv-loop μ-loop
+loop-holds c =
+    let s = c .before .before in
+    let a = s .args in
+    (omega arith, refl, gains-none (a .views .now) (a .allotment .now) (a .campaign) (a .closed), s .pre)
+
+first-open-requires : tie.Need-first-open-requires Inv-loop μ-loop
+first-open-requires c κs =
+    let r = c .before .before .loop .inv .3 in
+    ((r .room, r .inside), r .taken)
+
+seek-requires : tie.Need-seek-requires Inv-loop μ-loop
+seek-requires c κs =
+    let a = c .before .before .before .before .before .before .before .args in
+    let l = c .before .before .before .before .loop in
+    ready-from (a .views .now) (l .allotment) (a .campaign) (a .closed) (l .first) (c .before .first-open .result)
+    (l .inv .3) (c .before .first-open .ensures)
+
+same-length : tie.Need-same-length Inv-loop μ-loop
+same-length c = c .before .before .before .before .seek .kept .1 .0 ∙
+    c .before .before .before .before .before .before .before .before .before .loop .inv .1
+
+returns : tie.Need-returns Inv-loop μ-loop
+returns c =
+    let mid = c .before .before .before .before .before .before .before .before in
+    let a = mid .before .before .before .before .args in
+    let l = mid .before .loop in
+    let r = c .before .before .before .before .seek in
+    let f : Failed (a .views .now) (l .allotment) (r .last .1 .0) (a .campaign) (a .closed) (r .result .visited) =
+    r .ensures .failed (not-true (r .result .found) (c .if1 .taken)) in
+    record {
+      found = l .k;
+      gains = subst⁻¹ (λ (x : List ℕ). Gains (a .views .now) (a .allotment .now) x (a .campaign) (a .closed) (l .k))
+          (f .still) (l .inv .2);
+      most = l .inv .0;
+      ended = inr (subst⁻¹ (λ (x : List ℕ). Failed (a .views .now) x (r .last .1 .0) (a .campaign) (a .closed)
+          (r .result .visited)) (f .still) f);
+    }
+
+add-k : tie.Need-add-k Inv-loop μ-loop
+add-k c = omega arith
+
+loop-less : tie.Need-loop-less Inv-loop μ-loop
+loop-less c = omega arith
+
+loop-again : tie.Need-loop-again Inv-loop μ-loop
+loop-again c =
+    let mid = c .before .before .before .before .before .before .before .before in
+    let a = mid .before .before .before .before .args in
+    let l = mid .before .loop in
+    let o = c .before .before .before .before .before .before .first-open in
+    let r = c .before .before .before .before .seek in
+    let g = r .ensures .gained (not-false (r .result .found) (c .if1 .left)) in (
+      omega arith,
+      r .kept .1 .0 ∙ l .inv .1,
+      gains-one (a .views .now) (a .allotment .now) (l .allotment) (r .last .1 .0) (a .campaign) (a .closed) (l .k)
+          (l .inv .2) g,
+      ready-after (a .views .now) (l .allotment) (r .last .1 .0) (a .campaign) (a .closed) (o .result)
+          (ready-from (a .views .now) (l .allotment) (a .campaign) (a .closed) (l .first) (o .result) (l .inv .3)
+          (o .ensures)) (r .kept .1 .0) g,
+    )
+
+same-length-2 : tie.Need-same-length-2 Inv-loop μ-loop
+same-length-2 c = c .before .loop .inv .1
+
+returns-2 : tie.Need-returns-2 Inv-loop μ-loop
+returns-2 c =
+    let l = c .before .loop in
+    record { found = l .k; gains = l .inv .2; most = l .inv .0; ended = inl (omega arith, refl) }
+
+pub serve-spec : {M : Type 1} → statement M
+serve-spec =
+    tie.close
+    (tie.spec
+    Inv-loop
+    μ-loop
+    loop-holds
+    first-open-requires
+    seek-requires
+    same-length
+    returns
+    add-k
+    loop-less
+    loop-again
+    same-length-2
+    returns-2)

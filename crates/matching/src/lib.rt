@@ -1,0 +1,186 @@
+// An allotment of views with the greatest takings: campaigns are served in falling price, each play sought through a
+// chain of exchanges.
+use campaigns::entry::wide32;
+ghost use mathlib.Core.Path.{_≡_};
+ghost use Prim.Native.Nat.{ℕ, _<_, _≤_};
+ghost use lib.ListN.{length};
+ghost use Rattle.allotments.specs.Allotment.{at};
+ghost use Rattle.allotments.specs.Contracts.{Lent};
+ghost use Rattle.exchange.specs.Contracts.{Ready};
+ghost use Rattle.matching.specs.Contracts.{Served, Dearest, Frozen, Unserved, Matched, Filled, Best-is};
+ghost use Rattle.matching.specs.Contracts.{campaign-figure, level-of, view-figure};
+
+// As many views for the campaign as its plays, or until none is found: the campaigns closed after.
+fn serve(
+    views: &[u64],
+    allotment: &mut [u64],
+    campaign: u64,
+    closed: u64,
+    plays: u64,
+    from: usize,
+) -> u64
+    requires { ⌜ Ready (now views) (now allotment) campaign closed from ⌝ }
+    ensures { λ r. ⌜ Served (now (views .entry)) (now (allotment .entry)) (now (allotment .exit)) campaign closed
+        plays r ⌝ }
+{
+    let n = views.len();
+    let mut first = from;
+    let mut k = 0;
+    while k < plays {
+        first = exchange::first_open(n, allotment, first);
+        let r = exchange::seek(views, allotment, campaign, closed, first);
+        if !r.found {
+            return r.visited;
+        }
+        k += 1;
+    }
+    closed
+}
+
+// Of the campaigns not served the dearest, the lowest of equals; 64 where all are served.
+fn dearest(count: u64, prices: &[u32; 128], served: u64) -> u64
+    requires { ⌜ count ≤ 64 ⌝ }
+    ensures { λ r. ⌜ Dearest count (now (prices .entry)) served r ⌝ }
+{
+    let mut best = 64;
+    let mut top: u32 = 0;
+    let mut c = 0;
+    while c < count {
+        let at = c as usize;
+        let p = prices[at];
+        if !sets::has(served, c) & ((best == 64) | (top < p)) {
+            best = c;
+            top = p;
+        }
+        c += 1;
+    }
+    best
+}
+
+// The price for every campaign of the set, which a search that failed has closed; the set is empty where none failed.
+fn freeze(level: &mut [u64; 64], set: u64, price: u64)
+    requires { ⌜ length (now level) ≡ 64 ⌝ }
+    ensures { λ _. ⌜ Frozen (now (level .entry)) (now (level .exit)) set price ⌝ }
+{
+    let mut left = set;
+    while left != 0 {
+        let at = sets::first(left) as usize;
+        level[at] = price;
+        left = sets::rest(left);
+    }
+}
+
+// No view is given.
+fn clear(allotment: &mut [u64], n: usize)
+    requires { ⌜ n ≤ length (now allotment) ⌝ }
+    ensures { λ _. ⌜ Filled (now (allotment .entry)) (now (allotment .exit)) n (λ j. 64) ⌝ }
+{
+    let mut j = 0;
+    while j < n {
+        allotment[j] = 64;
+        j += 1;
+    }
+}
+
+// All campaigns served, and the levels at which they closed.
+fn match_all<'a>(
+    count: u64,
+    prices: &'a [u32; 128],
+    wholes: &'a [u32; 64],
+    views: &'a [u64],
+    allotment: &'a mut [u64],
+    level: &'a mut [u64; 64],
+)
+    requires { ⌜ Unserved count (now views) (now allotment) (now level) ⌝ }
+    ensures { λ _. ⌜ Matched count (now (prices .entry)) (now (wholes .entry)) (now (views .entry))
+        (now (allotment .entry)) (now (allotment .exit)) (now (level .exit)) ⌝ }
+{
+    let n = views.len();
+    let mut first = 0;
+    let mut closed = 0;
+    let mut served = 0;
+    let mut c = dearest(count, prices, served);
+    while c < 64 {
+        let at = c as usize;
+        let price = wide32(prices[at]);
+        let plays = wide32(wholes[at]);
+        first = exchange::first_open(n, allotment, first);
+        let next = serve(views, allotment, c, closed, plays, first);
+        freeze(level, sets::without(next, closed), price);
+        closed = next;
+        served = sets::including(served, c);
+        c = dearest(count, prices, served);
+    }
+}
+
+// What each campaign's price exceeds its level by.
+fn write_campaign_figures<'a>(
+    count: u64,
+    prices: &'a [u32; 128],
+    level: &'a [u64; 64],
+    surplus: &'a mut [u64],
+)
+    requires { ⌜ (count ≤ 64) × (count ≤ length (now surplus)) ⌝ }
+    requires { ⌜ ((d : ℕ) → d < count → at (now level) d ≤ at (now prices) d) ⌝ }
+    ensures { λ _. ⌜ Filled (now (surplus .entry)) (now (surplus .exit)) count (campaign-figure (now (prices .entry))
+        (now (level .entry))) ⌝ }
+{
+    let mut c = 0;
+    while c < count {
+        let at = c as usize;
+        surplus[at] = wide32(prices[at]) - level[at];
+        c += 1;
+    }
+}
+
+// The level of a view's holder, 0 where it has none.
+fn level_of(level: &[u64; 64], holder: u64) -> u64
+    ensures { λ r. ⌜ r ≡ level-of (now (level .entry)) holder ⌝ }
+{
+    if holder < 64 {
+        let at = holder as usize;
+        return level[at];
+    }
+    0
+}
+
+// The level of each view's holder.
+fn write_view_figures<'a>(
+    n: usize,
+    allotment: &'a [u64],
+    level: &'a [u64; 64],
+    worth: &'a mut [u64],
+)
+    requires { ⌜ (n ≤ length (now allotment)) × (n ≤ length (now worth)) ⌝ }
+    ensures { λ _. ⌜ Filled (now (worth .entry)) (now (worth .exit)) n (view-figure (now (allotment .entry))
+        (now (level .entry))) ⌝ }
+{
+    let mut j = 0;
+    while j < n {
+        worth[j] = level_of(level, allotment[j]);
+        j += 1;
+    }
+}
+
+// An allotment with the greatest takings, with a figure for each campaign and each view.
+pub fn allot<'a>(
+    count: u64,
+    prices: &'a [u32; 128],
+    wholes: &'a [u32; 64],
+    views: &'a [u64],
+    allotment: &'a mut [u64],
+    surplus: &'a mut [u64],
+    worth: &'a mut [u64],
+)
+    requires { ⌜ Lent count (now views) (now allotment) (now surplus) (now worth) ⌝ }
+    ensures { λ _. ⌜ Best-is count (now (prices .entry)) (now (wholes .entry)) (now (views .entry))
+        (now (allotment .entry)) (now (allotment .exit)) (now (surplus .entry)) (now (surplus .exit))
+        (now (worth .entry)) (now (worth .exit)) ⌝ }
+{
+    let n = views.len();
+    clear(allotment, n);
+    let mut level = [0u64; 64];
+    match_all(count, prices, wholes, views, allotment, &mut level);
+    write_campaign_figures(count, prices, &level, surplus);
+    write_view_figures(n, allotment, &level, worth);
+}

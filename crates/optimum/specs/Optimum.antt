@@ -1,0 +1,113 @@
+-- What the day could have earned: the questions of the search and of the check, and what each gives. Of the state only
+-- the plan counts: prices, budgets and the number of campaigns. A view is its set of unpaused names.
+use mathlib.Core.Path.{_≡_}
+use mathlib.Core.Bool.{Bool, true, false, _&&_}
+use mathlib.Core.List.{List, [], _∷_}
+use mathlib.Core.Logic.{_↔_}
+use Prim.Native.Nat.{ℕ, zero, suc, _≤_}
+use lib.Dec.{leb}
+use lib.ListN.{length}
+use Rattle.finite.specs.Finite.{every}
+use Rattle.sets.specs.Set.{within}
+use Rattle.campaigns.specs.Campaign.{whole}
+use Rattle.day.specs.declared.Day.{Day}
+use Rattle.day.specs.Day.{campaign, sound}
+use Rattle.questions.specs.Questions.{Question, question, first-failed}
+use Rattle.allotments.specs.Allotment.{at, Allotment, takings, Greatest, Certified, certified}
+use Rattle.allotments.specs.Most.{most}
+use Rattle.optimum.specs.declared.Optimum.{Optimum}
+use Rattle.optimum.specs.declared.Optimum.the-variants as optimum
+use Rattle.optimum.specs.declared.Verdict.{Verdict}
+use Rattle.optimum.specs.declared.Verdict.the-variants as verdict
+
+-- the plan of a state
+abbrev pub price-of : Day → ℕ → ℕ
+price-of s i = campaign s i .price
+
+abbrev pub whole-of : Day → ℕ → ℕ
+whole-of s i = whole (campaign s i)
+
+-- question 19: up to 256 views are handed in
+abbrev pub max-handed-in : ℕ
+max-handed-in = 256
+
+-- the questions, where entries are lent for an allotment, for campaign figures and for view figures
+abbrev pub questions : Day → (views : List ℕ) → (for-allotment for-campaigns for-views : ℕ) → List Question
+questions s views a c v =
+    question 1 (sound s) ∷ question 19 (leb (length views) max-handed-in) ∷
+    question 13 (every (length views) (λ j. within (s .count) (at views j))) ∷
+    question 18 (leb (length views) a && leb (s .count) c && leb (length views) v) ∷ []
+
+-- the number of the first that fails, or 0
+unfoldable pub failed : Day → (views allotment surplus worth : List ℕ) → ℕ
+failed s views allotment surplus worth =
+    first-failed (questions s views (length allotment) (length surplus) (length worth))
+
+-- an allotment with figures that fit it: `surplus` has the campaign figures and `worth` the view figures
+abbrev pub Fits : Day → (views allotment surplus worth : List ℕ) → Type 0
+Fits s views allotment surplus worth = Certified (s .count) (price-of s) (whole-of s) (length views) (at views)
+    (at allotment) (at surplus) (at worth)
+
+unfoldable pub fits : Day → (views allotment surplus worth : List ℕ) → Bool
+fits s views allotment surplus worth = certified (s .count) (price-of s) (whole-of s) (length views) (at views)
+    (at allotment) (at surplus) (at worth)
+
+-- the greatest takings, as a number, and those of an allotment
+abbrev pub most-of : Day → (views : List ℕ) → ℕ
+most-of s views = most (s .count) (price-of s) (whole-of s) (length views) (at views)
+
+abbrev pub takings-of : Day → (views allotment : List ℕ) → ℕ
+takings-of s views allotment = takings (s .count) (price-of s) (length views) (at allotment)
+
+-- the search's answer, from the number of the question that failed
+abbrev pub found : (question most : ℕ) → Optimum
+found zero t = optimum.Takings t
+found (suc q) t = optimum.Refused (suc q)
+
+-- what the search leaves in a lent list: as it was where a question failed, else as it was from n on
+pub record Left-as-it-was (question n : ℕ) (before after : List ℕ) : Type 0 where
+  pub refused : (question ≡ 0 → ⊥) → after ≡ before
+  pub beyond : (j : ℕ) → n ≤ j → at after j ≡ at before j
+
+-- The search. Its answer is determined. Which of several greatest allotments it leaves is free, and so are the figures
+-- that fit it: they fit, whatever comes out.
+pub record Searched (s : Day) (views allotment allotment' surplus surplus' worth worth' : List ℕ) (r : Optimum)
+    : Type 0 where
+  pub answer : r ≡ found (failed s views allotment surplus worth) (most-of s views)
+  pub fit : failed s views allotment surplus worth ≡ 0 → fits s views allotment' surplus' worth' ≡ true
+  pub in-allotment : Left-as-it-was (failed s views allotment surplus worth) (length views) allotment allotment'
+  pub in-surplus : Left-as-it-was (failed s views allotment surplus worth) (s .count) surplus surplus'
+  pub in-worth : Left-as-it-was (failed s views allotment surplus worth) (length views) worth worth'
+
+-- the check's answer
+abbrev pub verdict-of : (question : ℕ) → Bool → Verdict
+verdict-of zero true = verdict.Accepted
+verdict-of zero false = verdict.Rejected
+verdict-of (suc q) b = verdict.Refused (suc q)
+
+abbrev pub checked : Day → (views allotment surplus worth : List ℕ) → Verdict
+checked s views allotment surplus worth =
+    verdict-of (failed s views allotment surplus worth) (fits s views allotment surplus worth)
+
+-- the check accepts exactly the allotments with figures that fit them
+abbrev pub Accepts-exactly : Type 0
+Accepts-exactly = (s : Day) (views allotment surplus worth : List ℕ)
+    → (checked s views allotment surplus worth ≡ verdict.Accepted)
+    ↔ ((failed s views allotment surplus worth ≡ 0) × Fits s views allotment surplus worth)
+
+-- what it accepts is an allotment that none exceeds, and its takings are the most
+pub record Best (s : Day) (views allotment : List ℕ) : Type 0 where
+  pub allotted : Allotment (s .count) (whole-of s) (length views) (at views) (at allotment)
+  pub greatest : Greatest (s .count) (price-of s) (whole-of s) (length views) (at views) (at allotment)
+  pub takes-most : takings-of s views allotment ≡ most-of s views
+
+abbrev pub Accepted-is-best : Type 0
+Accepted-is-best = (s : Day) (views allotment surplus worth : List ℕ)
+    → checked s views allotment surplus worth ≡ verdict.Accepted → Best s views allotment
+
+-- and it accepts what the search leaves
+abbrev pub Search-accepted : Type 0
+Search-accepted = (s : Day) (views allotment allotment' surplus surplus' worth worth' : List ℕ) (r : Optimum)
+    → length allotment' ≡ length allotment → length surplus' ≡ length surplus → length worth' ≡ length worth
+    → Searched s views allotment allotment' surplus surplus' worth worth' r
+    → failed s views allotment surplus worth ≡ 0 → checked s views allotment' surplus' worth' ≡ verdict.Accepted

@@ -1,0 +1,76 @@
+// What the day could have earned, and the check of it, for a state in lent memory, of which only the plan counts.
+use encoding::STATUS_ACCEPTED;
+use encoding::STATUS_NO_FIT;
+use encoding::STATUS_NO_HEAD;
+use encoding::head_of;
+use encoding::is_head;
+use optimum::Optimum;
+use optimum::Verdict;
+ghost use mathlib.Core.Path.{_≡_};
+ghost use Rattle.wezghuli.specs.Search.{search-status, Search-leaves, check-status};
+
+// An allotment of the views with the greatest takings, with a figure for each campaign and for each view.
+#[no_mangle]
+pub extern "C" fn wezghuli_search<'a>(
+    head: &'a [u64; 6],
+    terms: &'a [u32; 128],
+    counts: &'a [u16; 256],
+    views: &'a [u64],
+    allotment: &'a mut [u64],
+    surplus: &'a mut [u64],
+    worth: &'a mut [u64],
+) -> u64
+    ensures { λ r. ⌜ r ≡ search-status (now (head .entry)) (now (terms .entry)) (now (counts .entry))
+        (now (views .entry)) (now (allotment .entry)) (now (surplus .entry)) (now (worth .entry)) ⌝ }
+    ensures { λ _. ⌜ Search-leaves (now (head .entry)) (now (terms .entry)) (now (counts .entry)) (now (views .entry))
+        (now (allotment .entry)) (now (allotment .exit)) (now (surplus .entry)) (now (surplus .exit))
+        (now (worth .entry)) (now (worth .exit)) ⌝ }
+{
+    if !is_head(head) {
+        return STATUS_NO_HEAD;
+    }
+    match optimum::search(
+        head_of(head),
+        terms,
+        counts,
+        views,
+        allotment,
+        surplus,
+        worth,
+    ) {
+        Optimum::Takings(_) => STATUS_ACCEPTED,
+        Optimum::Refused(question) => question,
+    }
+}
+
+// Is this an allotment with figures that fit it, and so one with the greatest takings?
+#[no_mangle]
+pub extern "C" fn wezghuli_check<'a>(
+    head: &'a [u64; 6],
+    terms: &'a [u32; 128],
+    counts: &'a [u16; 256],
+    views: &'a [u64],
+    allotment: &'a [u64],
+    surplus: &'a [u64],
+    worth: &'a [u64],
+) -> u64
+    ensures { λ r. ⌜ r ≡ check-status (now (head .entry)) (now (terms .entry)) (now (counts .entry))
+        (now (views .entry)) (now (allotment .entry)) (now (surplus .entry)) (now (worth .entry)) ⌝ }
+{
+    if !is_head(head) {
+        return STATUS_NO_HEAD;
+    }
+    match optimum::check(
+        head_of(head),
+        terms,
+        counts,
+        views,
+        allotment,
+        surplus,
+        worth,
+    ) {
+        Verdict::Accepted => STATUS_ACCEPTED,
+        Verdict::Rejected => STATUS_NO_FIT,
+        Verdict::Refused(question) => question,
+    }
+}
