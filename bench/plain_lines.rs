@@ -57,6 +57,8 @@ impl Parser<'_> {
     }
 }
 
+// the greatest number of an input line, and of an output line
+const I: u64 = 999_999_999_999;
 const U: u64 = 4294967295;
 const W: u64 = u64::MAX;
 
@@ -69,17 +71,17 @@ fn parse(s: &[u8]) -> Option<Record> {
     let r = match word {
         b"plan" => {
             p.word(b" (depth ")?;
-            let depth = p.number(U)?;
+            let depth = p.number(I)?;
             p.word(b") (width ")?;
-            let width = p.number(U)?;
+            let width = p.number(I)?;
             p.word(b")")?;
             Plan { depth, width }
         }
         b"campaign" => {
             p.word(b" (price ")?;
-            let price = p.number(U)?;
+            let price = p.number(I)?;
             p.word(b") (budget ")?;
-            let budget = p.number(U)?;
+            let budget = p.number(I)?;
             p.word(b")")?;
             Campaign { price, budget }
         }
@@ -171,8 +173,8 @@ impl Printer {
 
 fn in_range(r: Record) -> bool {
     match r {
-        Plan { depth, width } => depth <= U && width <= U,
-        Campaign { price, budget } => price <= U && budget <= U,
+        Plan { depth, width } => depth <= I && width <= I,
+        Campaign { price, budget } => price <= I && budget <= I,
         Play { campaign, paid } => campaign < 64 && paid <= U,
         Refused(number) => (1..=18).contains(&number),
         Tally { campaign, plays, turns, age, named } => {

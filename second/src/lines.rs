@@ -6,7 +6,10 @@ use crate::refusal;
 /// The longest line, its byte 10 not counted.
 pub const MAX_LINE: usize = 200;
 
-/// The greatest number in most places.
+/// The greatest depth, width, price and budget that a line can say: twelve
+/// digits. Whether the day takes them is for its own questions.
+const MAX_INPUT: u64 = 999_999_999_999;
+/// The greatest price paid and the greatest count in an output line.
 const MAX_NUMBER: u64 = u32::MAX as u64;
 /// The greatest takings, claim and full.
 const MAX_TOTAL: u64 = u64::MAX;
@@ -75,11 +78,13 @@ pub fn append(record: &Record, out: &mut Vec<u8>) -> Result<(), u64> {
 /// Whether every number of the record is in its range. Takings, claim and full
 /// fill their type, and a set holds only names from 0 to 63.
 fn in_range(record: &Record) -> bool {
-    let within = |numbers: &[u64]| numbers.iter().all(|&n| n <= MAX_NUMBER);
+    let within = |max: u64, numbers: &[u64]| numbers.iter().all(|&n| n <= max);
     match *record {
-        Record::Plan { depth, width } => within(&[depth, width]),
-        Record::Campaign { price, budget } => within(&[price, budget]),
-        Record::Output(Answer::Play { campaign, paid }) => campaign <= MAX_NAME && within(&[paid]),
+        Record::Plan { depth, width } => within(MAX_INPUT, &[depth, width]),
+        Record::Campaign { price, budget } => within(MAX_INPUT, &[price, budget]),
+        Record::Output(Answer::Play { campaign, paid }) => {
+            campaign <= MAX_NAME && within(MAX_NUMBER, &[paid])
+        }
         Record::Output(Answer::Refused(number)) => (1..=refusal::HIGHEST).contains(&number),
         Record::Output(Answer::Tally {
             campaign,
@@ -87,7 +92,7 @@ fn in_range(record: &Record) -> bool {
             turns,
             age,
             named,
-        }) => campaign <= MAX_NAME && within(&[plays, turns, age, named]),
+        }) => campaign <= MAX_NAME && within(MAX_NUMBER, &[plays, turns, age, named]),
         Record::Start | Record::View(_) | Record::Close => true,
         Record::Output(Answer::Ok | Answer::Nobody | Answer::Closed { .. }) => true,
     }
@@ -124,15 +129,15 @@ impl<'a> Reader<'a> {
 
     fn plan(&mut self) -> Option<Record> {
         Some(Record::Plan {
-            depth: self.field(b" (depth ", MAX_NUMBER)?,
-            width: self.field(b" (width ", MAX_NUMBER)?,
+            depth: self.field(b" (depth ", MAX_INPUT)?,
+            width: self.field(b" (width ", MAX_INPUT)?,
         })
     }
 
     fn campaign(&mut self) -> Option<Record> {
         Some(Record::Campaign {
-            price: self.field(b" (price ", MAX_NUMBER)?,
-            budget: self.field(b" (budget ", MAX_NUMBER)?,
+            price: self.field(b" (price ", MAX_INPUT)?,
+            budget: self.field(b" (budget ", MAX_INPUT)?,
         })
     }
 

@@ -2,8 +2,8 @@
 
 use crate::state::{members, Call, Campaign, Phase, State};
 
-/// The greatest numeral of an input form.
-const MOST_NUMERAL: u64 = 4_294_967_295;
+/// The greatest number of an input form: twelve digits.
+const MOST_NUMERAL: u64 = 999_999_999_999;
 
 /// The lines of an input; a last one without byte 10 counts if it has bytes.
 pub fn lines(input: &[u8]) -> impl Iterator<Item = &[u8]> {

@@ -3,7 +3,10 @@
 use crate::random::Random;
 use crate::state::{deepest, Call, Phase, State, MOST_BUDGET, MOST_CAMPAIGNS, MOST_PRICE, MOST_VIEWS};
 
-const EDGES: [u64; 20] = [
+/// Numbers that lines may have and no plan or campaign takes: both sides of 32 bits, 2 in 32 bits, the greatest.
+pub const WIDE: [u64; 4] = [4_294_967_295, 4_294_967_296, 4_294_967_298, 999_999_999_999];
+
+const EDGES: [u64; 24] = [
     0,
     1,
     2,
@@ -23,7 +26,11 @@ const EDGES: [u64; 20] = [
     MOST_BUDGET,
     MOST_BUDGET + 1,
     4_096,
-    4_294_967_295,
+    99_999_999_999,
+    WIDE[0],
+    WIDE[1],
+    WIDE[2],
+    WIDE[3],
 ];
 
 /// A call that one of the questions which the phase leaves refuses.
@@ -52,10 +59,19 @@ fn any_plan(r: &mut Random) -> Call {
     }
 }
 
+/// A wide number, or one of these.
+fn over(r: &mut Random, others: &[u64]) -> u64 {
+    if r.one_in(2) {
+        r.of(&WIDE)
+    } else {
+        r.of(others)
+    }
+}
+
 fn bad_plan(r: &mut Random) -> Call {
     match r.below(4) {
-        0 => Call::Plan(r.of(&[0, 33, 34, 64, 4_294_967_295]), r.of(&EDGES)),
-        1 => Call::Plan(r.within(1, 32), r.of(&[0, 17, 18, 64, 4_294_967_295])),
+        0 => Call::Plan(over(r, &[0, 33, 34, 64]), r.of(&EDGES)),
+        1 => Call::Plan(r.within(1, 32), over(r, &[0, 17, 18, 64])),
         2 => {
             let width = r.within(3, 16);
             Call::Plan(r.within(deepest(width) + 1, 32), width)
@@ -77,10 +93,12 @@ fn bad_campaign(r: &mut Random, state: &State) -> Call {
         return if r.one_in(2) { Call::Campaign(1, 1) } else { any_campaign(r) };
     }
     match r.below(4) {
-        0 => Call::Campaign(r.of(&[0, MOST_PRICE + 1, 4_294_967_295]), r.of(&EDGES)),
+        0 => Call::Campaign(over(r, &[0, MOST_PRICE + 1]), r.of(&EDGES)),
         1 => {
             let price = r.within(1, MOST_PRICE);
-            Call::Campaign(price, r.of(&[0, price - 1, MOST_BUDGET + 1, 4_294_967_295]))
+            // the last two are the price in 32 bits, and what makes the sum 1
+            let wrapping = [WIDE[1] + price, WIDE[1] - state.budgets() + 1];
+            Call::Campaign(price, over(r, &[0, price - 1, MOST_BUDGET + 1, wrapping[0], wrapping[1]]))
         }
         // with no campaign yet, only the budget's own limit is left to break
         2 => Call::Campaign((left + 1).min(MOST_PRICE), left + 1),
@@ -165,21 +183,49 @@ fn damaged(r: &mut Random) -> Vec<u8> {
     bytes
 }
 
-const NO_NUMBERS: [&str; 13] = [
-    "4294967296",
-    "9999999999",
-    "18446744073709551616",
-    "184467440737095516161",
-    "00",
-    "01",
-    "",
-    "-1",
-    "+1",
-    "1.0",
-    " 1",
-    "1 ",
-    "x",
+/// Every slot of every form, as what stands before its number and behind it.
+pub const SLOTS: [(&str, &str); 17] = [
+    ("(plan (depth ", ") (width 1))"),
+    ("(plan (depth 1) (width ", "))"),
+    ("(campaign (price ", ") (budget 1))"),
+    ("(campaign (price 1) (budget ", "))"),
+    ("(view ", ")"),
+    ("(view 0 ", ")"),
+    ("(play ", " (paid 1))"),
+    ("(play 1 (paid ", "))"),
+    ("(refused ", ")"),
+    ("(closed (takings ", ") (claim 1) (full 1))"),
+    ("(closed (takings 1) (claim ", ") (full 1))"),
+    ("(closed (takings 1) (claim 1) (full ", "))"),
+    ("(tally ", " (plays 1) (turns 1) (age 1) (named 1))"),
+    ("(tally 1 (plays ", ") (turns 1) (age 1) (named 1))"),
+    ("(tally 1 (plays 1) (turns ", ") (age 1) (named 1))"),
+    ("(tally 1 (plays 1) (turns 1) (age ", ") (named 1))"),
+    ("(tally 1 (plays 1) (turns 1) (age 1) (named ", "))"),
 ];
+
+/// How many of the slots are those of a plan or a campaign.
+pub const INPUT_SLOTS: usize = 4;
+
+/// Numerals that are none: the least of 13 digits, the least beyond 64 bits, 1 in 64 bits; 1 behind a zero, behind 11
+/// and behind 12.
+pub const NO_NUMERALS: [&str; 6] =
+    ["1000000000000", "18446744073709551616", "18446744073709551617", "01", "000000000001", "0000000000001"];
+
+/// A line with a number that its slot does not take.
+fn no_number(r: &mut Random) -> String {
+    let at = r.below(SLOTS.len() as u64) as usize;
+    let (before, behind) = SLOTS[at];
+    let number = match r.below(4) {
+        0 => r.of(&NO_NUMBERS).to_string(),
+        // no campaign has such a number, and an output line is none that the program takes
+        1 if at >= INPUT_SLOTS => r.of(&WIDE).to_string(),
+        _ => r.of(&NO_NUMERALS).to_string(),
+    };
+    format!("{before}{number}{behind}")
+}
+
+const NO_NUMBERS: [&str; 10] = ["9999999999999", "184467440737095516161", "00", "", "-1", "+1", "1.0", " 1", "1 ", "x"];
 
 const NO_VIEWS: [&str; 9] = [
     "(view 0 0)",
@@ -213,17 +259,15 @@ const NO_FORMS: [&str; 14] = [
 /// A line of at most 200 bytes that is no input form. `damaged` may by rare chance give an input form again, as where a
 /// view loses a space.
 pub fn no_form(r: &mut Random) -> Vec<u8> {
-    let number = r.of(&NO_NUMBERS);
-    match r.below(10) {
+    match r.below(12) {
         0 => vec![],
         1 => vec![r.of(b"x( 0)\0\xff"); r.of(&[1, 199, 200])],
-        2 => format!("(plan (depth {number}) (width 1))").into_bytes(),
-        3 => format!("(campaign (price 1) (budget {number}))").into_bytes(),
-        4 => r.of(&NO_VIEWS).into(),
-        5 => r.of(&NO_FORMS).into(),
+        2..=5 => no_number(r).into_bytes(),
+        6 => r.of(&NO_VIEWS).into(),
+        7 => r.of(&NO_FORMS).into(),
         // an input form padded to the greatest length is none
-        6 => format!("{:200}", Call::Start.line()).into_bytes(),
-        7 => {
+        8 => format!("{:200}", Call::Start.line()).into_bytes(),
+        9 => {
             let line = form(r);
             if is_output(&line) {
                 line.into_bytes()

@@ -2,6 +2,7 @@
 //! The lines are walked with the model's state, whose answers both programs gave. Everything in `wanted` must be seen.
 
 use crate::model;
+use crate::noise::{INPUT_SLOTS, NO_NUMERALS, SLOTS, WIDE};
 use crate::state::{deepest, Call, Phase, State, MOST_BUDGET, MOST_CAMPAIGNS, MOST_PRICE, MOST_VIEWS};
 use std::collections::BTreeMap;
 
@@ -34,7 +35,7 @@ fn refusals() -> Vec<(&'static str, u64, Vec<Phase>)> {
 const ORDERS: [(&str, &[u64]); 3] =
     [("plan", &[2, 3, 4, 5]), ("campaign", &[6, 7, 8, 9, 10]), ("view", &[11, 12, 13, 14])];
 
-const EVENTS: [&str; 73] = [
+const EVENTS: [&str; 70] = [
     "depth 1 taken",
     "depth 32 taken",
     "depth 0 refused",
@@ -76,9 +77,6 @@ const EVENTS: [&str; 73] = [
     "line of 201 bytes",
     "line of 202 bytes",
     "line of over 65536 bytes",
-    "number 4294967295 read",
-    "number 4294967296 refused",
-    "leading zero refused",
     "name 64 refused",
     "equal names refused",
     "falling names refused",
@@ -120,6 +118,19 @@ fn order(word: &str, first: u64, later: u64) -> String {
     format!("{word} refused {first} and not {later}")
 }
 
+/// A wide number in a slot of a plan or a campaign, and the question that refuses it.
+fn wide(what: &str, n: u64, number: u64) -> String {
+    format!("{what} {n} refused {number}")
+}
+
+/// Lines that are no form for one number.
+fn no_numbers() -> impl Iterator<Item = String> {
+    let wide = || WIDE.into_iter().map(|n| n.to_string());
+    let numerals = move |at| wide().filter(move |_| at >= INPUT_SLOTS).chain(NO_NUMERALS.map(String::from));
+    let line = |(at, n): (usize, String)| format!("{}{n}{} refused 17", SLOTS[at].0, SLOTS[at].1);
+    (0..SLOTS.len()).flat_map(move |at| numerals(at).map(move |n| (at, n))).map(line)
+}
+
 fn deep(width: u64, taken: bool) -> String {
     format!("depth {} width {width}: {}", deepest(width) + u64::from(!taken), if taken { "taken" } else { "refused" })
 }
@@ -138,6 +149,10 @@ fn wanted() -> Vec<String> {
     for width in 1..=16 {
         all.extend([deep(width, true), deep(width, false)]);
     }
+    for (what, number) in [("depth", 3), ("width", 4), ("price", 8), ("budget", 9)] {
+        all.extend(WIDE.map(|n| wide(what, n, number)));
+    }
+    all.extend(no_numbers());
     all.extend(OUTPUT_FORMS.map(|form| format!("{form} refused")));
     all.extend(Phase::ALL.map(|phase| format!("input ends {}", phase.name())));
     all
@@ -230,8 +245,9 @@ impl Seen {
                 self.mark(format!("{form} refused"));
             }
         }
-        self.mark_if(text.contains(" 4294967296)"), "number 4294967296 refused");
-        self.mark_if(text.contains(" 01)"), "leading zero refused");
+        if let Some(count) = self.counts.get_mut(&format!("{text} refused 17")) {
+            *count += 1;
+        }
         self.mark_if(text == "(view 64)", "name 64 refused");
         self.mark_if(text == "(view 0 0)", "equal names refused");
         self.mark_if(text == "(view 1 0)", "falling names refused");
@@ -258,11 +274,11 @@ impl Seen {
             self.mark_if(taken && n == top, &format!("{what} {top} taken"));
             self.mark_if(number == refusal && n == 0, &format!("{what} 0 refused"));
             self.mark_if(number == refusal && n == top + 1, &format!("{what} {} refused", top + 1));
+            self.mark_if(number == refusal && WIDE.contains(&n), &wide(what, n, refusal));
         }
         if (1..=16).contains(&width) && depth == deepest(width) + u64::from(!taken) && number != 2 {
             self.mark(deep(width, taken));
         }
-        self.mark_if(depth == u64::from(u32::MAX), "number 4294967295 read");
     }
 
     fn campaign_limits(&mut self, state: &State, price: u64, budget: u64, number: u64) {
@@ -275,6 +291,9 @@ impl Seen {
         self.mark_if(number == 9 && budget + 1 == price, "budget below the price refused");
         self.mark_if(taken && budget == MOST_BUDGET, "budget 2000000000 taken");
         self.mark_if(number == 9 && budget == MOST_BUDGET + 1, "budget 2000000001 refused");
+        for (what, n, refusal) in [("price", price, 8), ("budget", budget, 9)] {
+            self.mark_if(number == refusal && WIDE.contains(&n), &wide(what, n, refusal));
+        }
         let together = state.budgets() + budget;
         self.mark_if(taken && count > 0 && together == MOST_BUDGET, "budgets of 2000000000 together taken");
         self.mark_if(number == 10 && together == MOST_BUDGET + 1, "budgets of 2000000001 together refused");

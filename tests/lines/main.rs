@@ -1,5 +1,5 @@
-//! Compares the product's reader and writer with a second program: the edges that document 01 names, long numerals in
-//! every slot, and many generated records and damaged lines.
+//! Compares the product's reader and writer with a second program: the edges that the documents name, numerals beside
+//! every limit and long ones in every slot, and many generated records and damaged lines.
 mod numerals;
 mod product;
 mod second;
@@ -21,9 +21,12 @@ impl Rng {
 
     // numbers of every length, and those beside a limit
     fn number(&mut self) -> u64 {
-        const LIMITS: [u64; 9] = [0, 1, 9, 10, 19, 63, 4_294_967_295, 9_999_999_999_999_999_999, u64::MAX];
+        const LIMITS: [u64; 12] = [
+            0, 1, 9, 10, 19, 63, 4_294_967_295, 99_999_999_999, 999_999_999_999, 9_999_999_999_999,
+            9_999_999_999_999_999_999, u64::MAX,
+        ];
         match self.below(4) {
-            0 => LIMITS[self.below(9)].wrapping_add(self.next() % 3).wrapping_sub(1),
+            0 => LIMITS[self.below(LIMITS.len())].wrapping_add(self.next() % 3).wrapping_sub(1),
             1 => self.next() % 64,
             _ => self.next() >> self.below(64),
         }
@@ -92,14 +95,18 @@ impl Tally {
     }
 }
 
-/// Lines that are no form of document 01.
-const NO_FORMS: [&[u8]; 43] = [
+/// Lines that are no form of the documents.
+const NO_FORMS: [&[u8]; 49] = [
     b"", b"(", b")", b"()", b"(start", b"start)", b"(start) ", b" (start)", b"(start)\n", b"(start)\r", b"\n(start)",
     b"(START)", b"(Start)", b"(start\0", b"(view 64)", b"(view 0 0)", b"(view 1 0)", b"(view  0)", b"(view 0 )",
     b"(view 00)", b"(view 01)", b"(view 0  1)", b"(view 18446744073709551616)", b"(view -1)", b"(refused 0)",
-    b"(refused 20)", b"(play 64 (paid 5))", b"(plan (depth 02) (width 2))", b"(plan (depth 4294967296) (width 2))",
+    b"(refused 20)", b"(play 64 (paid 5))", b"(plan (depth 02) (width 2))", b"(plan (depth 1000000000000) (width 2))",
+    b"(plan (depth 2) (width 1000000000000))", b"(campaign (price 1000000000000) (budget 2))",
+    b"(campaign (price 1) (budget 1000000000000))", b"(plan (depth 0000000000001) (width 2))",
+    b"(play 0 (paid 4294967296))", b"(tally 0 (plays 4294967296) (turns 0) (age 0) (named 0))",
+    b"(tally 0 (plays 0) (turns 0) (age 0) (named 999999999999))",
     b"(plan  (depth 2) (width 2))", b"(closed (takings 16) (claim 0) (full 18446744073709551616))",
-    b"(campaign (price 1) (budget 4294967296))", b"(nobody\xff", b"(plan (depth ) (width 2))",
+    b"(nobody\xff", b"(plan (depth ) (width 2))",
     b"(pause)", b"(pause 0)", b"(resume 0)", b"(resume 1)", b"(tally 0)", b"(tally 63)", b"(closed)", b"(play 0)",
     b"(refused)",
 ];
@@ -108,6 +115,10 @@ fn edges(t: &mut Tally) {
     const NO: Result<(u64, &[u64]), u64> = Err(17);
     t.expect(b"(plan (depth 2) (width 2))", Ok((0, &[2, 2])));
     t.expect(b"(campaign (price 0) (budget 4294967295))", Ok((1, &[0, 4294967295])));
+    t.expect(b"(campaign (price 4294967296) (budget 4294967296))", Ok((1, &[4294967296, 4294967296])));
+    t.expect(b"(plan (depth 4294967296) (width 999999999999))", Ok((0, &[4294967296, 999999999999])));
+    t.expect(b"(campaign (price 999999999999) (budget 999999999999))", Ok((1, &[999999999999; 2])));
+    t.expect(b"(play 0 (paid 4294967295))", Ok((6, &[0, 4294967295])));
     t.expect(b"(start)", Ok((2, &[])));
     t.expect(b"(view)", Ok((3, &[0])));
     t.expect(b"(view 0 63)", Ok((3, &[1 | 1 << 63])));
@@ -127,10 +138,11 @@ fn edges(t: &mut Tally) {
     let full = second::print(&Rec { form: 3, numbers: [u64::MAX, 0, 0, 0, 0] });
     t.expect(full.as_bytes(), Ok((3, &[u64::MAX])));
     for form in 0..11 {
-        for n in [0, 1, 19, 20, 63, 64, 4294967295, 4294967296, u64::MAX] {
-            let r = Rec { form, numbers: [n; 5] };
-            let len = second::print(&r).len() + 1;
-            [0, 1, len - 1, len, len + 1, 300].iter().for_each(|room| t.write(&r, *room));
+        for n in [0, 1, 19, 20, 63, 64, 4294967295, 4294967296, 999999999999, 1000000000000, u64::MAX] {
+            for r in numerals::records(form, n) {
+                let len = second::print(&r).len() + 1;
+                [0, 1, len - 1, len, len + 1, 300].iter().for_each(|room| t.write(&r, *room));
+            }
         }
     }
 }

@@ -6,13 +6,15 @@ pub struct Rec {
     pub numbers: [u64; 5],
 }
 
+// the greatest number of an input line, of an output line, and of money in one or of a set
+const I: u64 = 999_999_999_999;
 const U: u64 = 4_294_967_295;
 const W: u64 = u64::MAX;
 
-// for each form: its word, and the label and the greatest number of each of its numbers
+// for each form: its word, and the label, the least and the greatest of each of its numbers
 pub const FORMS: [(&str, &[(&str, u64, u64)]); 11] = [
-    ("plan", &[("depth", 0, U), ("width", 0, U)]),
-    ("campaign", &[("price", 0, U), ("budget", 0, U)]),
+    ("plan", &[("depth", 0, I), ("width", 0, I)]),
+    ("campaign", &[("price", 0, I), ("budget", 0, I)]),
     ("start", &[]),
     ("view", &[("*", 0, W)]),
     ("close", &[]),

@@ -13,6 +13,8 @@ use states::{EDGES, PLANS};
 
 /// The six words are no head of a state.
 const NO_HEAD: u64 = 100;
+/// 0 in 32 bits.
+const WRAPS: u64 = 1 << 32;
 /// The status of a call of a state that is not sound.
 const UNSOUND: u64 = 1;
 
@@ -104,8 +106,8 @@ fn edge_calls(day: &Day) -> Vec<Call> {
     let n = day.count.min(64);
     let planned = if n == 64 { u64::MAX } else { (1 << n) - 1 };
     let mut calls = vec![];
-    for depth in [0, 1, 32, 33, u64::MAX] {
-        for width in [0, 1, 2, 16, 17, u64::MAX] {
+    for depth in [0, 1, 32, 33, WRAPS + 1, u64::MAX] {
+        for width in [0, 1, 2, 16, 17, WRAPS + 2, u64::MAX] {
             calls.push(Call {
                 kind: 0,
                 a: depth,
@@ -122,7 +124,7 @@ fn edge_calls(day: &Day) -> Vec<Call> {
     }
     let sum: u128 = day.campaigns.iter().map(|c| u128::from(c.budget)).sum();
     let room = MAX_BUDGET.saturating_sub(sum.min(u128::from(MAX_BUDGET)) as u64);
-    for price in [0, 1, MAX_PRICE, MAX_PRICE + 1, u64::MAX] {
+    for price in [0, 1, MAX_PRICE, MAX_PRICE + 1, WRAPS + 1, u64::MAX] {
         for budget in [
             0,
             1,
@@ -132,6 +134,7 @@ fn edge_calls(day: &Day) -> Vec<Call> {
             room + 1,
             MAX_BUDGET,
             MAX_BUDGET + 1,
+            WRAPS + room,
             u64::MAX,
         ] {
             calls.push(Call {

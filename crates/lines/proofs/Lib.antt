@@ -8,3 +8,4 @@ pub mod Templates
 pub mod Plain
 pub mod Choice
 pub mod Inverse
+pub mod Before

@@ -4,3 +4,4 @@ pub mod Form
 pub mod Reading
 pub mod OneText
 pub mod Contracts
+pub mod Before

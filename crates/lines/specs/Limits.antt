@@ -16,9 +16,9 @@ max-answer = 200
 abbrev pub answer-room : ℕ
 answer-room = max-answer + 1
 
--- the greatest number of an input line: depth, width, price, budget
+-- the greatest number of an input line (depth, width, price, budget): all numerals of up to twelve digits
 abbrev pub max-input : ℕ
-max-input = 4294967295
+max-input = 999999999999
 
 -- the greatest number of an output line that has no range of its own: paid, plays, turns, age, named
 abbrev pub max-output : ℕ

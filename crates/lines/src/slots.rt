@@ -9,9 +9,10 @@ pub const MAX_LINE: usize = 200;
 // The longest line with its byte 10.
 pub const LINE_BUFFER: usize = MAX_LINE + 1;
 
-// The greatest number of an input line, and of an output line.
-pub const MAX_INPUT: u64 = 4_294_967_295;
+// The greatest number of an input line: twelve digits.
+pub const MAX_INPUT: u64 = 999_999_999_999;
 
+// The greatest number of an output line.
 pub const MAX_OUTPUT: u64 = 4_294_967_295;
 
 // The greatest campaign number; a view's set has a bit for each.

@@ -173,6 +173,14 @@ fn takings_keep_their_floor() {
     assert!(telling > 5_000, "{telling}");
 }
 
+/// A number at most `max`, or now and then any that a line can say.
+fn small_or_long(random: &mut Random, max: u64) -> u64 {
+    match random.below(20) {
+        0 => random.edged(999_999_999_999),
+        _ => random.within(0, max),
+    }
+}
+
 /// A random input record, mostly fitting the phase.
 fn input(random: &mut Random, day: &Day) -> Record {
     let fitting = random.below(10) > 0;
@@ -184,12 +192,12 @@ fn input(random: &mut Random, day: &Day) -> Record {
     };
     match kind {
         0 => Record::Plan {
-            depth: random.within(0, 9),
-            width: random.within(0, 17),
+            depth: small_or_long(random, 9),
+            width: small_or_long(random, 17),
         },
         1 => Record::Campaign {
-            price: random.below(6),
-            budget: random.below(60),
+            price: small_or_long(random, 5),
+            budget: small_or_long(random, 59),
         },
         2 => Record::Start,
         3 => Record::View(some_view(random, day.width, day.count + 1)),

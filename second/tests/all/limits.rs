@@ -126,10 +126,35 @@ fn depth_one_ends_the_turn_in_the_same_view() {
 }
 
 #[test]
-fn budget_beyond_a_numeral_is_no_form() {
-    let input = b"(plan (depth 1) (width 1))\n(campaign (price 1) (budget 4294967296))\n\
-        (campaign (price 1) (budget 4294967295))\n";
-    assert_eq!(answers(input), b"(ok)\n(refused 17)\n(refused 9)\n");
+fn long_numerals_are_refused_by_range() {
+    for long in ["4294967296", "4294967297", "4294967295", "999999999999"] {
+        let input = format!(
+            "(plan (depth {long}) (width 1))\n(plan (depth 1) (width {long}))\n\
+            (plan (depth 1) (width 1))\n(campaign (price {long}) (budget {long}))\n\
+            (campaign (price 1) (budget {long}))\n"
+        );
+        let expected = "(refused 3)\n(refused 4)\n(ok)\n(refused 8)\n(refused 9)\n";
+        assert_eq!(answers(input.as_bytes()), expected.as_bytes());
+    }
+}
+
+#[test]
+fn long_numerals_come_after_the_questions_before() {
+    let long = "999999999999";
+    let input = format!(
+        "(campaign (price {long}) (budget {long}))\n(plan (depth 1) (width 1))\n\
+        (plan (depth {long}) (width {long}))\n(campaign (price 0) (budget {long}))\n"
+    );
+    let expected = "(refused 6)\n(ok)\n(refused 2)\n(refused 8)\n";
+    assert_eq!(answers(input.as_bytes()), expected.as_bytes());
+}
+
+#[test]
+fn thirteen_digits_are_no_form() {
+    let input = b"(plan (depth 1000000000000) (width 1))\n(plan (depth 1) (width 1000000000000))\n\
+        (campaign (price 1000000000000) (budget 1))\n(campaign (price 1) (budget 1000000000000))\n\
+        (view 64)\n(view 4294967296)\n";
+    assert_eq!(answers(input), "(refused 17)\n".repeat(6).as_bytes());
 }
 
 #[test]

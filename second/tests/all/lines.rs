@@ -5,6 +5,8 @@ use second::lines::{append, read, write, MAX_LINE};
 use second::{Answer, Record};
 
 const U32: u64 = u32::MAX as u64;
+/// The greatest number of twelve digits.
+const TWELVE: u64 = 999_999_999_999;
 
 fn written(record: &Record) -> Vec<u8> {
     let mut out = Vec::new();
@@ -56,8 +58,23 @@ fn no_form(text: impl AsRef<[u8]>) {
 fn forms() {
     pair("(plan (depth 2) (width 2))", plan(2, 2));
     pair("(plan (depth 0) (width 4294967295))", plan(0, U32));
+    pair("(plan (depth 4294967296) (width 0))", plan(U32 + 1, 0));
+    pair("(plan (depth 0) (width 999999999999))", plan(0, TWELVE));
+    pair("(plan (depth 999999999999) (width 1))", plan(TWELVE, 1));
     pair("(campaign (price 5) (budget 10))", campaign(5, 10));
     pair("(campaign (price 4294967295) (budget 0))", campaign(U32, 0));
+    pair(
+        "(campaign (price 0) (budget 4294967296))",
+        campaign(0, U32 + 1),
+    );
+    pair(
+        "(campaign (price 999999999999) (budget 100000000000))",
+        campaign(TWELVE, 100_000_000_000),
+    );
+    pair(
+        "(campaign (price 1) (budget 999999999999))",
+        campaign(1, TWELVE),
+    );
     pair("(start)", Record::Start);
     pair("(view)", Record::View(0));
     pair("(view 0)", Record::View(1));
@@ -113,13 +130,18 @@ fn line_lengths() {
 
 #[test]
 fn numbers_one_beyond() {
-    no_form("(plan (depth 4294967296) (width 1))");
-    no_form("(plan (depth 1) (width 4294967296))");
-    no_form("(campaign (price 4294967296) (budget 1))");
-    no_form("(campaign (price 1) (budget 4294967296))");
+    no_form("(plan (depth 1000000000000) (width 1))");
+    no_form("(plan (depth 1) (width 1000000000000))");
+    no_form("(campaign (price 1000000000000) (budget 1))");
+    no_form("(campaign (price 1) (budget 1000000000000))");
+    no_form("(campaign (price 1) (budget 9999999999999))");
+    no_form("(campaign (price 1) (budget 18446744073709551615))");
     no_form("(campaign (price 1) (budget 18446744073709551616))");
     no_form("(campaign (price 1) (budget 99999999999999999999999999999999999999))");
     no_form("(view 64)");
+    no_form("(view 4294967296)");
+    no_form("(view 4294967295)");
+    no_form("(view 999999999999)");
     no_form("(view 18446744073709551616)");
     no_form("(play 64 (paid 1))");
     no_form("(play 0 (paid 4294967296))");
@@ -134,6 +156,41 @@ fn numbers_one_beyond() {
     no_form("(tally 0 (plays 0) (turns 4294967296) (age 0) (named 0))");
     no_form("(tally 0 (plays 0) (turns 0) (age 4294967296) (named 0))");
     no_form("(tally 0 (plays 0) (turns 0) (age 0) (named 4294967296))");
+}
+
+#[test]
+fn input_numerals_of_every_length() {
+    for length in 1..=20 {
+        for digit in ["1", "9"] {
+            let numeral = digit.repeat(length);
+            let texts = [
+                format!("(plan (depth {numeral}) (width 1))"),
+                format!("(plan (depth 1) (width {numeral}))"),
+                format!("(campaign (price {numeral}) (budget 1))"),
+                format!("(campaign (price 1) (budget {numeral}))"),
+            ];
+            if length > 12 {
+                texts.iter().for_each(no_form);
+            } else {
+                let n = numeral.parse().unwrap();
+                let records = [plan(n, 1), plan(1, n), campaign(n, 1), campaign(1, n)];
+                texts.iter().zip(records).for_each(|(t, r)| pair(t, r));
+            }
+        }
+    }
+}
+
+#[test]
+fn long_numerals_have_no_leading_zeros() {
+    for numeral in [
+        "000000000000",
+        "012345678901",
+        "0999999999999",
+        "0000000000001",
+    ] {
+        no_form(format!("(plan (depth {numeral}) (width 1))"));
+        no_form(format!("(campaign (price 1) (budget {numeral}))"));
+    }
 }
 
 #[test]
@@ -239,9 +296,11 @@ fn names() {
 /// Records with one number out of range.
 fn out_of_range() -> Vec<Record> {
     let mut records = Vec::new();
-    for big in [U32 + 1, u64::MAX] {
+    for big in [TWELVE + 1, u64::MAX] {
         records.extend([plan(big, 1), plan(1, big)]);
         records.extend([campaign(big, 1), campaign(1, big)]);
+    }
+    for big in [U32 + 1, TWELVE, u64::MAX] {
         records.extend([Record::Output(play(0, big)), Record::Output(play(big, 0))]);
         records.push(tally(big, [0; 4]));
         records.extend(
@@ -272,6 +331,7 @@ fn writing_to_every_buffer_length() {
     let records = [
         Record::Start,
         plan(12, 3),
+        campaign(TWELVE, TWELVE),
         Record::View(u64::MAX),
         tally(63, [U32; 4]),
     ];
@@ -295,8 +355,8 @@ fn writing_to_every_buffer_length() {
 /// A random record with all numbers in range.
 fn record(random: &mut Random) -> Record {
     match random.below(11) {
-        0 => plan(random.edged(U32), random.edged(U32)),
-        1 => campaign(random.edged(U32), random.edged(U32)),
+        0 => plan(random.edged(TWELVE), random.edged(TWELVE)),
+        1 => campaign(random.edged(TWELVE), random.edged(TWELVE)),
         2 => Record::Start,
         3 => Record::View(random.next() & random.next()),
         4 => Record::Close,
