@@ -8,7 +8,8 @@
  *
  *   0           accepted
  *   1 to 99     refused: the number of the first question that failed; not one byte of what was lent is changed
- *   100 and up  misuse: what was lent is no state, no record, no stream or too little; not one byte of it is changed
+ *   100 to 103  misuse: what was lent is no state, no record, no stream or too little; not one byte of it is changed
+ *   104         wezghuli_check alone: the allotment and its figures do not fit
  *
  * What the caller owes is what C itself asks: each pointer leads to as many elements as its parameter says, aligned as
  * its type asks, no two of them overlap, and nobody else writes to them during the call. A pointer to no bytes (of

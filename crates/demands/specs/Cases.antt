@@ -95,7 +95,8 @@ cases =
     -- a price of 1,000,000 is taken and one more gives 8; a budget of 2,000,000,000 is taken and one more gives 9
     answered (
     plan 1 16 gives Done ∷ campaign-of 1_000_001 1_000_001 gives Refused 8 ∷
-    campaign-of 1 2_000_000_001 gives Refused 9 ∷ campaign-of 1_000_000 2_000_000_000 gives Done ∷
+    campaign-of 1 2_000_000_001 gives Refused 9 ∷ campaign-of 5 4_294_967_296 gives Refused 9 ∷
+    campaign-of 4_294_967_296 4_294_967_296 gives Refused 8 ∷ campaign-of 1_000_000 2_000_000_000 gives Done ∷
     campaign-of 2 1 gives Refused 9 ∷ campaign-of 1 1 gives Refused 10 ∷ view 1 gives Refused 11 ∷
     start-day gives Done ∷ start-day gives Refused 6 ∷ []) ∷
     -- cents left over stay unspent; spent, the campaign is named on and ages no more

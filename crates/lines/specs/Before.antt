@@ -6,7 +6,7 @@ use mathlib.Core.List.{List, [], _∷_}
 use Prim.Native.Nat.{ℕ}
 use lib.Dec.{leb, eqb}
 use lib.ListN.{getD}
-use Rattle.lines.specs.Limits.{max-campaign, max-question, max-u64}
+use Rattle.lines.specs.Limits.{max-question}
 use Rattle.lines.specs.Form.{output-slot, campaign-slot, refusal-slot, is-slot, bytes, numbers, is-output}
 use Rattle.lines.specs.Form.{numbers-after, filled, text, in-range}
 use Rattle.lines.specs.Reading.{reading}
@@ -33,9 +33,9 @@ old-template (Tally _ _ _ _ _) = bytes "(tally C (plays N) (turns N) (age N) (na
 abbrev pub old-max : ℕ → ℕ
 old-max slot =
     cond (eqb slot output-slot) 4294967295
-    (cond (eqb slot campaign-slot) max-campaign
+    (cond (eqb slot campaign-slot) 63
     (cond (eqb slot refusal-slot) max-question
-    max-u64))
+    18446744073709551615))
 
 unfoldable pub in-old-slot : ℕ → ℕ → Bool
 in-old-slot slot n = (not (eqb slot refusal-slot) || leb 1 n) && leb n (old-max slot)
