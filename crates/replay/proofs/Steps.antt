@@ -231,6 +231,17 @@ decode-short (x ∷ y ∷ z ∷ l) h = absurd (omega arith)
 pub decode-end : (ws : List ℕ) (i : ℕ) → length ws < i + 3 → decode (drop i ws) ≡ []
 decode-end ws i h = decode-short (drop i ws) (omega (arith, length-drop i ws))
 
+-- a kind that is none of the eight is past them; in two steps, since each "not" makes a case
+past-four : (k : ℕ) → (k ≡ 0 → ⊥) → (k ≡ 1 → ⊥) → (k ≡ 2 → ⊥) → (k ≡ 3 → ⊥) → 4 ≤ k
+past-four k a b c d = omega arith
+
+past-rest : (k : ℕ) → 4 ≤ k → (k ≡ 4 → ⊥) → (k ≡ 5 → ⊥) → (k ≡ 6 → ⊥) → (k ≡ 7 → ⊥) → 8 ≤ k
+past-rest k l e f g h = omega arith
+
+pub past-eight : (k : ℕ) → (k ≡ 0 → ⊥) → (k ≡ 1 → ⊥) → (k ≡ 2 → ⊥) → (k ≡ 3 → ⊥) → (k ≡ 4 → ⊥) → (k ≡ 5 → ⊥)
+    → (k ≡ 6 → ⊥) → (k ≡ 7 → ⊥) → 8 ≤ k
+past-eight k a b c d e f g h = past-rest k (past-four k a b c d) e f g h
+
 -- a kind past the eight is no call
 pub no-call : (kind a b : ℕ) → 8 ≤ kind → call-in kind a b ≡ []
 unfolding call-in

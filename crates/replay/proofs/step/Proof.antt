@@ -1,10 +1,9 @@
 -- Each kind is its call; a kind past the eight is none.
 use mathlib.Core.Path.{refl}
 use mathlib.Core.Bool.{true, false}
-use native.Mathlib.Omega.{arith}
 use Rattle.day.specs.Calls.Call.{add-campaign, start-day, ask-tally, close-day, mark-campaign}
 use Rattle.replay.specs.Replay.{call-in}
-use Rattle.replay.proofs.Steps.{unpaid, no-call, no-calls}
+use Rattle.replay.proofs.Steps.{unpaid, past-eight, no-call, no-calls}
 use borrow.Author.Needs.{needs}
 use Rattle.replay.proofs.step.Statement.{statement}
 use Rattle.replay.proofs.step.Tie as tie
@@ -113,7 +112,12 @@ returns-8 c =
 returns-9 : tie.Need-returns-9
 returns-9 c =
     let a = c .before .args in
-    rw (no-call (a .kind) (a .a) (a .b) (omega arith)) (no-calls (a .day) (a .paid))
+    let none = c .match .rest in
+    let few = none .0 .0 .0 .0 in
+    rw (no-call (a .kind) (a .a) (a .b)
+    (past-eight (a .kind) (few .0 .0 .0 .1) (few .0 .0 .1) (few .0 .1) (few .1) (none .0 .0 .0 .1) (none .0 .0 .1)
+    (none .0 .1) (none .1)))
+    (no-calls (a .day) (a .paid))
 
 pub step-spec : {M : Type 1} → statement M
 step-spec =
