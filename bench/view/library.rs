@@ -33,7 +33,7 @@ extern "C" {
 
 #[repr(C)]
 pub struct Day {
-    head: [u64; 6],
+    head: [u64; 7],
     terms: [u32; 128],
     counts: [u16; 256],
     answer: [u64; 5],

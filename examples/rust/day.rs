@@ -81,7 +81,7 @@ type Record = [u64; 6];
 
 /// A state. Its fields are private, so that only the library writes them and none of its calls is misuse.
 struct Day {
-    head: [u64; 6],
+    head: [u64; 7],
     terms: [u32; 128],
     counts: [u16; 256],
 }

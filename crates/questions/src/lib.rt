@@ -79,7 +79,8 @@ pub fn mark_question(head: Head, campaign: u64) -> u64
     ensures { λ r. ⌜ r ≡ first-failed (mark-questions head campaign) ⌝ }
 {
     let phase = head.phase;
-    if !phase.running() {
+    let running = phase.running();
+    if !running {
         return 11;
     }
     if head.count <= campaign {
