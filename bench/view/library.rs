@@ -51,7 +51,7 @@ impl Day {
 
     pub fn start(depth: u64, width: u64, campaigns: &[u64]) -> Day {
         let mut day = Day {
-            head: [0; 6],
+            head: [0; 7],
             terms: [0; 128],
             counts: [0; 256],
             answer: [0; 5],

@@ -89,7 +89,7 @@ struct Day {
 impl Day {
     fn blank() -> Day {
         let mut day = Day {
-            head: [0; 6],
+            head: [0; 7],
             terms: [0; 128],
             counts: [0; 256],
         };
