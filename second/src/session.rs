@@ -46,6 +46,8 @@ impl Session {
             Record::Plan { depth, width } => self.day.try_open(depth, width),
             Record::Campaign { price, budget } => self.day.try_add(price, budget),
             Record::Start => self.day.try_start(),
+            Record::Pause(n) => self.day.try_pause(n),
+            Record::Resume(n) => self.day.try_resume(n),
             Record::Close => self.day.try_close(),
             Record::Output(_) => Err(refusal::NOT_A_FORM),
         }
