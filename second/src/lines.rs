@@ -342,6 +342,8 @@ impl Line {
         self.text(b")");
     }
 
+    /// Copied out wherever it is used, so that each opening has a known length.
+    #[inline(always)]
     fn numbered(&mut self, opening: &[u8], number: u64) {
         self.text(opening);
         self.number(number);
