@@ -15,8 +15,7 @@ use Rattle.day.specs.Calls.Call.{start-day, show-view, close-day}
 use Rattle.demands.specs.Transcript.{transcript}
 use Rattle.demands.specs.Cases.{plan, campaign-of, pause}
 use Rattle.floor.specs.History.{Starts, History, history}
-use Rattle.floor.specs.Allotment.{takings-of}
-use Rattle.floor.specs.Floor.{price-of, whole-of, unstruck, falls-short, Allotted, Covered}
+use Rattle.floor.specs.Floor.{price-of, whole-of, unstruck, falls-short, Allotted, takings-of, Covered}
 
 abbrev pub both : View
 both = record { set = 3 }
@@ -33,6 +32,10 @@ paused-day = history (transcript blank paused-calls)
 abbrev pub paused-to : ℕ → ℕ
 paused-to j = getD (1 ∷ 0 ∷ []) j 64
 
+-- no allotment gives the second view to 1, which was paused
+abbrev pub to-paused : ℕ → ℕ
+to-paused j = getD (0 ∷ 1 ∷ []) j 64
+
 -- the premise over the sets handed in
 abbrev pub short-by : List View → History → ℕ → Bool
 short-by ws h i = ltb (total (λ w. one-if (names w i)) ws) (h .plan .depth * whole-of h i)
@@ -42,8 +45,9 @@ short-by ws h i = ltb (total (λ w. one-if (names w i)) ws) (h .plan .depth * wh
 pub record Unpaused-premise : Type 0 where
   pub starts : Starts blank paused-calls
   pub allotted : Allotted paused-day paused-to
+  pub not-allotted : Allotted paused-day to-paused → ⊥
   pub handed-0 : short-by (both ∷ both ∷ []) paused-day 0 ≡ false
   pub handed-1 : short-by (both ∷ both ∷ []) paused-day 1 ≡ false
-  pub not-covered : Covered paused-day (takings-of (price-of paused-day) (paused-day .views) paused-to) → ⊥
+  pub not-covered : Covered paused-day (takings-of paused-day (price-of paused-day) paused-to) → ⊥
   pub short : falls-short paused-day 1 ≡ true
-  pub covered : Covered paused-day (takings-of (unstruck paused-day) (paused-day .views) paused-to)
+  pub covered : Covered paused-day (takings-of paused-day (unstruck paused-day) paused-to)

@@ -65,10 +65,11 @@ pub fn view_question(head: Head, view: View) -> u64
         return 12;
     }
     let set = view.set;
+    let unpaused = sets::without(set, head.paused);
     if !sets::within(set, head.count) {
         return 13;
     }
-    if head.plan.width < sets::count(sets::without(set, head.paused)) {
+    if head.plan.width < sets::count(unpaused) {
         return 14;
     }
     0
@@ -80,10 +81,11 @@ pub fn mark_question(head: Head, campaign: u64) -> u64
 {
     let phase = head.phase;
     let running = phase.running();
+    let known = campaign < head.count;
     if !running {
         return 11;
     }
-    if head.count <= campaign {
+    if !known {
         return 15;
     }
     0

@@ -22,7 +22,7 @@ views c =
     let at-start = c .before .before .before .before in
     lt-ltb (at-start .args .head .accepted) max-views (c .if2 .left)
 
-inside : (c : tie.Else3) → let a = c .before .before .before .before .before .before .args in
+inside : (c : tie.Else3) → let a = c .before .before .before .before .before .before .before .args in
     within (a .head .count) (a .view .set) ≡ true
 inside c = sym (c .before .within .ensures) ∙ not-false (c .before .within .result) (c .if3 .left)
 
@@ -39,19 +39,19 @@ returns-2 c =
     let running = c .before .before in
     rw (runs running, le-ltb (running .before .before .args .head .accepted) max-views (c .if2 .taken))
 
+without-requires : tie.Need-without-requires
+without-requires c κs = search needs
+
 within-requires : tie.Need-within-requires
 within-requires c κs = search needs
 
 returns-3 : tie.Need-returns-3
 unfolding first-failed
 returns-3 c =
-    let few = c .before .before in
+    let few = c .before .before .before in
     let running = few .before .before in
     let outside = sym (c .before .within .ensures) ∙ not-true (c .before .within .result) (c .if3 .taken) in
     rw (runs running, views few, outside)
-
-without-requires : tie.Need-without-requires
-without-requires c κs = search needs
 
 count-requires : tie.Need-count-requires
 count-requires c κs = search needs
@@ -59,24 +59,24 @@ count-requires c κs = search needs
 returns-4 : tie.Need-returns-4
 unfolding first-failed width-holds
 returns-4 c =
-    let known = c .before .before .before .before in
-    let few = known .before .before in
+    let known = c .before .before .before in
+    let few = known .before .before .before in
     let running = few .before .before in
     let a = running .before .before .args in
     let found = without (a .view .set) (a .head .paused) in
-    let size-is = c .before .before .count .ensures ∙ ap size (c .before .before .before .without .ensures) in
+    let size-is = c .before .before .count .ensures ∙ ap size (known .before .before .without .ensures) in
     let named = subst (λ (x : ℕ). a .head .plan .width < x) size-is (c .if4 .taken) in
     rw (runs running, views few, inside known, lt-leb (size found) (a .head .plan .width) named)
 
 returns-5 : tie.Need-returns-5
 unfolding first-failed width-holds
 returns-5 c =
-    let known = c .before .before .before .before in
-    let few = known .before .before in
+    let known = c .before .before .before in
+    let few = known .before .before .before in
     let running = few .before .before in
     let a = running .before .before .args in
     let found = without (a .view .set) (a .head .paused) in
-    let size-is = c .before .before .count .ensures ∙ ap size (c .before .before .before .without .ensures) in
+    let size-is = c .before .before .count .ensures ∙ ap size (known .before .before .without .ensures) in
     let named = subst (λ (x : ℕ). x ≤ a .head .plan .width) size-is (c .if4 .left) in
     rw (runs running, views few, inside known, le-leb (size found) (a .head .plan .width) named)
 
@@ -87,9 +87,9 @@ view-question-spec =
     running-requires
     returns
     returns-2
+    without-requires
     within-requires
     returns-3
-    without-requires
     count-requires
     returns-4
     returns-5)
