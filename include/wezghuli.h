@@ -178,7 +178,7 @@ uint64_t wezghuli_resume(uint64_t head[7], uint32_t terms[128], uint16_t counts[
  * and named / depth, both rounded down. Of a state that operations made from the blank one, floor <= claim <= full at
  * every moment; of any other sound state only the figures themselves are promised.
  * Refused, with the figures as they were: 1 the state is not sound. WEZGHULI_STATUS_NO_HEAD. */
-uint64_t wezghuli_noon(const uint64_t head[6], const uint32_t terms[128], const uint16_t counts[256],
+uint64_t wezghuli_noon(const uint64_t head[7], const uint32_t terms[128], const uint16_t counts[256],
     uint64_t figures[3]);
 
 /* Reads a line, handed over without its byte 10, into the words of its record: an input line or an output line.
@@ -209,7 +209,7 @@ uint64_t wezghuli_finish(uint64_t head[7], uint32_t terms[128], uint16_t counts[
  * each campaign in number order WEZGHULI_PAGE_LINE bytes, and as many for the last line. Later bytes of out keep their
  * values; the state stays. docs/MANUAL.md has the columns.
  * Refused, with out and length as they were: 1 the state is not sound, 18 the page does not fit out. */
-uint64_t wezghuli_page(const uint64_t head[6], const uint32_t terms[128], const uint16_t counts[256],
+uint64_t wezghuli_page(const uint64_t head[7], const uint32_t terms[128], const uint16_t counts[256],
     uint8_t *out, size_t out_len, uint64_t length[1]);
 
 /* Finds an allotment of the views with the greatest takings that the plan of a state of any phase allows, and figures
@@ -221,7 +221,7 @@ uint64_t wezghuli_page(const uint64_t head[6], const uint32_t terms[128], const 
  * Refused, with all three as they were: 1 the state is not sound, 19 there are more than 256 views, 13 one names a
  * campaign that is not in the plan, 18 allotment or worth has fewer entries than there are views, or surplus than
  * campaigns. */
-uint64_t wezghuli_search(const uint64_t head[6], const uint32_t terms[128], const uint16_t counts[256],
+uint64_t wezghuli_search(const uint64_t head[7], const uint32_t terms[128], const uint16_t counts[256],
     const uint64_t *views, size_t views_len, uint64_t *allotment, size_t allotment_len,
     uint64_t *surplus, size_t surplus_len, uint64_t *worth, size_t worth_len);
 
@@ -231,7 +231,7 @@ uint64_t wezghuli_search(const uint64_t head[6], const uint32_t terms[128], cons
  * plays plus the view figures sum to the takings. No allotment takes more than one that is accepted. The figures may be
  * any numbers.
  * Refused: as wezghuli_search. */
-uint64_t wezghuli_check(const uint64_t head[6], const uint32_t terms[128], const uint16_t counts[256],
+uint64_t wezghuli_check(const uint64_t head[7], const uint32_t terms[128], const uint16_t counts[256],
     const uint64_t *views, size_t views_len, const uint64_t *allotment, size_t allotment_len,
     const uint64_t *surplus, size_t surplus_len, const uint64_t *worth, size_t worth_len);
 
