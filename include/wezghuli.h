@@ -73,8 +73,8 @@ typedef struct {
 #define WEZGHULI_HEAD_DEPTH 2
 #define WEZGHULI_HEAD_WIDTH 3
 #define WEZGHULI_HEAD_CAMPAIGNS 4
-#define WEZGHULI_HEAD_VIEWS 5 /* that were accepted */
-#define WEZGHULI_HEAD_PAUSED 6 /* bit i: campaign i is paused */
+#define WEZGHULI_HEAD_VIEWS 5  /* that were accepted */
+#define WEZGHULI_HEAD_PAUSED 6 /* bit i: campaign i is paused; 0 while the phase is Filling */
 
 /* Where the columns begin. */
 #define WEZGHULI_TERMS_PRICE 0
@@ -128,17 +128,17 @@ typedef struct {
 #define WEZGHULI_STREAM_TAKEN 1   /* of the last block */
 #define WEZGHULI_STREAM_WRITTEN 2 /* bytes of the answers to it */
 
-/* Writes the blank state, whatever was there: Closed, depth 1, width 1, no campaigns, no views, no takings. A day
- * begins with it, or with any sound state that is Closed. It cannot fail and has no status. */
+/* Writes the blank state, whatever was there: Closed, depth 1, width 1, no campaigns, no views, no marks, no takings. A
+ * day begins with it, or with any sound state that is Closed. It cannot fail and has no status. */
 void wezghuli_blank(uint64_t head[7], uint32_t terms[128], uint16_t counts[256]);
 
-/* Opens a plan: the state becomes Filling, with no campaigns and zero counts. Answers DONE.
+/* Opens a plan: the state becomes Filling, with no campaigns, zero counts and none paused. Answers DONE.
  * Refused: 1 the state is not sound, 2 it is not Closed, 3 depth is not 1 to 32, 4 width is not 1 to 16,
  * 5 width to the power depth is above 4,294,967,296. */
 uint64_t wezghuli_open(uint64_t head[7], uint32_t terms[128], uint16_t counts[256],
     uint64_t depth, uint64_t width, uint64_t answer[5]);
 
-/* Adds a campaign, which gets the next number from 0 on. Answers DONE.
+/* Adds a campaign, which gets the next number from 0 on and is not paused. Answers DONE.
  * Refused: 1 the state is not sound, 6 it is not Filling, 7 there are 64 campaigns, 8 price is not 1 to 1,000,000,
  * 9 budget is not from the price to 2,000,000,000, 10 all budgets with this one are above 2,000,000,000. */
 uint64_t wezghuli_add(uint64_t head[7], uint32_t terms[128], uint16_t counts[256],
@@ -148,10 +148,10 @@ uint64_t wezghuli_add(uint64_t head[7], uint32_t terms[128], uint16_t counts[256
  * Refused: 1 the state is not sound, 6 it is not Filling. */
 uint64_t wezghuli_start(uint64_t head[7], uint32_t terms[128], uint16_t counts[256], uint64_t answer[5]);
 
-/* Shows a view, whose bit i names campaign i. Answers PLAYED with the campaign that plays and what this play pays, or
- * NOBODY.
+/* Shows a view, whose bit i names campaign i; a paused one counts as named for 13 alone. Answers PLAYED with the
+ * campaign that plays and what this play pays, or NOBODY.
  * Refused: 1 the state is not sound, 11 it is not Running, 12 4,096 views were accepted, 13 a named campaign is not in
- * the plan, 14 more than width campaigns are named. */
+ * the plan, 14 more than width campaigns that are not paused are named. */
 uint64_t wezghuli_view(uint64_t head[7], uint32_t terms[128], uint16_t counts[256],
     uint64_t set, uint64_t answer[5]);
 
@@ -160,17 +160,21 @@ uint64_t wezghuli_view(uint64_t head[7], uint32_t terms[128], uint16_t counts[25
 uint64_t wezghuli_tally(uint64_t head[7], uint32_t terms[128], uint16_t counts[256],
     uint64_t campaign, uint64_t answer[5]);
 
-/* Closes the day: the state becomes Closed and holds its takings. Answers CLOSING with takings, total claim and full.
+/* Closes the day: the state becomes Closed and holds its takings; all else stays, the paused marks too. Answers CLOSING
+ * with takings, total claim and full.
  * Refused: 1 the state is not sound, 11 it is not Running. */
 uint64_t wezghuli_close(uint64_t head[7], uint32_t terms[128], uint16_t counts[256], uint64_t answer[5]);
 
-/* Pauses campaign `campaign`: it is as one that no view names, until it is resumed. Twice is done twice. */
+/* Pauses a campaign: views that name it are treated as if they did not, until it is resumed or the next plan is opened.
+ * Its counts stay. Answers DONE, also where it is paused already.
+ * Refused: 1 the state is not sound, 11 it is not Running, 15 there is no such campaign. */
 uint64_t wezghuli_pause(uint64_t head[7], uint32_t terms[128], uint16_t counts[256],
-                        uint64_t campaign, uint64_t answer[5]);
+    uint64_t campaign, uint64_t answer[5]);
 
-/* Resumes campaign `campaign`. */
+/* Resumes a campaign. Answers DONE, also where it is not paused.
+ * Refused: as wezghuli_pause. */
 uint64_t wezghuli_resume(uint64_t head[7], uint32_t terms[128], uint16_t counts[256],
-                         uint64_t campaign, uint64_t answer[5]);
+    uint64_t campaign, uint64_t answer[5]);
 
 /* The figures at noon, in any phase; the state stays. figures[WEZGHULI_NOON_FULL] is width^depth x takings,
  * figures[WEZGHULI_NOON_CLAIM] the total claim, and figures[WEZGHULI_NOON_FLOOR] is
@@ -191,11 +195,11 @@ uint64_t wezghuli_read_line(const uint8_t *line, size_t line_len, uint64_t words
  * WEZGHULI_STATUS_NO_FORM where words[0] is no form. */
 uint64_t wezghuli_write_line(const uint64_t words[6], uint8_t *out, size_t out_len, uint64_t length[1]);
 
-/* Feeds a block of input to the stream. Each line that ends in it, at its byte 10, is answered as the program answers it:
- * the answers stand one behind the other at the front of out, each line of them with its byte 10, and later bytes of out
- * keep their values. What is left of the block is kept for the next one. words[WEZGHULI_STREAM_TAKEN] bytes of input
- * were taken: all of them, unless there was no longer room for the longest answer; hand the rest over again, with an
- * empty buffer. words[WEZGHULI_STREAM_WRITTEN] bytes of out are answers. Refusals are answers too, and no status.
+/* Feeds a block of input to the stream. Each line that ends in it, at its byte 10, is answered as the program answers
+ * it: the answers stand one behind the other at the front of out, each line of them with its byte 10, and later bytes
+ * of out keep their values. What is left of the block is kept for the next one. words[WEZGHULI_STREAM_TAKEN] bytes of
+ * input were taken: all of them, unless there was no longer room for the longest answer; hand the rest over again, with
+ * an empty buffer. words[WEZGHULI_STREAM_WRITTEN] bytes of out are answers. Refusals are answers too, and no status.
  * WEZGHULI_STATUS_NO_HEAD, WEZGHULI_STATUS_NO_STREAM, WEZGHULI_STATUS_NO_ROOM, in this order. */
 uint64_t wezghuli_feed(uint64_t head[7], uint32_t terms[128], uint16_t counts[256],
     uint8_t pending[201], uint64_t words[3], const uint8_t *input, size_t input_len, uint8_t *out, size_t out_len);
