@@ -8,7 +8,8 @@ use Rattle.day.specs.declared.Outcome.{Outcome}
 use Rattle.day.specs.declared.Step.{Step}
 use Rattle.day.specs.Day.{state-of}
 use Rattle.day.specs.Calls as calls
-use Rattle.day.specs.Calls.Call.{open-plan, add-campaign, start-day, show-view, ask-tally, close-day, mark-campaign}
+use Rattle.day.specs.Calls.Call.{open-plan, add-campaign, start-day, show-view, ask-tally, close-day}
+use Rattle.day.specs.Calls.Call.{mark-campaign}
 
 -- what is handed back in place, as the outcome that it makes with the two arrays
 abbrev pub outcome-of : Step → (terms counts : List ℕ) → Outcome

@@ -15,7 +15,7 @@ ghost use Rattle.encoding.specs.Encoding.{answer-after, is-form, record-
 // where what was lent is no state, no record, no stream or too little. No refusal has a number above 99.
 pub const STATUS_ACCEPTED: u64 = 0;
 
-// The six words are no head of a state.
+// The seven words are no head of a state.
 pub const STATUS_NO_HEAD: u64 = 100;
 
 // The first word of a record is no form's number.

@@ -62,8 +62,8 @@ pub record Moments : Type 0 where
 -- depth 1, width 1, five accepted views: a campaign of price 1 and five plays that each of them named and none played
 abbrev pub unplayed : Day
 unplayed = state-with
-    (record { phase = Running; plan = record { depth = 1; width = 1 }; count = 1; accepted = 5; paused = 0 }) (λ i. cond (eqb i 0)
-    (record { price = 1; budget = 5; plays = 0; turns = 0; age = 0; named = 5 }) (fresh no-terms))
+    (record { phase = Running; plan = record { depth = 1; width = 1 }; count = 1; accepted = 5; paused = 0 })
+    (λ i. cond (eqb i 0) (record { price = 1; budget = 5; plays = 0; turns = 0; age = 0; named = 5 }) (fresh no-terms))
 
 pub record Needs-history : Type 0 where
   pub is-sound : sound unplayed ≡ true

@@ -12,7 +12,8 @@ ghost use lib.ListN.{length};
 ghost use Rattle.lines.specs.Limits.{max-line};
 ghost use Rattle.lines.specs.Reading.{held-or, reading};
 
-// One line: an input line (the first five and the last two) or an output line. A view is a 64-bit set, bit i standing for campaign i.
+// One line: an input line (the first five and the last two) or an output line. A view is a 64-bit set, bit i standing
+// for campaign i.
 pub enum Record {
     Plan {
         depth: u64,

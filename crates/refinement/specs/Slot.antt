@@ -66,8 +66,8 @@ Represented =
 -- a view names both its campaigns, of scores 5 and 6.
 abbrev pub made-up : Day
 made-up = state-with
-    (record { phase = Running; plan = record { depth = 2; width = 2 }; count = 2; accepted = 5; paused = 0 }) (λ i. getD (
-    record { price = 5; budget = 10; plays = 1; turns = 1; age = 0; named = 3 } ∷
+    (record { phase = Running; plan = record { depth = 2; width = 2 }; count = 2; accepted = 5; paused = 0 })
+    (λ i. getD (record { price = 5; budget = 10; plays = 1; turns = 1; age = 0; named = 3 } ∷
     record { price = 3; budget = 6; plays = 0; turns = 0; age = 1; named = 1 } ∷ []) i (fresh no-terms))
 
 abbrev pub both : View
