@@ -35,9 +35,11 @@ impl Rng {
 const MIXED: usize = 2_000;
 const OF_A_FORM: usize = 500;
 
-const NAMES: [&str; 11] =
-    ["plan", "campaign", "start", "view", "close", "ok", "play", "nobody", "refused", "closed", "tally"];
-const MOST: [[u64; 5]; 11] = {
+const NAMES: [&str; 13] = [
+    "plan", "campaign", "start", "view", "close", "ok", "play", "nobody", "refused", "closed", "tally", "pause",
+    "resume",
+];
+const MOST: [[u64; 5]; 13] = {
     const U: u64 = 4294967295;
     const W: u64 = u64::MAX;
     [
@@ -49,9 +51,11 @@ const MOST: [[u64; 5]; 11] = {
         [0; 5],
         [63, U, 0, 0, 0],
         [0; 5],
-        [17, 0, 0, 0, 0],
+        [18, 0, 0, 0, 0],
         [W, W, W, 0, 0],
         [63, U, U, U, U],
+        [63, 0, 0, 0, 0],
+        [63, 0, 0, 0, 0],
     ]
 };
 
@@ -78,7 +82,9 @@ fn plain((form, n): Made) -> Record {
         7 => Record::Nobody,
         8 => Record::Refused(n[0]),
         9 => Record::Closed { takings: n[0], claim: n[1], full: n[2] },
-        _ => Record::Tally { campaign: n[0], plays: n[1], turns: n[2], age: n[3], named: n[4] },
+        10 => Record::Tally { campaign: n[0], plays: n[1], turns: n[2], age: n[3], named: n[4] },
+        11 => Record::Pause(n[0]),
+        _ => Record::Resume(n[0]),
     }
 }
 
@@ -95,6 +101,8 @@ fn made(r: Record) -> Made {
         Record::Refused(number) => (8, [number, 0, 0, 0, 0]),
         Record::Closed { takings, claim, full } => (9, [takings, claim, full, 0, 0]),
         Record::Tally { campaign, plays, turns, age, named } => (10, [campaign, plays, turns, age, named]),
+        Record::Pause(campaign) => (11, [campaign, 0, 0, 0, 0]),
+        Record::Resume(campaign) => (12, [campaign, 0, 0, 0, 0]),
     }
 }
 

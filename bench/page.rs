@@ -19,7 +19,7 @@ extern "C" {
 const ROUNDS: usize = 2_000;
 
 struct Lent {
-    head: [u64; 6],
+    head: [u64; 7],
     terms: [u32; 128],
     counts: [u16; 256],
 }
@@ -49,12 +49,14 @@ fn day(n: usize, great: bool, seed: &mut u64) -> Day {
             named: (plays + next(seed) % (4_097 - plays)) as u16,
         };
     }
-    Day { depth: 2, width: 2, count: n, accepted: 4_096, campaigns }
+    // some are paused, which the page does not tell
+    let paused = next(seed) & (u64::MAX >> (64 - n));
+    Day { depth: 2, width: 2, count: n, accepted: 4_096, paused, campaigns }
 }
 
 fn lent(day: &Day) -> Lent {
     let mut l = Lent {
-        head: [1, 0, u64::from(day.depth), day.width, day.count as u64, day.accepted],
+        head: [1, 0, u64::from(day.depth), day.width, day.count as u64, day.accepted, day.paused],
         terms: [0; 128],
         counts: [0; 256],
     };

@@ -12,6 +12,8 @@ pub enum Record {
     Refused(u64),
     Closed { takings: u64, claim: u64, full: u64 },
     Tally { campaign: u64, plays: u64, turns: u64, age: u64, named: u64 },
+    Pause(u64),
+    Resume(u64),
 }
 use Record::*;
 
@@ -87,6 +89,14 @@ fn parse(s: &[u8]) -> Option<Record> {
         }
         b"start" => Start,
         b"view" => View(p.names()?),
+        b"pause" => {
+            p.word(b" ")?;
+            Pause(p.number(63)?)
+        }
+        b"resume" => {
+            p.word(b" ")?;
+            Resume(p.number(63)?)
+        }
         b"close" => Close,
         b"ok" => Done,
         b"play" => {
@@ -100,7 +110,7 @@ fn parse(s: &[u8]) -> Option<Record> {
         b"nobody" => Nobody,
         b"refused" => {
             p.word(b" ")?;
-            let number = p.number(18)?;
+            let number = p.number(19)?;
             if number == 0 {
                 return None;
             }
@@ -176,7 +186,8 @@ fn in_range(r: Record) -> bool {
         Plan { depth, width } => depth <= I && width <= I,
         Campaign { price, budget } => price <= I && budget <= I,
         Play { campaign, paid } => campaign < 64 && paid <= U,
-        Refused(number) => (1..=18).contains(&number),
+        Refused(number) => (1..=19).contains(&number),
+        Pause(campaign) | Resume(campaign) => campaign < 64,
         Tally { campaign, plays, turns, age, named } => {
             campaign < 64 && plays <= U && turns <= U && age <= U && named <= U
         }
@@ -205,6 +216,8 @@ pub fn write_line(r: Record, out: &mut [u8]) -> Result<usize, u64> {
             }
             p.word(b")\n")
         }
+        Pause(campaign) => p.word(b"(pause ").number(campaign).word(b")\n"),
+        Resume(campaign) => p.word(b"(resume ").number(campaign).word(b")\n"),
         Close => p.word(b"(close)\n"),
         Done => p.word(b"(ok)\n"),
         Play { campaign, paid } => p.word(b"(play ").number(campaign).word(b" (paid ").number(paid).word(b"))\n"),

@@ -20,6 +20,7 @@ pub struct Day {
     pub width: u64,
     pub count: usize,
     pub accepted: u64,
+    pub paused: u64,
     pub campaigns: [Campaign; CAMPAIGNS],
 }
 
@@ -41,6 +42,9 @@ impl Day {
         let plan = (1..=32).contains(&self.depth) && (1..=16).contains(&self.width);
         let high = self.width.checked_pow(self.depth).filter(|p| plan && *p <= MAX_POWER)?;
         if self.count > CAMPAIGNS || self.accepted > 4_096 {
+            return None;
+        }
+        if self.paused.checked_shr(self.count as u32).unwrap_or(0) != 0 {
             return None;
         }
         let weight = |age: u32| self.width.pow(age) * (self.width - 1).pow(self.depth - age);

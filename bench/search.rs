@@ -35,13 +35,13 @@ extern "C" {
         worth_len: usize,
     ) -> u64;
 }
-fn state(i: &Input) -> ([u64; 6], [u32; 128], [u16; 256]) {
+fn state(i: &Input) -> ([u64; 7], [u32; 128], [u16; 256]) {
     let mut t = [0u32; 128];
     for c in 0..i.n {
         t[c] = i.prices[c];
         t[64 + c] = i.prices[c] * i.wholes[c];
     }
-    ([0, 0, 1, 1, i.n as u64, 0], t, [0u16; 256])
+    ([0, 0, 1, 1, i.n as u64, 0, 0], t, [0u16; 256])
 }
 struct Rng(u64);
 impl Rng {

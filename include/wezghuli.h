@@ -29,9 +29,9 @@ extern "C" {
 
 /* Statuses of their own; every other is the number of a question, told at the functions that ask it. */
 #define WEZGHULI_STATUS_ACCEPTED 0
-/* The six words of a head are none: the phase is above 2, or takings are held in another phase than Closed. */
+/* The seven words of a head are none: the phase is above 2, or takings are held in another phase than Closed. */
 #define WEZGHULI_STATUS_NO_HEAD 100
-/* The first word of a record is above WEZGHULI_FORM_TALLY. */
+/* The first word of a record is above WEZGHULI_FORM_RESUME. */
 #define WEZGHULI_STATUS_NO_FORM 101
 /* The first word of a stream is above WEZGHULI_LINE_BUFFER. */
 #define WEZGHULI_STATUS_NO_STREAM 102
@@ -62,7 +62,7 @@ extern "C" {
  * order. A state whose bytes were changed by somebody else is refused with 1 or 100 by every operation but
  * wezghuli_blank, unless what it then says is sound. */
 typedef struct {
-    uint64_t head[6];     /* see WEZGHULI_HEAD_.. */
+    uint64_t head[7];     /* see WEZGHULI_HEAD_.. */
     uint32_t terms[128];  /* campaign i: its price at i, its budget at i + WEZGHULI_TERMS_BUDGET */
     uint16_t counts[256]; /* campaign i: its plays at i, and so on: see WEZGHULI_COUNTS_.. */
 } wezghuli_day;
@@ -73,7 +73,8 @@ typedef struct {
 #define WEZGHULI_HEAD_DEPTH 2
 #define WEZGHULI_HEAD_WIDTH 3
 #define WEZGHULI_HEAD_CAMPAIGNS 4
-#define WEZGHULI_HEAD_VIEWS 5 /* that were accepted */
+#define WEZGHULI_HEAD_VIEWS 5  /* that were accepted */
+#define WEZGHULI_HEAD_PAUSED 6 /* bit i: campaign i is paused; 0 while the phase is Filling */
 
 /* Where the columns begin. */
 #define WEZGHULI_TERMS_PRICE 0
@@ -112,6 +113,8 @@ typedef struct {
 #define WEZGHULI_FORM_REFUSED 8 /* the question's number */
 #define WEZGHULI_FORM_CLOSED 9  /* takings, total claim, full */
 #define WEZGHULI_FORM_TALLY 10  /* campaign, plays, turns, age, named */
+#define WEZGHULI_FORM_PAUSE 11  /* campaign */
+#define WEZGHULI_FORM_RESUME 12 /* campaign */
 
 /* A stream of lines beside a state: the first bytes of a line that has not ended. One that has none begins as
  * {{0}, {0}}; it may be copied, stored and sent as a state may. The library writes zero bytes behind those it keeps. */
@@ -125,41 +128,53 @@ typedef struct {
 #define WEZGHULI_STREAM_TAKEN 1   /* of the last block */
 #define WEZGHULI_STREAM_WRITTEN 2 /* bytes of the answers to it */
 
-/* Writes the blank state, whatever was there: Closed, depth 1, width 1, no campaigns, no views, no takings. A day
- * begins with it, or with any sound state that is Closed. It cannot fail and has no status. */
-void wezghuli_blank(uint64_t head[6], uint32_t terms[128], uint16_t counts[256]);
+/* Writes the blank state, whatever was there: Closed, depth 1, width 1, no campaigns, no views, no marks, no takings. A
+ * day begins with it, or with any sound state that is Closed. It cannot fail and has no status. */
+void wezghuli_blank(uint64_t head[7], uint32_t terms[128], uint16_t counts[256]);
 
-/* Opens a plan: the state becomes Filling, with no campaigns and zero counts. Answers DONE.
+/* Opens a plan: the state becomes Filling, with no campaigns, zero counts and none paused. Answers DONE.
  * Refused: 1 the state is not sound, 2 it is not Closed, 3 depth is not 1 to 32, 4 width is not 1 to 16,
  * 5 width to the power depth is above 4,294,967,296. */
-uint64_t wezghuli_open(uint64_t head[6], uint32_t terms[128], uint16_t counts[256],
+uint64_t wezghuli_open(uint64_t head[7], uint32_t terms[128], uint16_t counts[256],
     uint64_t depth, uint64_t width, uint64_t answer[5]);
 
-/* Adds a campaign, which gets the next number from 0 on. Answers DONE.
+/* Adds a campaign, which gets the next number from 0 on and is not paused. Answers DONE.
  * Refused: 1 the state is not sound, 6 it is not Filling, 7 there are 64 campaigns, 8 price is not 1 to 1,000,000,
  * 9 budget is not from the price to 2,000,000,000, 10 all budgets with this one are above 2,000,000,000. */
-uint64_t wezghuli_add(uint64_t head[6], uint32_t terms[128], uint16_t counts[256],
+uint64_t wezghuli_add(uint64_t head[7], uint32_t terms[128], uint16_t counts[256],
     uint64_t price, uint64_t budget, uint64_t answer[5]);
 
 /* Starts the day: the state becomes Running. Answers DONE.
  * Refused: 1 the state is not sound, 6 it is not Filling. */
-uint64_t wezghuli_start(uint64_t head[6], uint32_t terms[128], uint16_t counts[256], uint64_t answer[5]);
+uint64_t wezghuli_start(uint64_t head[7], uint32_t terms[128], uint16_t counts[256], uint64_t answer[5]);
 
-/* Shows a view, whose bit i names campaign i. Answers PLAYED with the campaign that plays and what this play pays, or
- * NOBODY.
+/* Shows a view, whose bit i names campaign i; a paused one counts as named for 13 alone. Answers PLAYED with the
+ * campaign that plays and what this play pays, or NOBODY.
  * Refused: 1 the state is not sound, 11 it is not Running, 12 4,096 views were accepted, 13 a named campaign is not in
- * the plan, 14 more than width campaigns are named. */
-uint64_t wezghuli_view(uint64_t head[6], uint32_t terms[128], uint16_t counts[256],
+ * the plan, 14 more than width campaigns that are not paused are named. */
+uint64_t wezghuli_view(uint64_t head[7], uint32_t terms[128], uint16_t counts[256],
     uint64_t set, uint64_t answer[5]);
 
 /* Answers TALLIED with the four counts of a campaign, in any phase; the state stays.
  * Refused: 1 the state is not sound, 15 there is no such campaign. */
-uint64_t wezghuli_tally(uint64_t head[6], uint32_t terms[128], uint16_t counts[256],
+uint64_t wezghuli_tally(uint64_t head[7], uint32_t terms[128], uint16_t counts[256],
     uint64_t campaign, uint64_t answer[5]);
 
-/* Closes the day: the state becomes Closed and holds its takings. Answers CLOSING with takings, total claim and full.
+/* Closes the day: the state becomes Closed and holds its takings; all else stays, the paused marks too. Answers CLOSING
+ * with takings, total claim and full.
  * Refused: 1 the state is not sound, 11 it is not Running. */
-uint64_t wezghuli_close(uint64_t head[6], uint32_t terms[128], uint16_t counts[256], uint64_t answer[5]);
+uint64_t wezghuli_close(uint64_t head[7], uint32_t terms[128], uint16_t counts[256], uint64_t answer[5]);
+
+/* Pauses a campaign: views that name it are treated as if they did not, until it is resumed or the next plan is opened.
+ * Its counts stay. Answers DONE, also where it is paused already.
+ * Refused: 1 the state is not sound, 11 it is not Running, 15 there is no such campaign. */
+uint64_t wezghuli_pause(uint64_t head[7], uint32_t terms[128], uint16_t counts[256],
+    uint64_t campaign, uint64_t answer[5]);
+
+/* Resumes a campaign. Answers DONE, also where it is not paused.
+ * Refused: as wezghuli_pause. */
+uint64_t wezghuli_resume(uint64_t head[7], uint32_t terms[128], uint16_t counts[256],
+    uint64_t campaign, uint64_t answer[5]);
 
 /* The figures at noon, in any phase; the state stays. figures[WEZGHULI_NOON_FULL] is width^depth x takings,
  * figures[WEZGHULI_NOON_CLAIM] the total claim, and figures[WEZGHULI_NOON_FLOOR] is
@@ -167,7 +182,7 @@ uint64_t wezghuli_close(uint64_t head[6], uint32_t terms[128], uint16_t counts[2
  * and named / depth, both rounded down. Of a state that operations made from the blank one, floor <= claim <= full at
  * every moment; of any other sound state only the figures themselves are promised.
  * Refused, with the figures as they were: 1 the state is not sound. WEZGHULI_STATUS_NO_HEAD. */
-uint64_t wezghuli_noon(const uint64_t head[6], const uint32_t terms[128], const uint16_t counts[256],
+uint64_t wezghuli_noon(const uint64_t head[7], const uint32_t terms[128], const uint16_t counts[256],
     uint64_t figures[3]);
 
 /* Reads a line, handed over without its byte 10, into the words of its record: an input line or an output line.
@@ -180,25 +195,25 @@ uint64_t wezghuli_read_line(const uint8_t *line, size_t line_len, uint64_t words
  * WEZGHULI_STATUS_NO_FORM where words[0] is no form. */
 uint64_t wezghuli_write_line(const uint64_t words[6], uint8_t *out, size_t out_len, uint64_t length[1]);
 
-/* Feeds a block of input to the stream. Each line that ends in it, at its byte 10, is answered as the program answers it:
- * the answers stand one behind the other at the front of out, each line of them with its byte 10, and later bytes of out
- * keep their values. What is left of the block is kept for the next one. words[WEZGHULI_STREAM_TAKEN] bytes of input
- * were taken: all of them, unless there was no longer room for the longest answer; hand the rest over again, with an
- * empty buffer. words[WEZGHULI_STREAM_WRITTEN] bytes of out are answers. Refusals are answers too, and no status.
+/* Feeds a block of input to the stream. Each line that ends in it, at its byte 10, is answered as the program answers
+ * it: the answers stand one behind the other at the front of out, each line of them with its byte 10, and later bytes
+ * of out keep their values. What is left of the block is kept for the next one. words[WEZGHULI_STREAM_TAKEN] bytes of
+ * input were taken: all of them, unless there was no longer room for the longest answer; hand the rest over again, with
+ * an empty buffer. words[WEZGHULI_STREAM_WRITTEN] bytes of out are answers. Refusals are answers too, and no status.
  * WEZGHULI_STATUS_NO_HEAD, WEZGHULI_STATUS_NO_STREAM, WEZGHULI_STATUS_NO_ROOM, in this order. */
-uint64_t wezghuli_feed(uint64_t head[6], uint32_t terms[128], uint16_t counts[256],
+uint64_t wezghuli_feed(uint64_t head[7], uint32_t terms[128], uint16_t counts[256],
     uint8_t pending[201], uint64_t words[3], const uint8_t *input, size_t input_len, uint8_t *out, size_t out_len);
 
 /* Ends the input: a last line without byte 10 is answered, if it has bytes, and nothing is kept any more.
  * Statuses as wezghuli_feed. */
-uint64_t wezghuli_finish(uint64_t head[6], uint32_t terms[128], uint16_t counts[256],
+uint64_t wezghuli_finish(uint64_t head[7], uint32_t terms[128], uint16_t counts[256],
     uint8_t pending[201], uint64_t words[3], uint8_t *out, size_t out_len);
 
 /* Prints the station's page of a state of any phase to the front of out, and how many bytes that is to length[0]: for
  * each campaign in number order WEZGHULI_PAGE_LINE bytes, and as many for the last line. Later bytes of out keep their
  * values; the state stays. docs/MANUAL.md has the columns.
  * Refused, with out and length as they were: 1 the state is not sound, 18 the page does not fit out. */
-uint64_t wezghuli_page(const uint64_t head[6], const uint32_t terms[128], const uint16_t counts[256],
+uint64_t wezghuli_page(const uint64_t head[7], const uint32_t terms[128], const uint16_t counts[256],
     uint8_t *out, size_t out_len, uint64_t length[1]);
 
 /* Finds an allotment of the views with the greatest takings that the plan of a state of any phase allows, and figures
@@ -210,7 +225,7 @@ uint64_t wezghuli_page(const uint64_t head[6], const uint32_t terms[128], const 
  * Refused, with all three as they were: 1 the state is not sound, 19 there are more than 256 views, 13 one names a
  * campaign that is not in the plan, 18 allotment or worth has fewer entries than there are views, or surplus than
  * campaigns. */
-uint64_t wezghuli_search(const uint64_t head[6], const uint32_t terms[128], const uint16_t counts[256],
+uint64_t wezghuli_search(const uint64_t head[7], const uint32_t terms[128], const uint16_t counts[256],
     const uint64_t *views, size_t views_len, uint64_t *allotment, size_t allotment_len,
     uint64_t *surplus, size_t surplus_len, uint64_t *worth, size_t worth_len);
 
@@ -220,7 +235,7 @@ uint64_t wezghuli_search(const uint64_t head[6], const uint32_t terms[128], cons
  * plays plus the view figures sum to the takings. No allotment takes more than one that is accepted. The figures may be
  * any numbers.
  * Refused: as wezghuli_search. */
-uint64_t wezghuli_check(const uint64_t head[6], const uint32_t terms[128], const uint16_t counts[256],
+uint64_t wezghuli_check(const uint64_t head[7], const uint32_t terms[128], const uint16_t counts[256],
     const uint64_t *views, size_t views_len, const uint64_t *allotment, size_t allotment_len,
     const uint64_t *surplus, size_t surplus_len, const uint64_t *worth, size_t worth_len);
 

@@ -33,7 +33,7 @@ extern "C" {
 
 #[repr(C)]
 pub struct Day {
-    head: [u64; 6],
+    head: [u64; 7],
     terms: [u32; 128],
     counts: [u16; 256],
     answer: [u64; 5],
@@ -51,7 +51,7 @@ impl Day {
 
     pub fn start(depth: u64, width: u64, campaigns: &[u64]) -> Day {
         let mut day = Day {
-            head: [0; 6],
+            head: [0; 7],
             terms: [0; 128],
             counts: [0; 256],
             answer: [0; 5],

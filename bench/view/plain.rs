@@ -1,5 +1,6 @@
-//! The same day in plain Rust, changed in place: the work of `view` that document 01 asks for, with the soundness of the
-//! whole state at each view. Powers are a static table, a soundness test ends at the first fault, and no sum can overflow.
+//! The same day in plain Rust, changed in place: the work of `view` that the documents ask for, with the soundness of
+//! the whole state at each view. Powers are a static table, a soundness test ends at the first fault, and no sum can
+//! overflow.
 
 use crate::checksum::fold;
 
@@ -75,6 +76,7 @@ pub struct Day {
     width: u64,
     count: u64,
     accepted: u64,
+    paused: u64,
     campaigns: [Campaign; CAMPAIGNS],
 }
 
@@ -90,6 +92,7 @@ impl Day {
             width,
             count: terms.len() as u64 / 2,
             accepted: 0,
+            paused: 0,
             campaigns,
         }
     }
@@ -104,6 +107,9 @@ impl Day {
             && (1..=16).contains(&self.width)
             && POWERS[self.width as usize][self.depth as usize] != 0;
         if !plan || self.count > CAMPAIGNS as u64 || self.accepted > 4_096 {
+            return false;
+        }
+        if self.phase == Phase::Filling && self.paused != 0 || self.beyond(self.paused) {
             return false;
         }
         let (planned, rest) = self.campaigns.split_at(self.count as usize);
@@ -138,6 +144,11 @@ impl Day {
             .is_some_and(|claim| claim <= full)
     }
 
+    /// Whether a set has a number that is not in the plan.
+    fn beyond(&self, set: u64) -> bool {
+        self.count < 64 && set >> self.count != 0
+    }
+
     fn question(&self, set: u64) -> u64 {
         if !self.is_sound() {
             return 1;
@@ -148,10 +159,10 @@ impl Day {
         if self.accepted >= 4_096 {
             return 12;
         }
-        if self.count < 64 && set >> self.count != 0 {
+        if self.beyond(set) {
             return 13;
         }
-        if !(1..=self.width).contains(&u64::from(set.count_ones())) {
+        if u64::from((set & !self.paused).count_ones()) > self.width {
             return 14;
         }
         0
@@ -179,8 +190,9 @@ impl Day {
         if question != 0 {
             return Answer::Refused(question);
         }
-        let player = self.choose(set);
-        let mut rest = set;
+        let found = set & !self.paused;
+        let player = self.choose(found);
+        let mut rest = found;
         while rest != 0 {
             let i = rest.trailing_zeros() as usize;
             rest &= rest - 1;

@@ -78,6 +78,10 @@ static uint64_t call(wezghuli_day *day, const uint64_t words[6], uint64_t answer
         return wezghuli_start(day->head, day->terms, day->counts, answer);
     case WEZGHULI_FORM_VIEW:
         return wezghuli_view(day->head, day->terms, day->counts, words[1], answer);
+    case WEZGHULI_FORM_PAUSE:
+        return wezghuli_pause(day->head, day->terms, day->counts, words[1], answer);
+    case WEZGHULI_FORM_RESUME:
+        return wezghuli_resume(day->head, day->terms, day->counts, words[1], answer);
     case WEZGHULI_FORM_CLOSE:
         return wezghuli_close(day->head, day->terms, day->counts, answer);
     default:

@@ -41,6 +41,20 @@ mod c {
             campaign: u64,
             answer: *mut u64,
         ) -> u64;
+        pub fn wezghuli_pause(
+            head: *mut u64,
+            terms: *mut u32,
+            counts: *mut u16,
+            campaign: u64,
+            answer: *mut u64,
+        ) -> u64;
+        pub fn wezghuli_resume(
+            head: *mut u64,
+            terms: *mut u32,
+            counts: *mut u16,
+            campaign: u64,
+            answer: *mut u64,
+        ) -> u64;
         pub fn wezghuli_close(
             head: *mut u64,
             terms: *mut u32,
@@ -71,6 +85,8 @@ const FORM_NOBODY: u64 = 7;
 const FORM_REFUSED: u64 = 8;
 const FORM_CLOSED: u64 = 9;
 const FORM_TALLY: u64 = 10;
+const FORM_PAUSE: u64 = 11;
+const FORM_RESUME: u64 = 12;
 const LINE_ROOM: usize = 201;
 
 /// The form of each kind of answer, which are numbered from 1.
@@ -81,7 +97,7 @@ type Record = [u64; 6];
 
 /// A state. Its fields are private, so that only the library writes them and none of its calls is misuse.
 struct Day {
-    head: [u64; 6],
+    head: [u64; 7],
     terms: [u32; 128],
     counts: [u16; 256],
 }
@@ -89,7 +105,7 @@ struct Day {
 impl Day {
     fn blank() -> Day {
         let mut day = Day {
-            head: [0; 6],
+            head: [0; 7],
             terms: [0; 128],
             counts: [0; 256],
         };
@@ -102,8 +118,8 @@ impl Day {
         day
     }
 
-    /// The answer to the call that a record asks for, or the number of the question that failed; an output form asks for
-    /// none.
+    /// The answer to the call that a record asks for, or the number of the question that failed; an output form asks
+    /// for none.
     fn call(&mut self, words: Record) -> Result<Answer, u64> {
         let mut answer = [0; 5];
         let (h, t, n) = (
@@ -118,6 +134,8 @@ impl Day {
                 FORM_CAMPAIGN => c::wezghuli_add(h, t, n, words[1], words[2], a),
                 FORM_START => c::wezghuli_start(h, t, n, a),
                 FORM_VIEW => c::wezghuli_view(h, t, n, words[1], a),
+                FORM_PAUSE => c::wezghuli_pause(h, t, n, words[1], a),
+                FORM_RESUME => c::wezghuli_resume(h, t, n, words[1], a),
                 FORM_CLOSE => c::wezghuli_close(h, t, n, a),
                 _ => return Err(17),
             }

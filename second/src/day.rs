@@ -78,7 +78,7 @@ pub struct Campaign {
     pub turns: u64,
     /// Views that named it while it could pay, since its last finished turn.
     pub age: u64,
-    /// Accepted views that named it.
+    /// Accepted views that named it while it was not paused.
     pub named: u64,
 }
 
@@ -121,7 +121,7 @@ impl Campaign {
 pub enum Answer {
     /// The number of the first question that failed.
     Refused(u64),
-    /// A plan, a campaign or a start was accepted.
+    /// A plan, a campaign, a start, a pause or a resume was accepted.
     Ok,
     /// A view was won by this campaign, which paid its price.
     Play {
@@ -130,7 +130,8 @@ pub enum Answer {
         /// The price of this one play.
         paid: u64,
     },
-    /// A view was accepted and no named campaign could pay, or none was named.
+    /// A view was accepted and no named campaign could pay, or none was named
+    /// but paused ones.
     Nobody,
     /// The counts of one campaign.
     Tally {
@@ -142,7 +143,7 @@ pub enum Answer {
         turns: u64,
         /// Age of the current turn.
         age: u64,
-        /// Accepted views that named it.
+        /// Accepted views that named it while it was not paused.
         named: u64,
     },
     /// The day was closed.
@@ -180,6 +181,8 @@ pub struct Day {
     pub count: u64,
     /// Number of accepted views.
     pub views: u64,
+    /// The paused marks, bit i for campaign i.
+    pub paused: u64,
     /// The campaigns, then entries of zeros.
     pub campaigns: [Campaign; ENTRIES],
 }
@@ -234,6 +237,7 @@ impl Day {
             width,
             count: 0,
             views: 0,
+            paused: 0,
             campaigns: [Campaign::ZERO; ENTRIES],
         }
     }
@@ -258,13 +262,24 @@ impl Day {
         self.asked(|day| day.try_view(set))
     }
 
+    /// Pauses campaign `n`: views that name it are answered and counted as if
+    /// they did not. It may be paused already.
+    pub fn pause(self, n: u64) -> (Day, Answer) {
+        self.asked(|day| day.try_pause(n))
+    }
+
+    /// Ends the pause of campaign `n`, if it is paused.
+    pub fn resume(self, n: u64) -> (Day, Answer) {
+        self.asked(|day| day.try_resume(n))
+    }
+
     /// Gives the counts of campaign `n`, in any phase.
     pub fn tally(self, n: u64) -> (Day, Answer) {
         self.asked(|day| day.try_tally(n))
     }
 
-    /// Closes the day. Plan and counts stay as they are, so that tallies can
-    /// still be asked.
+    /// Closes the day. Plan, counts and marks stay as they are, so that tallies
+    /// can still be asked.
     pub fn close(self) -> (Day, Answer) {
         self.asked(Day::try_close)
     }
@@ -284,6 +299,7 @@ impl Day {
         check_plan(self.depth, self.width).is_ok()
             && self.count <= MAX_CAMPAIGNS
             && self.views <= MAX_VIEWS
+            && self.beyond(self.paused) == 0
             && self.entries_are_sound()
             && self.phase_is_sound()
             && self.total_claim() <= u128::from(self.full())
@@ -299,6 +315,12 @@ impl Day {
         &self.campaigns[..self.count as usize]
     }
 
+    /// The marks of a set past the last campaign, moved down to bit 0. The count
+    /// is at most [`MAX_CAMPAIGNS`].
+    fn beyond(&self, set: u64) -> u64 {
+        set.checked_shr(self.count as u32).unwrap_or(0)
+    }
+
     fn entries_are_sound(&self) -> bool {
         let (planned, rest) = self.campaigns.split_at(self.count as usize);
         planned.iter().all(|c| c.is_sound(self.depth, self.views))
@@ -308,13 +330,18 @@ impl Day {
 
     /// The phase's own rule, asked when the entries are sound. Age is taken to
     /// be one of the counts that are zero in Filling; plays, turns and named
-    /// are zero there because no view is accepted.
+    /// are zero there because no view is accepted. No mark is set there either.
     fn phase_is_sound(&self) -> bool {
         match self.phase {
-            Phase::Filling => self.views == 0 && self.planned().iter().all(|c| c.age == 0),
+            Phase::Filling => self.is_untouched(),
             Phase::Running => true,
             Phase::Closed(takings) => takings == self.takings(),
         }
+    }
+
+    /// No accepted view, no paused mark and no age.
+    fn is_untouched(&self) -> bool {
+        self.views == 0 && self.paused == 0 && self.planned().iter().all(|c| c.age == 0)
     }
 
     /// Sum of budgets, asked when each is at most [`MAX_BUDGET`].
@@ -395,8 +422,9 @@ impl Day {
 
     pub(crate) fn try_view(&mut self, set: u64) -> Outcome {
         self.check_view(set)?;
-        let player = self.player(set);
-        self.record_view(set, player);
+        let names = set & !self.paused;
+        let player = self.player(names);
+        self.record_view(names, player);
         Ok(match player {
             Some(i) => Answer::Play {
                 campaign: i as u64,
@@ -404,6 +432,16 @@ impl Day {
             },
             None => Answer::Nobody,
         })
+    }
+
+    pub(crate) fn try_pause(&mut self, n: u64) -> Outcome {
+        self.paused |= self.mark(n)?;
+        Ok(Answer::Ok)
+    }
+
+    pub(crate) fn try_resume(&mut self, n: u64) -> Outcome {
+        self.paused &= !self.mark(n)?;
+        Ok(Answer::Ok)
     }
 
     pub(crate) fn try_tally(&mut self, n: u64) -> Outcome {
@@ -433,18 +471,26 @@ impl Day {
         })
     }
 
-    /// Questions 11 to 14. A view may name none.
+    /// Questions 11 and 15, then the mark of campaign `n`.
+    fn mark(&self, n: u64) -> Result<u64, u64> {
+        ask(self.phase == Phase::Running, refusal::NOT_RUNNING)?;
+        ask(n < self.count, refusal::NO_CAMPAIGN)?;
+        Ok(1 << n)
+    }
+
+    /// Questions 11 to 14. A view may name none. Paused names must be in the
+    /// plan too, but do not count towards the width.
     fn check_view(&self, set: u64) -> Result<(), u64> {
         ask(self.phase == Phase::Running, refusal::NOT_RUNNING)?;
         ask(self.views < MAX_VIEWS, refusal::VIEWS_FULL)?;
-        let beyond = set.checked_shr(self.count as u32).unwrap_or(0);
-        ask(beyond == 0, refusal::NAME_UNKNOWN)?;
-        let names = u64::from(set.count_ones());
+        ask(self.beyond(set) == 0, refusal::NAME_UNKNOWN)?;
+        let names = u64::from((set & !self.paused).count_ones());
         ask(names <= self.width, refusal::NAME_COUNT)
     }
 
-    /// The named campaign that can pay with the greatest price × W(age), the
-    /// lowest number among equals. A score of 0, usual for width 1, still plays.
+    /// Of the campaigns of a set, the one that can pay with the greatest price ×
+    /// W(age), the lowest number among equals. A score of 0, usual for width 1,
+    /// still plays.
     fn player(&self, set: u64) -> Option<usize> {
         let mut best = None;
         let mut top = 0;

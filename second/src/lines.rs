@@ -1,4 +1,4 @@
-//! Bracket lines: eleven forms, a reader and a writer.
+//! Bracket lines: thirteen forms, a reader and a writer.
 
 use crate::day::{Answer, MAX_CAMPAIGNS};
 use crate::refusal;
@@ -38,6 +38,10 @@ pub enum Record {
     Start,
     /// `(view 0 1)`, as a set with bit i for campaign i.
     View(u64),
+    /// `(pause 0)`
+    Pause(u64),
+    /// `(resume 0)`
+    Resume(u64),
     /// `(close)`
     Close,
     /// One of the six output forms.
@@ -82,6 +86,7 @@ fn in_range(record: &Record) -> bool {
     match *record {
         Record::Plan { depth, width } => within(MAX_INPUT, &[depth, width]),
         Record::Campaign { price, budget } => within(MAX_INPUT, &[price, budget]),
+        Record::Pause(campaign) | Record::Resume(campaign) => campaign <= MAX_NAME,
         Record::Output(Answer::Play { campaign, paid }) => {
             campaign <= MAX_NAME && within(MAX_NUMBER, &[paid])
         }
@@ -120,6 +125,8 @@ impl<'a> Reader<'a> {
             b"plan" => self.plan()?,
             b"campaign" => self.campaign()?,
             b"start" => Record::Start,
+            b"pause" => Record::Pause(self.argument(MAX_NAME)?),
+            b"resume" => Record::Resume(self.argument(MAX_NAME)?),
             b"close" => Record::Close,
             word => Record::Output(self.answer(word)?),
         };
@@ -281,6 +288,8 @@ impl Line {
             }
             Record::Start => self.text(b"(start"),
             Record::View(set) => self.view(set),
+            Record::Pause(campaign) => self.numbered(b"(pause ", campaign),
+            Record::Resume(campaign) => self.numbered(b"(resume ", campaign),
             Record::Close => self.text(b"(close"),
             Record::Output(answer) => self.answer(answer),
         }
@@ -289,8 +298,7 @@ impl Line {
     fn view(&mut self, set: u64) {
         self.text(b"(view");
         for name in (0..MAX_CAMPAIGNS).filter(|name| set >> name & 1 == 1) {
-            self.text(b" ");
-            self.number(name);
+            self.numbered(b" ", name);
         }
     }
 
@@ -299,14 +307,10 @@ impl Line {
             Answer::Ok => self.text(b"(ok"),
             Answer::Nobody => self.text(b"(nobody"),
             Answer::Play { campaign, paid } => {
-                self.text(b"(play ");
-                self.number(campaign);
+                self.numbered(b"(play ", campaign);
                 self.field(b" (paid ", paid);
             }
-            Answer::Refused(number) => {
-                self.text(b"(refused ");
-                self.number(number);
-            }
+            Answer::Refused(number) => self.numbered(b"(refused ", number),
             Answer::Closed {
                 takings,
                 claim,
@@ -324,8 +328,7 @@ impl Line {
                 age,
                 named,
             } => {
-                self.text(b"(tally ");
-                self.number(campaign);
+                self.numbered(b"(tally ", campaign);
                 self.field(b" (plays ", plays);
                 self.field(b" (turns ", turns);
                 self.field(b" (age ", age);
@@ -335,9 +338,15 @@ impl Line {
     }
 
     fn field(&mut self, opening: &[u8], number: u64) {
+        self.numbered(opening, number);
+        self.text(b")");
+    }
+
+    /// Copied out wherever it is used, so that each opening has a known length.
+    #[inline(always)]
+    fn numbered(&mut self, opening: &[u8], number: u64) {
         self.text(opening);
         self.number(number);
-        self.text(b")");
     }
 
     fn number(&mut self, mut number: u64) {

@@ -1,4 +1,7 @@
 //! The station's page: a line for each campaign, then a line with the total.
+//!
+//! A paused campaign has its line like any other, and marks do not show. Its
+//! named counts only the views that found it unpaused, as in the tallies.
 
 use crate::day::{Campaign, Day, MAX_CAMPAIGNS};
 use crate::refusal;

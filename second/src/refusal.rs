@@ -20,15 +20,15 @@ pub const PRICE: u64 = 8;
 pub const BUDGET: u64 = 9;
 /// The budgets together are too large.
 pub const BUDGET_SUM: u64 = 10;
-/// A view or a closing arrives while the phase is not Running.
+/// A view, a pause, a resume or a closing arrives while the phase is not Running.
 pub const NOT_RUNNING: u64 = 11;
 /// The day already has all its views.
 pub const VIEWS_FULL: u64 = 12;
 /// A view names a campaign outside the plan.
 pub const NAME_UNKNOWN: u64 = 13;
-/// A view names more campaigns than the width.
+/// A view names more unpaused campaigns than the width.
 pub const NAME_COUNT: u64 = 14;
-/// A tally is asked of a campaign outside the plan.
+/// A tally, a pause or a resume is asked for a campaign outside the plan.
 pub const NO_CAMPAIGN: u64 = 15;
 /// The line is too long.
 pub const LONG_LINE: u64 = 16;

@@ -4,6 +4,11 @@ use crate::day::{Answer, Day, Outcome};
 use crate::lines::{self, Record, MAX_LINE};
 use crate::refusal;
 
+/// The lowest bit of each of eight bytes.
+const LOW_BITS: u64 = u64::from_le_bytes([1; 8]);
+/// Eight line ends.
+const LINE_ENDS: u64 = u64::from_le_bytes([b'\n'; 8]);
+
 /// A day driven by lines, beginning with the blank state.
 ///
 /// The state is private and only the operations change it, so it is always
@@ -46,6 +51,8 @@ impl Session {
             Record::Plan { depth, width } => self.day.try_open(depth, width),
             Record::Campaign { price, budget } => self.day.try_add(price, budget),
             Record::Start => self.day.try_start(),
+            Record::Pause(n) => self.day.try_pause(n),
+            Record::Resume(n) => self.day.try_resume(n),
             Record::Close => self.day.try_close(),
             Record::Output(_) => Err(refusal::NOT_A_FORM),
         }
@@ -128,7 +135,43 @@ impl Stream {
     }
 }
 
-/// The place of the first byte 10.
+/// The place of the first byte 10, sought eight bytes at a time.
 fn find_line_end(bytes: &[u8]) -> Option<usize> {
-    bytes.iter().position(|&b| b == b'\n')
+    let (words, rest) = bytes.as_chunks::<8>();
+    for (i, word) in words.iter().enumerate() {
+        let hits = zero_bytes(u64::from_le_bytes(*word) ^ LINE_ENDS);
+        if hits != 0 {
+            return Some(8 * i + hits.trailing_zeros() as usize / 8);
+        }
+    }
+    let place = rest.iter().position(|&b| b == b'\n')?;
+    Some(8 * words.len() + place)
+}
+
+/// Marks the top bit of the lowest byte that is 0; what is marked above it does
+/// not count. Without such a byte nothing is marked.
+fn zero_bytes(word: u64) -> u64 {
+    word.wrapping_sub(LOW_BITS) & !word & (LOW_BITS << 7)
+}
+
+#[cfg(test)]
+mod tests {
+    use super::*;
+
+    #[test]
+    fn line_end_is_the_first_byte_10() {
+        let others = [0, 9, 11, 10 ^ 128, 11 ^ 128, 255];
+        for length in 0..40 {
+            for other in others {
+                let mut bytes = vec![other; length];
+                assert_eq!(find_line_end(&bytes), None);
+                for place in (0..length).rev() {
+                    bytes[place] = b'\n';
+                    assert_eq!(find_line_end(&bytes), Some(place));
+                    let alone = [&vec![other; place][..], b"\n\x0b\x0b"].concat();
+                    assert_eq!(find_line_end(&alone), Some(place));
+                }
+            }
+        }
+    }
 }

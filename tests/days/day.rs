@@ -105,7 +105,29 @@ impl Maker {
             let name = if near { from + i } else { self.r.below(count) };
             set |= 1 << (name % count);
         }
-        set
+        // beside any number of paused ones, or these alone
+        let paused = self.state.paused() & if self.r.one_in(2) { u64::MAX } else { self.r.next() };
+        match self.r.below(8) {
+            0 => set | paused,
+            1 if paused > 0 => paused,
+            _ => set,
+        }
+    }
+
+    /// A campaign is paused or resumed, now and then twice, or all of them are.
+    fn mark(&mut self) {
+        let (count, pause) = (self.state.count(), self.r.below(5) < 2);
+        if count == 0 {
+            return;
+        }
+        let call = |n| if pause { Call::Pause(n) } else { Call::Resume(n) };
+        if self.r.one_in(20) {
+            return (0..count).for_each(|n| self.call(call(n)));
+        }
+        let n = if self.r.one_in(6) { count - 1 } else { self.r.below(count) };
+        for _ in 0..self.r.of(&[1, 1, 1, 2]) {
+            self.call(call(n));
+        }
     }
 
     fn filling(&mut self, style: Style) {
@@ -142,13 +164,21 @@ impl Maker {
         };
         // a day that interests nobody
         let idle = self.r.one_in(12);
+        // in how many views a campaign is paused or resumed once, if at all
+        let marks = self.r.of(&[None, Some(3), Some(10), Some(40)]);
         self.refusals(3);
         for _ in 0..views {
+            if marks.is_some_and(|n| self.r.one_in(n)) {
+                self.mark();
+            }
             let set = if idle { 0 } else { self.names() };
             self.call(Call::View(set));
             if self.r.one_in(40) {
                 self.refusals(2);
             }
+        }
+        if marks.is_some() {
+            self.mark();
         }
         self.refusals(4);
     }

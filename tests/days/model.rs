@@ -1,6 +1,6 @@
 //! The documents' answers in exact whole numbers, by neither program: what both get wrong alike differs from them.
 
-use crate::state::{members, Call, Campaign, Phase, State};
+use crate::state::{members, naming, set_of, Call, Campaign, Phase, State};
 
 /// The greatest number of an input form: twelve digits.
 const MOST_NUMERAL: u64 = 999_999_999_999;
@@ -30,7 +30,9 @@ pub fn read(line: &[u8]) -> Result<Call, u64> {
         ("plan", &[depth, width]) => Call::Plan(depth, width),
         ("campaign", &[price, budget]) => Call::Campaign(price, budget),
         ("start", []) => Call::Start,
-        ("view", names) if names.iter().all(|n| *n < 64) => Call::View(names.iter().fold(0, |set, n| set | 1 << n)),
+        ("view", names) if names.iter().all(|n| *n < 64) => Call::View(set_of(names.iter().map(|n| *n as usize))),
+        ("pause", &[n]) if n < 64 => Call::Pause(n),
+        ("resume", &[n]) if n < 64 => Call::Resume(n),
         ("close", []) => Call::Close,
         _ => return Err(17),
     };
@@ -49,7 +51,7 @@ impl State {
         u128::from(self.campaigns[i].price) * self.weight(self.campaigns[i].age)
     }
 
-    /// The campaigns of a view that can pay.
+    /// The campaigns of a set that can pay.
     pub fn able(&self, set: u64) -> Vec<usize> {
         members(set).filter(|i| self.campaigns[*i].can_pay()).collect()
     }
@@ -61,8 +63,9 @@ impl State {
         able.into_iter().find(|i| self.score(*i) == top)
     }
 
-    /// Rules 2 to 4; the player's number and price.
+    /// Rules 2 to 4, of the names that are not paused; the player's number and price.
     fn view(&mut self, set: u64) -> Option<(usize, u64)> {
+        let set = self.unpaused(set);
         let (player, able) = (self.player(set), self.able(set));
         for i in able {
             let c = &mut self.campaigns[i];
@@ -84,6 +87,15 @@ impl State {
         let turn = self.weight(self.depth) - self.weight(0);
         let waited = |c: &Campaign| self.weight(c.age) - self.weight(0);
         self.campaigns.iter().map(|c| u128::from(c.price) * (u128::from(c.turns) * turn + waited(c))).sum()
+    }
+
+    /// Whether the takings reach the floor of a day with these views: the share of price × the smaller of whole plays
+    /// and named / depth, summed over campaigns.
+    pub fn floor(&self, views: &[u64]) -> bool {
+        let share = self.weight(self.depth) - self.weight(0);
+        let due = |(i, c): (usize, &Campaign)| c.price * (c.budget / c.price).min(naming(views, i) / self.depth);
+        let due: u64 = self.campaigns.iter().enumerate().map(due).sum();
+        share * u128::from(due) <= self.weight(self.depth) * self.takings()
     }
 
     /// The closing line and the tallies.
@@ -108,6 +120,8 @@ impl State {
                 let played = self.view(set);
                 return played.map_or("(nobody)\n".into(), |(i, paid)| format!("(play {i} (paid {paid}))\n"));
             }
+            Call::Pause(n) => self.campaigns[n as usize].paused = true,
+            Call::Resume(n) => self.campaigns[n as usize].paused = false,
             Call::Close => {
                 self.phase = Phase::Closed;
                 return self.closing();

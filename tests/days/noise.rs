@@ -1,7 +1,8 @@
 //! Lines that are refused: by a question of the phase that the day is in, as too long, or as no form.
 
 use crate::random::Random;
-use crate::state::{deepest, Call, Phase, State, MOST_BUDGET, MOST_CAMPAIGNS, MOST_PRICE, MOST_VIEWS};
+use crate::state::{deepest, members, set_of, Call, Phase, State};
+use crate::state::{MOST_BUDGET, MOST_CAMPAIGNS, MOST_PRICE, MOST_VIEWS};
 
 /// Numbers that lines may have and no plan or campaign takes: both sides of 32 bits, 2 in 32 bits, the greatest.
 pub const WIDE: [u64; 4] = [4_294_967_295, 4_294_967_296, 4_294_967_298, 999_999_999_999];
@@ -35,7 +36,8 @@ const EDGES: [u64; 24] = [
 
 /// A call that one of the questions which the phase leaves refuses.
 pub fn refused_call(r: &mut Random, state: &State) -> Call {
-    match (state.phase, r.below(10)) {
+    match (state.phase, r.below(12)) {
+        (_, 10 | 11) => bad_mark(r, state),
         (Phase::Blank | Phase::Closed, 0..=4) => bad_plan(r),
         (Phase::Filling | Phase::Running, 0 | 1) => any_plan(r),
         (Phase::Filling, 2..=6) => bad_campaign(r, state),
@@ -115,23 +117,44 @@ fn any_view(r: &mut Random) -> Call {
     })
 }
 
+/// A pause or a resume; of a number that the plan lacks, where the phase leaves that question.
+fn bad_mark(r: &mut Random, state: &State) -> Call {
+    let least = if state.phase == Phase::Running { state.count() } else { 0 };
+    if least == MOST_CAMPAIGNS {
+        return Call::Start;
+    }
+    let n = if r.one_in(2) { r.within(least, MOST_CAMPAIGNS - 1) } else { r.of(&[least, MOST_CAMPAIGNS - 1]) };
+    if r.one_in(2) {
+        Call::Pause(n)
+    } else {
+        Call::Resume(n)
+    }
+}
+
 fn bad_view(r: &mut Random, state: &State) -> Call {
-    let (count, width) = (state.count(), state.width);
+    let (count, width) = (state.count(), state.width as usize);
     if state.accepted() == MOST_VIEWS {
         return if r.one_in(2) { Call::View(r.below(2)) } else { any_view(r) };
     }
     let beyond = |i: u64| if count < MOST_CAMPAIGNS { 1 << (count + i % (64 - count)) } else { 0 };
-    let more = if count > width { (1 << (width + 1)) - 1 } else { 0 };
-    let set = match r.below(5) {
+    let planned = set_of(0..count as usize);
+    let (unpaused, paused) = (state.unpaused(planned), state.paused() & r.next());
+    let more = if members(unpaused).count() > width { set_of(members(unpaused).take(width + 1)) } else { 0 };
+    let set = match r.below(6) {
         0 => more,
         1 => beyond(0),
         2 if count < MOST_CAMPAIGNS => beyond(r.below(64)) | u64::from(count > 0),
         3 => beyond(0) | more,
-        _ if count < MOST_CAMPAIGNS => 1 << 63,
-        _ => u64::MAX,
+        4 if more > 0 => more | paused,
+        _ if count < MOST_CAMPAIGNS => 1 << 63 | paused,
+        _ if more > 0 => u64::MAX,
+        _ => 0,
     };
-    // a view that names none is taken, and a full plan has more campaigns than any width
-    Call::View(if set == 0 { beyond(0) | more } else { set })
+    // a view that names none is taken
+    match if set == 0 { beyond(0) | more } else { set } {
+        0 => Call::Start,
+        set => Call::View(set),
+    }
 }
 
 /// A line of more than 200 bytes.
@@ -151,7 +174,7 @@ pub fn long(r: &mut Random) -> Vec<u8> {
 }
 
 fn form(r: &mut Random) -> String {
-    match r.below(11) {
+    match r.below(13) {
         0 => "(ok)".into(),
         1 => "(nobody)".into(),
         2 => format!("(play {} (paid {}))", r.below(65), r.of(&EDGES)),
@@ -162,6 +185,8 @@ fn form(r: &mut Random) -> String {
         7 => any_campaign(r).line(),
         8 => any_view(r).line(),
         9 => Call::Start.line(),
+        10 => Call::Pause(r.below(64)).line(),
+        11 => Call::Resume(r.below(64)).line(),
         _ => Call::Close.line(),
     }
 }
@@ -184,13 +209,15 @@ fn damaged(r: &mut Random) -> Vec<u8> {
 }
 
 /// Every slot of every form, as what stands before its number and behind it.
-pub const SLOTS: [(&str, &str); 17] = [
+pub const SLOTS: [(&str, &str); 19] = [
     ("(plan (depth ", ") (width 1))"),
     ("(plan (depth 1) (width ", "))"),
     ("(campaign (price ", ") (budget 1))"),
     ("(campaign (price 1) (budget ", "))"),
     ("(view ", ")"),
     ("(view 0 ", ")"),
+    ("(pause ", ")"),
+    ("(resume ", ")"),
     ("(play ", " (paid 1))"),
     ("(play 1 (paid ", "))"),
     ("(refused ", ")"),
@@ -239,7 +266,20 @@ const NO_VIEWS: [&str; 9] = [
     "(view 4294967296)",
 ];
 
-const NO_FORMS: [&str; 14] = [
+const NO_MARKS: [&str; 10] = [
+    "(pause 64)",
+    "(resume 64)",
+    "(pause)",
+    "(resume)",
+    "(pause 00)",
+    "(resume 0 1)",
+    "(pause  0)",
+    "(resume 0 )",
+    "(paused 0)",
+    "(resumed 0)",
+];
+
+const NO_FORMS: [&str; 12] = [
     "(START)",
     " (start)",
     "(start) ",
@@ -251,15 +291,13 @@ const NO_FORMS: [&str; 14] = [
     "(plan (width 2) (depth 2))",
     "(campaign (price 5))",
     "(tally 0)",
-    "(pause 0)",
-    "(resume 1)",
     "(close )",
 ];
 
 /// A line of at most 200 bytes that is no input form. `damaged` may by rare chance give an input form again, as where a
 /// view loses a space.
 pub fn no_form(r: &mut Random) -> Vec<u8> {
-    match r.below(12) {
+    match r.below(13) {
         0 => vec![],
         1 => vec![r.of(b"x( 0)\0\xff"); r.of(&[1, 199, 200])],
         2..=5 => no_number(r).into_bytes(),
@@ -275,6 +313,7 @@ pub fn no_form(r: &mut Random) -> Vec<u8> {
                 b"(ok)".to_vec()
             }
         }
+        10 => r.of(&NO_MARKS).into(),
         _ => damaged(r),
     }
 }

@@ -3,11 +3,12 @@
 
 use crate::model;
 use crate::noise::{INPUT_SLOTS, NO_NUMERALS, SLOTS, WIDE};
-use crate::state::{deepest, Call, Phase, State, MOST_BUDGET, MOST_CAMPAIGNS, MOST_PRICE, MOST_VIEWS};
+use crate::state::{deepest, members, Call, Phase, State};
+use crate::state::{MOST_BUDGET, MOST_CAMPAIGNS, MOST_PRICE, MOST_VIEWS};
 use std::collections::BTreeMap;
 
-/// Which lines get which refusal in which phases. 1, 15 and 18 answer no line: the program's state stays sound, no line
-/// asks for one tally, and its buffer is long enough.
+/// Which lines get which refusal in which phases. 1 and 18 answer no line: the program's state stays sound, and its
+/// buffer is long enough.
 fn refusals() -> Vec<(&'static str, u64, Vec<Phase>)> {
     use Phase::{Blank, Closed, Filling, Running};
     vec![
@@ -26,14 +27,23 @@ fn refusals() -> Vec<(&'static str, u64, Vec<Phase>)> {
         ("view", 12, vec![Running]),
         ("view", 13, vec![Running]),
         ("view", 14, vec![Running]),
+        ("pause", 11, vec![Blank, Filling, Closed]),
+        ("resume", 11, vec![Blank, Filling, Closed]),
+        ("pause", 15, vec![Running]),
+        ("resume", 15, vec![Running]),
         ("line", 16, Phase::ALL.to_vec()),
         ("line", 17, Phase::ALL.to_vec()),
     ]
 }
 
 /// A question that fails, and a later one that fails too: the first is answered.
-const ORDERS: [(&str, &[u64]); 3] =
-    [("plan", &[2, 3, 4, 5]), ("campaign", &[6, 7, 8, 9, 10]), ("view", &[11, 12, 13, 14])];
+const ORDERS: [(&str, &[u64]); 5] = [
+    ("plan", &[2, 3, 4, 5]),
+    ("campaign", &[6, 7, 8, 9, 10]),
+    ("view", &[11, 12, 13, 14]),
+    ("pause", &[11, 15]),
+    ("resume", &[11, 15]),
+];
 
 const EVENTS: [&str; 70] = [
     "depth 1 taken",
@@ -108,6 +118,46 @@ const EVENTS: [&str; 70] = [
     "last line without byte 10",
 ];
 
+/// What pauses bring about.
+const MARKS: [&str; 36] = [
+    "pause 63 taken",
+    "pause 63 refused",
+    "pause of the last campaign taken",
+    "pause of the next number refused",
+    "resume 63 taken",
+    "resume 63 refused",
+    "resume of the last campaign taken",
+    "resume of the next number refused",
+    "(pause 64) refused 17",
+    "(resume 64) refused 17",
+    "(pause) refused 17",
+    "(resume) refused 17",
+    "paused",
+    "paused twice",
+    "resumed",
+    "resumed twice",
+    "spent one paused",
+    "one with an age paused",
+    "one with an age resumed",
+    "the last unpaused one paused",
+    "paused after view 4096",
+    "resumed after view 4096",
+    "all names paused: taken",
+    "view 4096, all names paused, taken",
+    "names over the width, but for paused ones: taken",
+    "64 names, but for paused ones within the width: taken",
+    "names as the width beside a paused one: taken",
+    "names over the width beside a paused one: refused",
+    "number that the plan lacks beside a paused one: refused",
+    "paused one that is spent named",
+    "paused one that would play named",
+    "paused one whose turn would end named",
+    "resumed one plays",
+    "closed with a paused one",
+    "closed below the floor, were paused names counted",
+    "number paused at the last closing plays",
+];
+
 const OUTPUT_FORMS: [&str; 6] = ["(ok)", "(nobody)", "(play ", "(refused ", "(closed ", "(tally "];
 
 fn refusal(word: &str, number: u64, phase: Phase) -> String {
@@ -137,7 +187,7 @@ fn deep(width: u64, taken: bool) -> String {
 
 /// All that must be seen.
 fn wanted() -> Vec<String> {
-    let mut all: Vec<String> = EVENTS.iter().map(|e| e.to_string()).collect();
+    let mut all: Vec<String> = EVENTS.iter().chain(&MARKS).map(|e| e.to_string()).collect();
     for (word, number, phases) in refusals() {
         all.extend(phases.into_iter().map(|phase| refusal(word, number, phase)));
     }
@@ -160,11 +210,17 @@ fn wanted() -> Vec<String> {
 
 pub struct Seen {
     counts: BTreeMap<String, u64>,
+    /// Campaigns of the day that were resumed.
+    resumed: u64,
+    /// Numbers that were paused when the day before was closed.
+    before: u64,
+    /// The day's accepted views as they were handed in.
+    handed: Vec<u64>,
 }
 
 impl Seen {
     pub fn new() -> Seen {
-        Seen { counts: wanted().into_iter().map(|name| (name, 0)).collect() }
+        Seen { counts: wanted().into_iter().map(|name| (name, 0)).collect(), resumed: 0, before: 0, handed: vec![] }
     }
 
     fn mark(&mut self, name: impl Into<String>) {
@@ -200,6 +256,7 @@ impl Seen {
 
     pub fn walk(&mut self, input: &[u8]) {
         let mut state = State::blank();
+        (self.resumed, self.before, self.handed) = (0, 0, vec![]);
         self.mark_if(input.last().is_some_and(|b| *b != 10), "last line without byte 10");
         for line in model::lines(input) {
             self.line(&state, line);
@@ -263,6 +320,7 @@ impl Seen {
             Call::Campaign(price, budget) => self.campaign_limits(state, price, budget, number),
             Call::Start => self.mark_if(number == 0 && state.count() == 0, "day of no campaigns started"),
             Call::View(set) => self.view_limits(state, set, number),
+            Call::Pause(n) | Call::Resume(n) => self.mark_limits(state, call.word(), n, number),
             Call::Close => {}
         }
     }
@@ -303,7 +361,8 @@ impl Seen {
 
     fn view_limits(&mut self, state: &State, set: u64, number: u64) {
         let (taken, count) = (number == 0, state.count());
-        let (names, top) = (u64::from(set.count_ones()), 64 - u64::from(set.leading_zeros()));
+        let names = u64::from(state.unpaused(set).count_ones());
+        let top = 64 - u64::from(set.leading_zeros());
         self.mark_if(taken && state.accepted() + 1 == MOST_VIEWS, "view 4096 taken");
         self.mark_if(number == 12 && state.failed(Call::View(set)).len() == 1, "view 4097 refused");
         self.mark_if(number == 14 && names == state.width + 1, "one name over the width refused");
@@ -318,11 +377,44 @@ impl Seen {
         if set == 0 {
             self.no_name(state, number);
         }
+        if set != state.unpaused(set) {
+            self.paused_names(state, set, number);
+        }
+    }
+
+    fn mark_limits(&mut self, state: &State, word: &str, n: u64, number: u64) {
+        let (taken, missing) = (number == 0, number == 15);
+        self.mark_if(taken && n == 63, &format!("{word} 63 taken"));
+        self.mark_if(missing && n == 63, &format!("{word} 63 refused"));
+        self.mark_if(taken && n + 1 == state.count(), &format!("{word} of the last campaign taken"));
+        self.mark_if(missing && n == state.count(), &format!("{word} of the next number refused"));
+    }
+
+    /// A view that names paused campaigns.
+    fn paused_names(&mut self, state: &State, set: u64, number: u64) {
+        let (taken, unpaused, width) = (number == 0, state.unpaused(set), state.width);
+        let (all, names) = (u64::from(set.count_ones()), u64::from(unpaused.count_ones()));
+        self.mark_if(number == 13, "number that the plan lacks beside a paused one: refused");
+        self.mark_if(number == 14 && names == width + 1, "names over the width beside a paused one: refused");
+        if !taken {
+            return;
+        }
+        self.mark_if(names == 0, "all names paused: taken");
+        let last = state.accepted() + 1 == MOST_VIEWS;
+        self.mark_if(names == 0 && last, "view 4096, all names paused, taken");
+        self.mark_if(all > width, "names over the width, but for paused ones: taken");
+        self.mark_if(all == 64, "64 names, but for paused ones within the width: taken");
+        self.mark_if(names == width, "names as the width beside a paused one: taken");
+        let hidden = || members(set & !unpaused).map(|i| &state.campaigns[i]);
+        self.mark_if(hidden().any(|c| !c.can_pay()), "paused one that is spent named");
+        self.mark_if(state.player(set) != state.player(unpaused), "paused one that would play named");
+        let ends = hidden().any(|c| c.can_pay() && c.age + 1 == state.depth);
+        self.mark_if(ends && state.depth > 1, "paused one whose turn would end named");
     }
 
     /// A view that names none.
     fn no_name(&mut self, state: &State, number: u64) {
-        let (taken, never) = (number == 0, state.views.iter().all(|set| *set == 0));
+        let (taken, never) = (number == 0, self.handed.iter().all(|set| *set == 0));
         self.mark_if(taken, "no name taken");
         self.mark_if(taken && state.count() == 0, "no name taken in a day of no campaigns");
         self.mark_if(taken && state.campaigns.iter().any(|c| c.age > 0), "no name taken beside an age");
@@ -334,19 +426,49 @@ impl Seen {
     /// What an accepted call does, told by the state before it.
     fn accepted(&mut self, state: &State, call: Call) {
         match call {
-            Call::Plan(..) => self.mark_if(state.phase == Phase::Closed, "second day"),
-            Call::View(set) => self.view(state, set),
+            Call::Plan(..) => {
+                self.mark_if(state.phase == Phase::Closed, "second day");
+                (self.resumed, self.before, self.handed) = (0, state.paused(), vec![]);
+            }
+            Call::View(set) => {
+                self.handed.push(set);
+                self.view(state, state.unpaused(set))
+            }
+            Call::Pause(n) => self.pause(state, n as usize),
+            Call::Resume(n) => self.resume(state, n as usize),
             Call::Close => {
                 let (count, takings) = (state.count(), state.takings());
                 self.mark_if(count == 0, "closed with no campaign");
                 self.mark_if(count == MOST_CAMPAIGNS, "closed with 64 campaigns");
                 self.mark_if(takings == 0 && count > 0, "closed with takings 0");
                 self.mark_if(takings == u128::from(MOST_BUDGET), "closed with takings 2000000000");
+                self.mark_if(state.paused() > 0, "closed with a paused one");
+                self.mark_if(!state.floor(&state.views), "closed below the floor");
+                self.mark_if(!state.floor(&self.handed), "closed below the floor, were paused names counted");
             }
             Call::Campaign(..) | Call::Start => {}
         }
     }
 
+    fn pause(&mut self, state: &State, n: usize) {
+        let c = &state.campaigns[n];
+        self.mark(if c.paused { "paused twice" } else { "paused" });
+        self.mark_if(!c.can_pay(), "spent one paused");
+        self.mark_if(state.accepted() == MOST_VIEWS, "paused after view 4096");
+        self.mark_if(c.age > 0, "one with an age paused");
+        let last = state.unpaused(u64::MAX >> (64 - state.count())) == 1 << n;
+        self.mark_if(last, "the last unpaused one paused");
+    }
+
+    fn resume(&mut self, state: &State, n: usize) {
+        let c = &state.campaigns[n];
+        self.mark(if c.paused { "resumed" } else { "resumed twice" });
+        self.mark_if(c.paused && c.age > 0, "one with an age resumed");
+        self.mark_if(state.accepted() == MOST_VIEWS, "resumed after view 4096");
+        self.resumed |= u64::from(c.paused) << n;
+    }
+
+    /// A view of these unpaused names.
     fn view(&mut self, state: &State, set: u64) {
         let (able, depth) = (state.able(set), state.depth);
         let Some(player) = state.player(set) else {
@@ -366,6 +488,8 @@ impl Seen {
         self.mark_if(score == 0, "play with a score of 0");
         self.mark_if(score > 1 << 51, "score over 2^51");
         self.mark_if(player == 63, "campaign 63 plays");
+        self.mark_if(self.resumed >> player & 1 == 1, "resumed one plays");
+        self.mark_if(self.before >> player & 1 == 1, "number paused at the last closing plays");
         let last = plays.plays + 1 == plays.budget / plays.price;
         self.mark_if(last, "last play");
         self.mark_if(last && plays.budget % plays.price > 0, "spent with cents left");

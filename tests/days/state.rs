@@ -35,6 +35,8 @@ pub enum Call {
     Campaign(u64, u64),
     Start,
     View(u64),
+    Pause(u64),
+    Resume(u64),
     Close,
 }
 
@@ -45,6 +47,8 @@ impl Call {
             Call::Campaign(..) => "campaign",
             Call::Start => "start",
             Call::View(_) => "view",
+            Call::Pause(_) => "pause",
+            Call::Resume(_) => "resume",
             Call::Close => "close",
         }
     }
@@ -57,6 +61,7 @@ impl Call {
                 let names: String = members(set).map(|i| format!(" {i}")).collect();
                 format!("(view{names})")
             }
+            Call::Pause(n) | Call::Resume(n) => format!("({} {n})", self.word()),
             Call::Start | Call::Close => format!("({})", self.word()),
         }
     }
@@ -64,6 +69,15 @@ impl Call {
 
 pub fn members(set: u64) -> impl Iterator<Item = usize> {
     (0..64).filter(move |i| set >> i & 1 == 1)
+}
+
+/// How many of these views name a campaign.
+pub fn naming(views: &[u64], i: usize) -> u64 {
+    views.iter().filter(|set| **set >> i & 1 == 1).count() as u64
+}
+
+pub fn set_of(names: impl Iterator<Item = usize>) -> u64 {
+    names.fold(0, |set, i| set | 1 << i)
 }
 
 /// The greatest depth up to 32 that a width allows.
@@ -78,6 +92,7 @@ pub struct Campaign {
     pub plays: u64,
     pub turns: u64,
     pub age: u64,
+    pub paused: bool,
 }
 
 impl Campaign {
@@ -91,7 +106,7 @@ pub struct State {
     pub depth: u64,
     pub width: u64,
     pub campaigns: Vec<Campaign>,
-    /// The accepted views, each as the set of its names.
+    /// The accepted views, each as the set of its names that were not paused then.
     pub views: Vec<u64>,
 }
 
@@ -108,9 +123,18 @@ impl State {
         self.views.len() as u64
     }
 
+    pub fn paused(&self) -> u64 {
+        set_of((0..self.campaigns.len()).filter(|i| self.campaigns[*i].paused))
+    }
+
+    /// The names of a view but for those of paused campaigns.
+    pub fn unpaused(&self, set: u64) -> u64 {
+        set & !self.paused()
+    }
+
     /// How many accepted views named a campaign.
-    pub fn named(&self, i: usize) -> usize {
-        self.views.iter().filter(|set| **set >> i & 1 == 1).count()
+    pub fn named(&self, i: usize) -> u64 {
+        naming(&self.views, i)
     }
 
     pub fn budgets(&self) -> u64 {
@@ -140,8 +164,9 @@ impl State {
                 (11, running),
                 (12, self.accepted() < MOST_VIEWS),
                 (13, set.checked_shr(self.campaigns.len() as u32).unwrap_or(0) == 0),
-                (14, u64::from(set.count_ones()) <= self.width),
+                (14, u64::from(self.unpaused(set).count_ones()) <= self.width),
             ],
+            Call::Pause(n) | Call::Resume(n) => vec![(11, running), (15, n < self.count())],
             Call::Close => vec![(11, running)],
         };
         questions.into_iter().filter(|q| !q.1).map(|q| q.0).collect()

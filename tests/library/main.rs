@@ -1,5 +1,5 @@
-//! The header of the library against the Rattle source: every exported function with its parameters, every constant, and
-//! the declarations that Rust programs of this repository make. What the source has no name for, `use.c` tries.
+//! The header of the library against the Rattle source: every exported function with its parameters, every constant,
+//! and the declarations that Rust programs of this repository make. What the source has no name for, `use.c` tries.
 
 mod header;
 mod source;
@@ -157,7 +157,7 @@ fn compare(texts: &Texts) -> Findings {
 }
 
 /// Changes of one side alone, each of which must be found.
-const CHANGES: [(&str, &str, &str); 10] = [
+const CHANGES: [(&str, &str, &str); 15] = [
     (
         "header",
         "uint64_t depth, uint64_t width",
@@ -179,6 +179,10 @@ const CHANGES: [(&str, &str, &str); 10] = [
         "uint64_t words[6], uint8_t",
     ),
     ("header", "uint32_t terms[128];", "uint32_t terms[64];"),
+    ("header", "uint64_t head[7]; ", "uint64_t head[6]; "),
+    ("header", "const uint64_t head[7]", "const uint64_t head[6]"),
+    ("header", "#define WEZGHULI_HEAD_PAUSED 6", "#define WEZGHULI_HEAD_PAUSED 5"),
+    ("header", "#define WEZGHULI_FORM_RESUME 12", "#define WEZGHULI_FORM_RESUME 11"),
     (
         "header",
         "#define WEZGHULI_ANSWER_NOBODY 3",
@@ -191,6 +195,7 @@ const CHANGES: [(&str, &str, &str); 10] = [
     ),
     ("header", "#define WEZGHULI_FORM_VIEW 3", ""),
     ("library", "fn wezghuli_close", "fn wezghuli_end"),
+    ("library", "fn wezghuli_pause", "fn wezghuli_paused"),
     (
         "library",
         "pub const STATUS_NO_FORM: u64 = 101;",

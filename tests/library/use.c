@@ -1,6 +1,6 @@
 /* What the header says and the source has no name for, tried: where columns begin, the figures at noon, the lengths of
- * lines and pages, misuse, refusals, a stream in blocks of every length, and the stack that each function takes, found by
- * running it on a stack that was painted before. */
+ * lines and pages, misuse, refusals, paused marks, a stream in blocks of every length, and the stack that each function
+ * takes, found by running it on a stack that was painted before. */
 #define _XOPEN_SOURCE 700
 #include <stdint.h>
 #include <stdio.h>
@@ -14,7 +14,7 @@
 #define SEARCH_LIMIT 12288
 
 _Static_assert(WEZGHULI_LINE_ROOM == WEZGHULI_MAX_LINE + 1, "the longest line that is read, and its byte 10");
-_Static_assert(sizeof(wezghuli_day) == 1072, "a state has no gaps");
+_Static_assert(sizeof(wezghuli_day) == 1080, "a state has no gaps");
 _Static_assert(WEZGHULI_PAGE_ROOM == WEZGHULI_PAGE_LINE * (WEZGHULI_MAX_CAMPAIGNS + 1), "64 campaigns and the total");
 _Static_assert(sizeof ((wezghuli_stream *)0)->pending == WEZGHULI_LINE_BUFFER, "an unfinished line");
 
@@ -55,6 +55,7 @@ static void columns(void)
     expect(day.head[WEZGHULI_HEAD_PHASE] == WEZGHULI_PHASE_RUNNING, "the phase");
     expect(day.head[WEZGHULI_HEAD_CAMPAIGNS] == 3, "the number of campaigns");
     expect(day.head[WEZGHULI_HEAD_VIEWS] == 3, "the accepted views");
+    expect(day.head[WEZGHULI_HEAD_PAUSED] == 0, "nobody is paused");
     expect(day.terms[WEZGHULI_TERMS_PRICE + 2] == 7, "a price");
     expect(day.terms[WEZGHULI_TERMS_BUDGET + 2] == 77, "a budget");
     for (uint64_t i = 0; i < 3; i++) {
@@ -105,6 +106,16 @@ static uint64_t dues(void)
     return sum;
 }
 
+static uint64_t pauses(uint64_t campaign)
+{
+    return wezghuli_pause(day.head, day.terms, day.counts, campaign, answer);
+}
+
+static uint64_t resumes(uint64_t campaign)
+{
+    return wezghuli_resume(day.head, day.terms, day.counts, campaign, answer);
+}
+
 static int noon_is(uint64_t full, uint64_t claim, uint64_t floor)
 {
     wezghuli_day before = day;
@@ -123,8 +134,8 @@ static int noon_holds(void)
     if (wezghuli_noon(day.head, day.terms, day.counts, figures))
         return 0;
     return figures[WEZGHULI_NOON_FLOOR] <= figures[WEZGHULI_NOON_CLAIM]
-        && figures[WEZGHULI_NOON_CLAIM] <= figures[WEZGHULI_NOON_FULL] && figures[WEZGHULI_NOON_FULL] == unit * takings()
-        && figures[WEZGHULI_NOON_FLOOR] == share * dues();
+        && figures[WEZGHULI_NOON_CLAIM] <= figures[WEZGHULI_NOON_FULL]
+        && figures[WEZGHULI_NOON_FULL] == unit * takings() && figures[WEZGHULI_NOON_FLOOR] == share * dues();
 }
 
 /* Document 01's listing after each of its views, and closed. */
@@ -171,6 +182,10 @@ static void days_at_noon(void)
         for (int i = 0; i < 60; i++) {
             wezghuli_view(day.head, day.terms, day.counts, any((uint64_t)1 << campaigns), answer);
             moments &= noon_holds();
+            if (any(4) == 0)
+                moments &= pauses(any(campaigns)) == 0 && noon_holds();
+            if (any(4) == 0)
+                moments &= resumes(any(campaigns)) == 0 && noon_holds();
         }
     }
     expect(moments, "every moment of 200 days");
@@ -182,13 +197,15 @@ static void noon(void)
     days_at_noon();
 
     /* a sound state that no day reaches: named by five views, played by none */
-    uint64_t made_up[6] = {WEZGHULI_PHASE_RUNNING, 0, 1, 1, 1, 5};
+    uint64_t made_up[7] = {WEZGHULI_PHASE_RUNNING, 0, 1, 1, 1, 5, 0};
     memset(&day, 0, sizeof day);
     memcpy(day.head, made_up, sizeof made_up);
     day.terms[WEZGHULI_TERMS_PRICE] = 1;
     day.terms[WEZGHULI_TERMS_BUDGET] = 5;
     day.counts[WEZGHULI_COUNTS_NAMED] = 5;
     expect(noon_is(0, 0, 5), "the figures of a state that was made up");
+    day.head[WEZGHULI_HEAD_PAUSED] = 1;
+    expect(noon_is(0, 0, 5), "which a mark does not change");
     day.counts[WEZGHULI_COUNTS_NAMED] = 6;
     expect(wezghuli_noon(day.head, day.terms, day.counts, figures) == 1, "a state that is not sound");
     day.head[WEZGHULI_HEAD_PHASE] = 3;
@@ -232,23 +249,106 @@ static void refusals(void)
     expect(wezghuli_start(day.head, day.terms, day.counts, answer) == 6, "nor started");
     expect(wezghuli_view(day.head, day.terms, day.counts, 8, answer) == 13, "a view of no campaign");
     expect(wezghuli_tally(day.head, day.terms, day.counts, 3, answer) == 15, "a tally of none");
+    expect(pauses(3) == 15 && pauses(64) == 15 && pauses(UINT64_MAX) == 15, "a pause of none");
+    expect(resumes(3) == 15 && resumes(64) == 15 && resumes(UINT64_MAX) == 15, "a resume of none");
     expect(memcmp(&before, &day, sizeof day) == 0, "a refusal leaves the state");
     expect(memcmp(given, answer, sizeof answer) == 0, "and the answer");
     day.counts[WEZGHULI_COUNTS_PLAYS + 2] = 99;
     before = day;
     expect(wezghuli_close(day.head, day.terms, day.counts, answer) == 1, "a state that is not sound");
+    expect(pauses(0) == 1 && resumes(3) == 1, "is not paused or resumed");
     expect(memcmp(&before, &day, sizeof day) == 0 && memcmp(given, answer, sizeof answer) == 0, "is left as it was");
 }
 
-/* The page of a day of three campaigns: its bytes, the room that it asks for, and what a refusal leaves. */
+static int done(uint64_t status)
+{
+    const uint64_t due[5] = {WEZGHULI_ANSWER_DONE, 0, 0, 0, 0};
+
+    return status == 0 && memcmp(answer, due, sizeof due) == 0;
+}
+
+/* A mark is a bit of the head and nothing else; a second pause or resume changes nothing. */
+static void marks(void)
+{
+    run_day();
+    wezghuli_day before = day;
+    expect(done(pauses(2)) && day.head[WEZGHULI_HEAD_PAUSED] == 4, "a pause sets a mark");
+    expect(done(pauses(2)) && day.head[WEZGHULI_HEAD_PAUSED] == 4, "also twice");
+    expect(done(pauses(1)) && day.head[WEZGHULI_HEAD_PAUSED] == 6, "beside another");
+    expect(done(resumes(2)) && day.head[WEZGHULI_HEAD_PAUSED] == 2, "a resume clears its own");
+    expect(done(resumes(2)) && day.head[WEZGHULI_HEAD_PAUSED] == 2, "also twice");
+    before.head[WEZGHULI_HEAD_PAUSED] = 2;
+    expect(memcmp(&before, &day, sizeof day) == 0, "and all else is as it was");
+    expect(done(resumes(0)) && memcmp(&before, &day, sizeof day) == 0, "as when none was paused");
+}
+
+/* A paused name is none, but for question 13. The day has spent campaign 0, and campaign 1 has one play left. */
+static void paused_names(void)
+{
+    run_day();
+    expect(wezghuli_view(day.head, day.terms, day.counts, 7, answer) == 14, "three names in a width of two");
+    expect(done(pauses(1)) && done(pauses(2)), "two of them are paused");
+    wezghuli_day before = day;
+    expect(wezghuli_view(day.head, day.terms, day.counts, 12, answer) == 13, "a number that the plan lacks");
+    expect(wezghuli_view(day.head, day.terms, day.counts, 7, answer) == 0, "the width counts one name");
+    expect(answer[0] == WEZGHULI_ANSWER_NOBODY, "which is spent");
+    expect(wezghuli_view(day.head, day.terms, day.counts, 6, answer) == 0, "a view of paused ones");
+    expect(answer[0] == WEZGHULI_ANSWER_NOBODY, "is nobody's");
+    before.head[WEZGHULI_HEAD_VIEWS] += 2;
+    before.counts[WEZGHULI_COUNTS_NAMED]++;
+    expect(memcmp(&before, &day, sizeof day) == 0, "and paused ones are not named");
+    expect(done(resumes(1)), "one is resumed");
+    expect(wezghuli_view(day.head, day.terms, day.counts, 6, answer) == 0, "and named beside a paused one");
+    expect(answer[0] == WEZGHULI_ANSWER_PLAYED && answer[1] == 1 && answer[2] == 3, "it plays");
+}
+
+/* Whether a state is sound: a tally asks nothing else of a campaign in the plan. */
+static int is_sound(void)
+{
+    return wezghuli_tally(day.head, day.terms, day.counts, 0, answer) == 0;
+}
+
+/* Marks stay when the day is closed, and an opening clears them; where none may stand, the state is not sound. */
+static void marks_by_phase(void)
+{
+    const uint64_t beyond[] = {8, 9, (uint64_t)1 << 63, UINT64_MAX};
+
+    run_day();
+    expect(done(pauses(1)) && done(pauses(0)), "two are paused");
+    expect(wezghuli_close(day.head, day.terms, day.counts, answer) == 0, "the day is closed");
+    expect(day.head[WEZGHULI_HEAD_PAUSED] == 3 && is_sound(), "with its marks");
+    expect(pauses(2) == 11 && resumes(0) == 11 && pauses(64) == 11, "which stay");
+    for (size_t i = 0; i < sizeof beyond / sizeof beyond[0]; i++) {
+        day.head[WEZGHULI_HEAD_PAUSED] = beyond[i];
+        expect(!is_sound(), "a mark past the last in a closed day");
+    }
+    day.head[WEZGHULI_HEAD_PAUSED] = 3;
+    expect(done(wezghuli_open(day.head, day.terms, day.counts, 2, 2, answer)), "the next plan");
+    expect(done(wezghuli_add(day.head, day.terms, day.counts, 5, 10, answer)), "with a campaign");
+    expect(day.head[WEZGHULI_HEAD_PAUSED] == 0 && is_sound(), "has no marks");
+    expect(pauses(0) == 11 && resumes(0) == 11 && day.head[WEZGHULI_HEAD_PAUSED] == 0, "and takes none");
+    day.head[WEZGHULI_HEAD_PAUSED] = 1;
+    expect(!is_sound(), "a mark in a plan that is filled");
+    run_day();
+    for (size_t i = 0; i < sizeof beyond / sizeof beyond[0]; i++) {
+        day.head[WEZGHULI_HEAD_PAUSED] = beyond[i];
+        expect(!is_sound() && pauses(0) == 1 && resumes(0) == 1, "a mark past the last in a running day");
+    }
+    day.head[WEZGHULI_HEAD_PAUSED] = 7;
+    expect(is_sound(), "a mark on each");
+}
+
+/* The page of the day of three campaigns. */
+static const char PAGE[] =
+    "  0     2       0.05          0.10     3\n"
+    "  1     1       0.03          0.03     3\n"
+    "  2     0       0.07          0.00     0\n"
+    "total                         0.13      \n";
+
+/* Its bytes, the room that it asks for, and what a refusal leaves. */
 static void pages(void)
 {
-    static const char due[] =
-        "  0     2       0.05          0.10     3\n"
-        "  1     1       0.03          0.03     3\n"
-        "  2     0       0.07          0.00     0\n"
-        "total                         0.13      \n";
-    const size_t size = sizeof due - 1;
+    const size_t size = sizeof PAGE - 1;
     uint8_t out[WEZGHULI_PAGE_ROOM], was[WEZGHULI_PAGE_ROOM];
     uint64_t length[1] = {7};
 
@@ -263,16 +363,41 @@ static void pages(void)
     day = before;
     expect(length[0] == 7 && memcmp(out, was, sizeof out) == 0, "a refusal leaves out and length");
     expect(wezghuli_page(day.head, day.terms, day.counts, out, sizeof out, length) == 0, "a page is printed");
-    expect(length[0] == size && memcmp(out, due, size) == 0, "as it should read");
+    expect(length[0] == size && memcmp(out, PAGE, size) == 0, "as it should read");
     expect(memcmp(out + size, was, sizeof out - size) == 0, "and later bytes are as they were");
     expect(wezghuli_page(day.head, day.terms, day.counts, out, size, length) == 0, "its own length is room enough");
     expect(memcmp(&before, &day, sizeof day) == 0, "the state stays");
 }
 
+/* The page tells no marks: it changes with what is named, and a paused one is not. */
+static void paused_pages(void)
+{
+    const size_t size = sizeof PAGE - 1;
+    uint8_t out[WEZGHULI_PAGE_ROOM];
+    uint64_t length[1] = {7};
+
+    run_day();
+    for (uint64_t i = 0; i < 3; i++)
+        pauses(i);
+    expect(wezghuli_page(day.head, day.terms, day.counts, out, size, length) == 0, "all are paused");
+    expect(length[0] == size && memcmp(out, PAGE, size) == 0, "and the page is as before");
+    expect(wezghuli_view(day.head, day.terms, day.counts, 7, answer) == 0, "a view of paused ones");
+    memset(out, 'o', sizeof out);
+    expect(wezghuli_page(day.head, day.terms, day.counts, out, size, length) == 0, "is not on the page");
+    expect(length[0] == size && memcmp(out, PAGE, size) == 0, "which is the same");
+    length[0] = 7;
+    out[0] = 'o';
+    day.head[WEZGHULI_HEAD_PAUSED] = 8;
+    expect(wezghuli_page(day.head, day.terms, day.counts, out, size, length) == 1, "a mark past the last");
+    expect(length[0] == 7 && out[0] == 'o', "prints no page");
+}
+
 /* A stream: input in blocks of every length, each byte of what is lent afterwards, and misuse. */
-static const char INPUT[] = "(plan (depth 2) (width 2))\n(campaign (price 5) (budget 10))\n(start)\n(view 0)\n\n(close)";
-static const char OUTPUT[] = "(ok)\n(ok)\n(ok)\n(play 0 (paid 5))\n(refused 17)\n"
-                             "(closed (takings 5) (claim 15) (full 20))\n(tally 0 (plays 1) (turns 1) (age 0) (named 1))\n";
+static const char INPUT[] = "(plan (depth 2) (width 2))\n(campaign (price 5) (budget 10))\n(start)\n(view 0)\n"
+                            "(pause 0)\n(view 0)\n(resume 0)\n\n(close)";
+static const char OUTPUT[] = "(ok)\n(ok)\n(ok)\n(play 0 (paid 5))\n(ok)\n(nobody)\n(ok)\n(refused 17)\n"
+                             "(closed (takings 5) (claim 15) (full 20))\n"
+                             "(tally 0 (plays 1) (turns 1) (age 0) (named 1))\n";
 
 static wezghuli_stream stream;
 static uint8_t room[WEZGHULI_REPLY_ROOM + 512];
@@ -360,8 +485,8 @@ static void streams(void)
     expect(stream.words[WEZGHULI_STREAM_WRITTEN] == 13 && memcmp(room, "(refused 16)\n", 13) == 0, "it gets 16");
 }
 
-/* Words that are no head or no record: the status says so and not one byte changes. */
-static void misuse(void)
+/* Words that are no head: the status says so and not one byte changes. */
+static void misused_heads(void)
 {
     const uint64_t heads[][2] = {{3, 0}, {UINT64_MAX, 0}, {0, 1}, {1, 1}, {0, UINT64_MAX}, {1, UINT64_MAX}};
 
@@ -379,6 +504,7 @@ static void misuse(void)
             && wezghuli_start(day.head, day.terms, day.counts, answer) == WEZGHULI_STATUS_NO_HEAD
             && wezghuli_view(day.head, day.terms, day.counts, 1, answer) == WEZGHULI_STATUS_NO_HEAD
             && wezghuli_tally(day.head, day.terms, day.counts, 0, answer) == WEZGHULI_STATUS_NO_HEAD
+            && pauses(0) == WEZGHULI_STATUS_NO_HEAD && resumes(0) == WEZGHULI_STATUS_NO_HEAD
             && wezghuli_close(day.head, day.terms, day.counts, answer) == WEZGHULI_STATUS_NO_HEAD
             && wezghuli_page(day.head, day.terms, day.counts, sheet, sizeof sheet, length) == WEZGHULI_STATUS_NO_HEAD;
         expect(told, "no head is told");
@@ -386,7 +512,13 @@ static void misuse(void)
         expect(memcmp(given, answer, sizeof answer) == 0, "and so is the answer");
         expect(length[0] == 7 && memcmp(sheet, clean, sizeof sheet) == 0, "and so is the room for a page");
     }
-    const uint64_t forms[] = {WEZGHULI_FORM_TALLY + 1, 100, UINT64_MAX};
+}
+
+/* Words that are no record: likewise. */
+static void misused_forms(void)
+{
+    const uint64_t forms[] = {WEZGHULI_FORM_RESUME + 1, 100, UINT64_MAX};
+
     for (size_t i = 0; i < sizeof forms / sizeof forms[0]; i++) {
         uint64_t words[6] = {forms[i], 1, 1, 1, 1, 1}, length[1] = {7};
         uint8_t out[WEZGHULI_LINE_ROOM], was[WEZGHULI_LINE_ROOM];
@@ -408,6 +540,8 @@ static void adds(void) { wezghuli_add(day.head, day.terms, day.counts, 5, 1000, 
 static void starts(void) { wezghuli_start(day.head, day.terms, day.counts, answer); }
 static void views(void) { wezghuli_view(day.head, day.terms, day.counts, 0xffff, answer); }
 static void tallies(void) { wezghuli_tally(day.head, day.terms, day.counts, 3, answer); }
+static void pauses_last(void) { pauses(63); }
+static void resumes_last(void) { resumes(63); }
 static void noons(void) { wezghuli_noon(day.head, day.terms, day.counts, figures); }
 static void closes(void) { wezghuli_close(day.head, day.terms, day.counts, answer); }
 
@@ -523,6 +657,23 @@ static void searches(void)
     expect(search_with(0, 3, 0) == 0 && check_with(0, 3, 0) == 0, "no views");
 }
 
+/* The views handed over are unpaused names already: the marks of the state change nothing. */
+static void paused_searches(void)
+{
+    uint64_t paid = 0;
+
+    run_day();
+    views_shown = 5;
+    for (uint64_t i = 0; i < 3; i++)
+        pauses(i);
+    expect(search_with(5, 3, 5) == 0 && check_with(5, 3, 5) == 0, "found with all paused");
+    for (size_t j = 0; j < 5; j++)
+        paid += allotment[j] < 64 ? day.terms[allotment[j]] : 0;
+    expect(paid == 16, "as much as with none paused");
+    day.head[WEZGHULI_HEAD_PAUSED] = 8;
+    expect(search_with(5, 3, 5) == 1 && check_with(5, 3, 5) == 1, "a mark past the last");
+}
+
 /* view j names j and j + 1, and the dearest are served first: the last search goes through all 64 campaigns */
 static void chained(void)
 {
@@ -546,11 +697,9 @@ static void longest_chain(void)
     expect(bytes <= SEARCH_LIMIT, "search");
 }
 
-static void stacks(void)
+/* The stacks of the operations, in a day of 64 campaigns. */
+static void stacks_of_calls(void)
 {
-    size_t none = taken(empty);
-
-    printf("a function that does nothing is seen to take %zu bytes\n", none);
     measure("blank", blanks);
     measure("open", opens);
     for (int i = 0; i < 64; i++)
@@ -565,11 +714,20 @@ static void stacks(void)
         views();
     measure("view", views);
     measure("tally", tallies);
+    measure("pause", pauses_last);
+    expect(day.head[WEZGHULI_HEAD_PAUSED] == (uint64_t)1 << 63, "the last campaign is paused");
+    measure("resume", resumes_last);
+    expect(day.head[WEZGHULI_HEAD_PAUSED] == 0, "and resumed");
     measure("noon", noons);
     measure("close", closes);
     expect(answer[0] == WEZGHULI_ANSWER_CLOSING, "the measured day was accepted");
     measure("page", prints);
     expect(printed[0] == WEZGHULI_PAGE_ROOM, "a page of 64 campaigns fills the room that every page fits");
+}
+
+/* The stacks of the lines, those of the longest and of the most numbers, and of a stream. */
+static void stacks_of_lines(void)
+{
     text = "(tally 63 (plays 4294967295) (turns 4294967295) (age 4294967295) (named 4294967295))";
     measure("read_line", reads);
     measure("write_line", writes);
@@ -583,6 +741,13 @@ static void stacks(void)
     expect(stream.words[WEZGHULI_STREAM_KEPT] == 7, "the measured block was fed");
     measure("finish", finishes);
     expect(day.head[WEZGHULI_HEAD_PHASE] == WEZGHULI_PHASE_CLOSED, "and its last line answered");
+}
+
+static void stacks(void)
+{
+    printf("a function that does nothing is seen to take %zu bytes\n", taken(empty));
+    stacks_of_calls();
+    stacks_of_lines();
     printf("stack at most %zu bytes of %d\n", most, STACK_LIMIT);
 }
 
@@ -592,10 +757,16 @@ int main(void)
     noon();
     lengths();
     pages();
-    misuse();
+    paused_pages();
+    misused_heads();
+    misused_forms();
     refusals();
+    marks();
+    paused_names();
+    marks_by_phase();
     streams();
     searches();
+    paused_searches();
     longest_chain();
     stacks();
     printf("%u passed, %u failed\n", passed, failed);

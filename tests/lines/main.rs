@@ -96,7 +96,7 @@ impl Tally {
 }
 
 /// Lines that are no form of the documents.
-const NO_FORMS: [&[u8]; 49] = [
+const NO_FORMS: [&[u8]; 59] = [
     b"", b"(", b")", b"()", b"(start", b"start)", b"(start) ", b" (start)", b"(start)\n", b"(start)\r", b"\n(start)",
     b"(START)", b"(Start)", b"(start\0", b"(view 64)", b"(view 0 0)", b"(view 1 0)", b"(view  0)", b"(view 0 )",
     b"(view 00)", b"(view 01)", b"(view 0  1)", b"(view 18446744073709551616)", b"(view -1)", b"(refused 0)",
@@ -107,8 +107,9 @@ const NO_FORMS: [&[u8]; 49] = [
     b"(tally 0 (plays 0) (turns 0) (age 0) (named 999999999999))",
     b"(plan  (depth 2) (width 2))", b"(closed (takings 16) (claim 0) (full 18446744073709551616))",
     b"(nobody\xff", b"(plan (depth ) (width 2))",
-    b"(pause)", b"(pause 0)", b"(resume 0)", b"(resume 1)", b"(tally 0)", b"(tally 63)", b"(closed)", b"(play 0)",
-    b"(refused)",
+    b"(pause)", b"(resume)", b"(pause 64)", b"(resume 64)", b"(pause 0 1)", b"(resume  0)", b"(pause 00)",
+    b"(resume 0 )", b"(pause (campaign 0))", b"(paused 0)", b"(resumed 0)", b"(pause 0", b"(resume\n0)", b"(Pause 0)",
+    b"(tally 0)", b"(tally 63)", b"(closed)", b"(play 0)", b"(refused)",
 ];
 
 fn edges(t: &mut Tally) {
@@ -129,6 +130,10 @@ fn edges(t: &mut Tally) {
     t.expect(b"(refused 19)", Ok((8, &[19])));
     t.expect(b"(closed (takings 16) (claim 0) (full 18446744073709551615))", Ok((9, &[16, 0, u64::MAX])));
     t.expect(b"(tally 0 (plays 2) (turns 2) (age 0) (named 4))", Ok((10, &[0, 2, 2, 0, 4])));
+    t.expect(b"(pause 0)", Ok((11, &[0])));
+    t.expect(b"(pause 63)", Ok((11, &[63])));
+    t.expect(b"(resume 0)", Ok((12, &[0])));
+    t.expect(b"(resume 63)", Ok((12, &[63])));
     NO_FORMS.iter().for_each(|line| t.expect(line, NO));
     for (len, want) in [(0, 17), (199, 17), (200, 17), (201, 16), (1000, 16)] {
         for b in [b' ', b'0', b'(', 0, 255] {
@@ -137,7 +142,7 @@ fn edges(t: &mut Tally) {
     }
     let full = second::print(&Rec { form: 3, numbers: [u64::MAX, 0, 0, 0, 0] });
     t.expect(full.as_bytes(), Ok((3, &[u64::MAX])));
-    for form in 0..11 {
+    for form in 0..FORMS.len() as u64 {
         for n in [0, 1, 19, 20, 63, 64, 4294967295, 4294967296, 999999999999, 1000000000000, u64::MAX] {
             for r in numerals::records(form, n) {
                 let len = second::print(&r).len() + 1;

@@ -68,6 +68,8 @@ const GREATEST: [&[u64]; FORMS.len()] = [
     &[19],
     &[u64::MAX, u64::MAX, u64::MAX],
     &[63, 4294967295, 4294967295, 4294967295, 4294967295],
+    &[63],
+    &[63],
 ];
 
 /// Numbers on both sides of the limits, of 11 to 14 and of 20 digits.

@@ -12,7 +12,7 @@ const U: u64 = 4_294_967_295;
 const W: u64 = u64::MAX;
 
 // for each form: its word, and the label, the least and the greatest of each of its numbers
-pub const FORMS: [(&str, &[(&str, u64, u64)]); 11] = [
+pub const FORMS: [(&str, &[(&str, u64, u64)]); 13] = [
     ("plan", &[("depth", 0, I), ("width", 0, I)]),
     ("campaign", &[("price", 0, I), ("budget", 0, I)]),
     ("start", &[]),
@@ -24,6 +24,8 @@ pub const FORMS: [(&str, &[(&str, u64, u64)]); 11] = [
     ("refused", &[("", 1, 19)]),
     ("closed", &[("takings", 0, W), ("claim", 0, W), ("full", 0, W)]),
     ("tally", &[("", 0, 63), ("plays", 0, U), ("turns", 0, U), ("age", 0, U), ("named", 0, U)]),
+    ("pause", &[("", 0, 63)]),
+    ("resume", &[("", 0, 63)]),
 ];
 
 pub fn in_range(r: &Rec) -> bool {

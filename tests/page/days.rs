@@ -11,6 +11,12 @@ fn view(random: &mut Random, n: u64, width: u64) -> String {
     format!("(view{})", names.collect::<String>())
 }
 
+/// A campaign is paused or resumed, now and then one that the plan lacks.
+fn mark(random: &mut Random, n: u64) -> String {
+    let word = random.pick(&["pause", "resume"]);
+    format!("({word} {})", random.below((n + 1).min(64)))
+}
+
 /// A price and a budget that n campaigns can have.
 fn campaign(random: &mut Random, n: u64) -> String {
     let share = 2_000_000_000 / n.max(1);
@@ -34,6 +40,7 @@ pub fn day(random: &mut Random) -> Vec<u8> {
                 0 => "(view 64)".into(),
                 1 => "nonsense".into(),
                 2 => "(plan (depth 2) (width 2))".into(),
+                3..=8 => mark(random, n),
                 _ if n == 0 => "(start)".into(),
                 _ => view(random, n, width),
             });

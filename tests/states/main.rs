@@ -5,13 +5,13 @@ mod model;
 mod random;
 mod states;
 
-use library::Lent;
-use model::{Call, KINDS};
+use library::{Head, Lent, NO_ANSWER};
+use model::{call, Call, KINDS};
 use random::Random;
 use second::day::{Day, Phase, MAX_BUDGET, MAX_PRICE, MAX_VIEWS};
 use states::{EDGES, PLANS};
 
-/// The six words are no head of a state.
+/// The seven words are no head of a state.
 const NO_HEAD: u64 = 100;
 /// 0 in 32 bits.
 const WRAPS: u64 = 1 << 32;
@@ -27,7 +27,8 @@ struct Tally {
 }
 
 impl Tally {
-    /// One call on one state, by both; gives the status of both, or none where the library's arrays cannot hold the state.
+    /// One call on one state, by both; gives the status of both, or none where the library's arrays cannot hold the
+    /// state.
     fn compare(&mut self, day: &Day, call: Call) -> Option<u64> {
         let mut found = model::lent(day)?;
         let status = found.operate(call);
@@ -93,106 +94,68 @@ fn made_call(random: &mut Random, day: &Day) -> Call {
         }
         (3, 0..=2) => {
             let size = random.below(day.width.min(17) + 1);
-            (random.set(day.count.min(64), size), 0)
+            let more = if random.one_in(3) { day.paused } else { 0 };
+            (random.set(day.count.min(64), size) | more, 0)
         }
-        (4, 0..=2) => (random.below(day.count.min(64) + 1), 0),
+        (4 | 6 | 7, 0..=2) => (random.below(day.count.min(64) + 1), 0),
         _ => (edge(random), edge(random)),
     };
-    Call { kind, a, b }
+    call(kind, a, b)
+}
+
+/// Openings at the limits.
+fn edge_plans() -> Vec<Call> {
+    let mut plans = vec![(8, 16), (9, 16), (20, 3), (21, 3), (16, 4), (17, 4)];
+    for depth in [0, 1, 32, 33, WRAPS + 1, u64::MAX] {
+        plans.extend([0, 1, 2, 16, 17, WRAPS + 2, u64::MAX].map(|width| (depth, width)));
+    }
+    plans.into_iter().map(|(depth, width)| call(0, depth, width)).collect()
+}
+
+/// Campaigns at the limits, and at the room that the other budgets leave.
+fn edge_campaigns(day: &Day) -> Vec<Call> {
+    let sum: u128 = day.campaigns.iter().map(|c| u128::from(c.budget)).sum();
+    let room = MAX_BUDGET.saturating_sub(sum.min(u128::from(MAX_BUDGET)) as u64);
+    let mut calls = vec![];
+    for price in [0, 1, MAX_PRICE, MAX_PRICE + 1, WRAPS + 1, u64::MAX] {
+        let beside = [price.wrapping_sub(1), price, room, room + 1, WRAPS + room];
+        let budgets = [0, 1, MAX_BUDGET, MAX_BUDGET + 1, u64::MAX];
+        calls.extend(beside.map(|budget| call(1, price, budget)));
+        calls.extend(budgets.map(|budget| call(1, price, budget)));
+    }
+    calls
+}
+
+/// Views of as many unpaused names as the width and one more, with and without paused ones, and of numbers that the
+/// plan lacks.
+fn edge_views(day: &Day) -> Vec<Call> {
+    let (planned, paused) = (states::planned(day), day.paused);
+    let first = |k: u64| {
+        let unpaused = (0..64).map(|i| 1 << i).filter(|bit| planned & !paused & bit != 0);
+        unpaused.take(k as usize).sum::<u64>()
+    };
+    let d = day.width.min(64);
+    let beyond = planned.wrapping_add(1);
+    let around = [first(d), first(d) | paused, first(d + 1), first(d + 1) | paused, beyond, paused | beyond];
+    let plain = [0, 1, planned, paused, 1 << 63, u64::MAX];
+    around.into_iter().chain(plain).map(|set| call(3, set, 0)).collect()
 }
 
 /// Each kind of call with arguments at the limits.
 fn edge_calls(day: &Day) -> Vec<Call> {
     let n = day.count.min(64);
-    let planned = if n == 64 { u64::MAX } else { (1 << n) - 1 };
-    let mut calls = vec![];
-    for depth in [0, 1, 32, 33, WRAPS + 1, u64::MAX] {
-        for width in [0, 1, 2, 16, 17, WRAPS + 2, u64::MAX] {
-            calls.push(Call {
-                kind: 0,
-                a: depth,
-                b: width,
-            });
-        }
+    let mut calls = [edge_plans(), edge_campaigns(day), edge_views(day)].concat();
+    for campaign in [0, n.wrapping_sub(1), n, 63, 64, 128, WRAPS, u64::MAX] {
+        calls.extend([4, 6, 7].map(|kind| call(kind, campaign, 0)));
     }
-    for (depth, width) in [(8, 16), (9, 16), (20, 3), (21, 3), (16, 4), (17, 4)] {
-        calls.push(Call {
-            kind: 0,
-            a: depth,
-            b: width,
-        });
-    }
-    let sum: u128 = day.campaigns.iter().map(|c| u128::from(c.budget)).sum();
-    let room = MAX_BUDGET.saturating_sub(sum.min(u128::from(MAX_BUDGET)) as u64);
-    for price in [0, 1, MAX_PRICE, MAX_PRICE + 1, WRAPS + 1, u64::MAX] {
-        for budget in [
-            0,
-            1,
-            price.wrapping_sub(1),
-            price,
-            room,
-            room + 1,
-            MAX_BUDGET,
-            MAX_BUDGET + 1,
-            WRAPS + room,
-            u64::MAX,
-        ] {
-            calls.push(Call {
-                kind: 1,
-                a: price,
-                b: budget,
-            });
-        }
-    }
-    calls.push(Call {
-        kind: 2,
-        a: 0,
-        b: 0,
-    });
-    let first = |k: u64| planned & if k >= 64 { u64::MAX } else { (1 << k) - 1 };
-    let d = day.width.min(64);
-    for set in [
-        0,
-        1,
-        planned,
-        first(d),
-        first(d + 1),
-        planned.wrapping_add(1),
-        1 << 63,
-        u64::MAX,
-    ] {
-        calls.push(Call {
-            kind: 3,
-            a: set,
-            b: 0,
-        });
-    }
-    for campaign in [0, n.wrapping_sub(1), n, 63, 64, u64::MAX] {
-        calls.push(Call {
-            kind: 4,
-            a: campaign,
-            b: 0,
-        });
-    }
-    calls.push(Call {
-        kind: 5,
-        a: 0,
-        b: 0,
-    });
+    calls.extend([call(2, 0, 0), call(5, 0, 0)]);
     calls
 }
 
-/// The six kinds, with arguments that would be accepted in the right phase.
-fn plain_calls() -> [Call; 6] {
-    [
-        (0, 2, 2),
-        (1, 5, 10),
-        (2, 0, 0),
-        (3, 1, 0),
-        (4, 0, 0),
-        (5, 0, 0),
-    ]
-    .map(|(kind, a, b)| Call { kind, a, b })
+/// All kinds, with arguments that would be accepted in the right phase.
+fn plain_calls() -> [Call; KINDS as usize] {
+    [(0, 2, 2), (1, 5, 10), (2, 0, 0), (3, 1, 0), (4, 0, 0), (5, 0, 0), (6, 0, 0), (7, 0, 0)]
+        .map(|(kind, a, b)| call(kind, a, b))
 }
 
 fn all_edges(tally: &mut Tally, day: &Day) {
@@ -201,57 +164,47 @@ fn all_edges(tally: &mut Tally, day: &Day) {
     }
 }
 
-/// Calls on the state that the call before handed back, as a day runs.
+/// A campaign, now and then one that the plan lacks, is paused or resumed.
+fn marked(tally: &mut Tally, random: &mut Random, day: Day) -> Day {
+    let campaign = random.below(day.count + 1);
+    let kind = 6 + random.below(2);
+    tally.compare(&day, call(kind, campaign, 0));
+    match kind {
+        6 => day.pause(campaign).0,
+        _ => day.resume(campaign).0,
+    }
+}
+
+/// Views, and calls of all kinds among them, on the state that the call before handed back.
+fn views(tally: &mut Tally, random: &mut Random, mut day: Day) -> Day {
+    for _ in 0..80 {
+        let set = states::names(random, &day);
+        tally.compare(&day, call(3, set, 0));
+        day = day.view(set).0;
+        if random.one_in(4) {
+            tally.compare(&day, made_call(random, &day));
+        }
+        if random.one_in(6) {
+            day = marked(tally, random, day);
+        }
+    }
+    day
+}
+
+/// Days as they run.
 fn days(tally: &mut Tally, seed: u64) {
     let mut random = Random::new(seed);
     for _ in 0..700 {
         let n = states::size(&mut random);
-        let mut day = Day::blank();
         let plan = random.pick(&PLANS);
-        tally.compare(
-            &day,
-            Call {
-                kind: 0,
-                a: plan.0,
-                b: plan.1,
-            },
-        );
-        day = states::filled(&mut random, n);
+        tally.compare(&Day::blank(), call(0, plan.0, plan.1));
+        let mut day = states::filled(&mut random, n);
         for _ in 0..6 {
             tally.compare(&day, made_call(&mut random, &day));
         }
-        tally.compare(
-            &day,
-            Call {
-                kind: 2,
-                a: 0,
-                b: 0,
-            },
-        );
-        day = day.start().0;
-        for _ in 0..80 {
-            let set = states::names(&mut random, &day);
-            tally.compare(
-                &day,
-                Call {
-                    kind: 3,
-                    a: set,
-                    b: 0,
-                },
-            );
-            day = day.view(set).0;
-            if random.one_in(4) {
-                tally.compare(&day, made_call(&mut random, &day));
-            }
-        }
-        tally.compare(
-            &day,
-            Call {
-                kind: 5,
-                a: 0,
-                b: 0,
-            },
-        );
+        tally.compare(&day, call(2, 0, 0));
+        day = views(tally, &mut random, day.start().0);
+        tally.compare(&day, call(5, 0, 0));
         day = day.close().0;
         for _ in 0..4 {
             tally.compare(&day, made_call(&mut random, &day));
@@ -324,7 +277,7 @@ fn claims(tally: &mut Tally, seed: u64) {
             }
             past += u64::from(!next.is_sound());
             for kind in [2, 3, 5] {
-                tally.compare(&next, Call { kind, a: 1, b: 0 });
+                tally.compare(&next, call(kind, 1, 0));
             }
         }
     }
@@ -356,11 +309,7 @@ fn limits(tally: &mut Tally, seed: u64) {
             let mut day = Day::blank().open(depth, width).0;
             for i in 0..n {
                 let left = MAX_BUDGET - day.campaigns.iter().map(|c| c.budget).sum::<u64>();
-                let budget = if i + 1 == n {
-                    left
-                } else {
-                    left.min(MAX_BUDGET / 64)
-                };
+                let budget = if i + 1 == n { left } else { left.min(MAX_BUDGET / 64) };
                 day = day.add(random.pick(&[1, 2, 999_983, MAX_PRICE]), budget).0;
             }
             all_edges(tally, &day);
@@ -377,6 +326,8 @@ fn limits(tally: &mut Tally, seed: u64) {
                 }
                 all_edges(tally, &late);
                 late.campaigns.iter_mut().for_each(|c| c.age = 0);
+                all_edges(tally, &late);
+                late.paused = states::marks(&mut random, &late);
                 all_edges(tally, &late);
                 states::close(&mut late);
                 all_edges(tally, &late);
@@ -403,7 +354,7 @@ fn misuse(tally: &mut Tally, seed: u64) {
             }
             for kind in 0..KINDS {
                 let mut after = state.clone();
-                let call = Call { kind, a: 1, b: 1 };
+                let call = call(kind, 1, 1);
                 let status = after.operate(call);
                 if status != NO_HEAD || after != state {
                     println!("lent: {state:?}\ncall: {call:?}, status {status}, left: {after:?}");
@@ -419,7 +370,7 @@ fn misuse(tally: &mut Tally, seed: u64) {
 fn made_blank(tally: &mut Tally) {
     let due = model::lent(&Day::blank()).expect("the blank state fits");
     for word in [0, 1, u64::MAX, 0x1234_5678_9abc_def0] {
-        let mut state = Lent::new([word; 6], [word as u32; 128], [word as u16; 256]);
+        let mut state = Lent::new([word; 7], [word as u32; 128], [word as u16; 256]);
         state.blank();
         if state != due {
             println!("made blank over {word:#x}: {state:?}");
@@ -431,13 +382,7 @@ fn made_blank(tally: &mut Tally) {
 
 /// The blank state, and its phase and takings changed.
 fn blank(tally: &mut Tally) {
-    for phase in [
-        Phase::Closed(0),
-        Phase::Closed(1),
-        Phase::Closed(u64::MAX),
-        Phase::Filling,
-        Phase::Running,
-    ] {
+    for phase in [Phase::Closed(0), Phase::Closed(1), Phase::Closed(u64::MAX), Phase::Filling, Phase::Running] {
         let mut day = Day::blank();
         day.phase = phase;
         all_edges(tally, &day);
@@ -445,6 +390,48 @@ fn blank(tally: &mut Tally) {
             (day.depth, day.width) = (depth, width);
             all_edges(tally, &day);
         }
+        for marks in [1, 1 << 63, u64::MAX] {
+            day.paused = marks;
+            all_edges(tally, &day);
+        }
+    }
+}
+
+/// Calls in turn with the status, head and answer due after each, worked out from the documents: marks stay when the
+/// day is closed, an opening clears them, and a refusal leaves the answer.
+const MARKED_DAY: [((u64, u64, u64), u64, Head, [u64; 5]); 20] = [
+    ((0, 1, 2), 0, [0, 0, 1, 2, 0, 0, 0], [1, 0, 0, 0, 0]),
+    ((1, 5, 10), 0, [0, 0, 1, 2, 1, 0, 0], [1, 0, 0, 0, 0]),
+    ((1, 3, 6), 0, [0, 0, 1, 2, 2, 0, 0], [1, 0, 0, 0, 0]),
+    ((6, 0, 0), 11, [0, 0, 1, 2, 2, 0, 0], NO_ANSWER),
+    ((7, 2, 0), 11, [0, 0, 1, 2, 2, 0, 0], NO_ANSWER),
+    ((2, 0, 0), 0, [1, 0, 1, 2, 2, 0, 0], [1, 0, 0, 0, 0]),
+    ((6, 2, 0), 15, [1, 0, 1, 2, 2, 0, 0], NO_ANSWER),
+    ((6, 64, 0), 15, [1, 0, 1, 2, 2, 0, 0], NO_ANSWER),
+    ((6, 1, 0), 0, [1, 0, 1, 2, 2, 0, 2], [1, 0, 0, 0, 0]),
+    ((6, 1, 0), 0, [1, 0, 1, 2, 2, 0, 2], [1, 0, 0, 0, 0]),
+    ((6, 0, 0), 0, [1, 0, 1, 2, 2, 0, 3], [1, 0, 0, 0, 0]),
+    ((3, 3, 0), 0, [1, 0, 1, 2, 2, 1, 3], [3, 0, 0, 0, 0]),
+    ((7, 0, 0), 0, [1, 0, 1, 2, 2, 1, 2], [1, 0, 0, 0, 0]),
+    ((3, 3, 0), 0, [1, 0, 1, 2, 2, 2, 2], [2, 0, 5, 0, 0]),
+    ((4, 1, 0), 0, [1, 0, 1, 2, 2, 2, 2], [4, 0, 0, 0, 0]),
+    ((5, 0, 0), 0, [2, 5, 1, 2, 2, 2, 2], [5, 5, 5, 10, 0]),
+    ((7, 1, 0), 11, [2, 5, 1, 2, 2, 2, 2], NO_ANSWER),
+    ((6, 9, 0), 11, [2, 5, 1, 2, 2, 2, 2], NO_ANSWER),
+    ((4, 0, 0), 0, [2, 5, 1, 2, 2, 2, 2], [4, 1, 1, 0, 1]),
+    ((0, 2, 2), 0, [0, 0, 2, 2, 0, 0, 0], [1, 0, 0, 0, 0]),
+];
+
+fn marked_day(tally: &mut Tally) {
+    let mut state = model::lent(&Day::blank()).expect("the blank state fits");
+    for ((kind, a, b), due, head, answer) in MARKED_DAY {
+        state.answer = NO_ANSWER;
+        let status = state.operate(call(kind, a, b));
+        if (status, state.head, state.answer) != (due, head, answer) {
+            println!("call {kind} {a} {b}: status {status}, not {due}; {state:?}\nnot {head:?}, {answer:?}");
+            tally.fail()
+        }
+        tally.calls += 1;
     }
 }
 
@@ -454,6 +441,7 @@ fn main() {
     tally.group("made blank", made_blank);
     tally.group("words that are no head", |t| misuse(t, 5));
     tally.group("claims beyond 64 bits", overflow);
+    tally.group("marks of a closed day", marked_day);
     for seed in 1..=3 {
         tally.group("days", |t| days(t, seed));
         tally.group("one rule broken", |t| broken_rules(t, 10 + seed));
@@ -462,9 +450,6 @@ fn main() {
         tally.group("limits", |t| limits(t, 40 + seed));
         tally.group("one number or two changed", |t| mutations(t, 50 + seed));
     }
-    println!(
-        "{} calls compared: {} accepted, {} on unsound states",
-        tally.calls, tally.accepted, tally.unsound
-    );
+    println!("{} calls compared: {} accepted, {} on unsound states", tally.calls, tally.accepted, tally.unsound);
     println!("{} passed, 0 failed", tally.groups);
 }

@@ -11,8 +11,12 @@ pub struct Call {
     pub b: u64,
 }
 
-/// Number of kinds of call: opening, adding, starting, a view, a tally, closing.
-pub const KINDS: u64 = 6;
+pub fn call(kind: u64, a: u64, b: u64) -> Call {
+    Call { kind, a, b }
+}
+
+/// Number of kinds of call: opening, adding, starting, a view, a tally, closing, pausing, resuming.
+pub const KINDS: u64 = 8;
 
 /// The state in the library's layout, or none where its arrays cannot hold it: 32 bits of money, 16 of a count.
 pub fn lent(day: &Day) -> Option<Lent> {
@@ -21,7 +25,7 @@ pub fn lent(day: &Day) -> Option<Lent> {
         Phase::Running => (1, 0),
         Phase::Closed(takings) => (2, takings),
     };
-    let head = [phase, takings, day.depth, day.width, day.count, day.views];
+    let head = [phase, takings, day.depth, day.width, day.count, day.views, day.paused];
     let (mut terms, mut counts) = ([0; 128], [0; 256]);
     for (i, c) in day.campaigns.iter().enumerate() {
         for (column, value) in [c.price, c.budget].into_iter().enumerate() {
@@ -44,7 +48,9 @@ pub fn outcome(day: &Day, call: Call) -> (u64, Lent) {
         2 => day.start(),
         3 => day.view(a),
         4 => day.tally(a),
-        _ => day.close(),
+        5 => day.close(),
+        6 => day.pause(a),
+        _ => day.resume(a),
     };
     let mut after = lent(&next).expect("a call of a state that fits hands back one that fits");
     after.answer = match answer {
@@ -53,18 +59,8 @@ pub fn outcome(day: &Day, call: Call) -> (u64, Lent) {
         Answer::Ok => [1, 0, 0, 0, 0],
         Answer::Play { campaign, paid } => [2, campaign, paid, 0, 0],
         Answer::Nobody => [3, 0, 0, 0, 0],
-        Answer::Tally {
-            campaign: _,
-            plays,
-            turns,
-            age,
-            named,
-        } => [4, plays, turns, age, named],
-        Answer::Closed {
-            takings,
-            claim,
-            full,
-        } => [5, takings, claim, full, 0],
+        Answer::Tally { campaign: _, plays, turns, age, named } => [4, plays, turns, age, named],
+        Answer::Closed { takings, claim, full } => [5, takings, claim, full, 0],
     };
     let status = match answer {
         Answer::Refused(question) => question,

@@ -24,11 +24,7 @@ impl Random {
     /// A number from low to high, small ones as likely as large ones.
     pub fn spread(&mut self, low: u64, high: u64) -> u64 {
         let bits = self.below(u64::from(64 - (high - low).leading_zeros()) + 1);
-        let top = if bits == 64 {
-            u64::MAX
-        } else {
-            (1 << bits) - 1
-        };
+        let top = if bits == 64 { u64::MAX } else { (1 << bits) - 1 };
         low + self.below(top.min(high - low) + 1)
     }
 

@@ -76,20 +76,28 @@ pub fn filled(random: &mut Random, n: u64) -> Day {
     let mut day = Day::blank().open(depth, width).0;
     let same = terms(random, n);
     for _ in 0..n {
-        let (price, budget) = if random.one_in(4) {
-            same
-        } else {
-            terms(random, n)
-        };
+        let (price, budget) = if random.one_in(4) { same } else { terms(random, n) };
         day = day.add(price, budget).0;
     }
     day
 }
 
-/// A view of up to as many names as the width, now and then of none.
+/// A view of up to as many names as the width, now and then of none; of paused ones it may have more.
 pub fn names(random: &mut Random, day: &Day) -> u64 {
     let size = if random.one_in(8) { 0 } else { day.width };
-    random.set(day.count, size)
+    let more = if random.one_in(4) { day.paused } else { 0 };
+    random.set(day.count, size) | more & random.next()
+}
+
+/// The set of the campaigns in the plan.
+pub fn planned(day: &Day) -> u64 {
+    u64::MAX.checked_shr(64 - day.count.min(64) as u32).unwrap_or(0)
+}
+
+/// Marks of campaigns in the plan: none, some or all.
+pub fn marks(random: &mut Random, day: &Day) -> u64 {
+    let some = random.next();
+    random.pick(&[0, some, u64::MAX]) & planned(day)
 }
 
 /// A day that has run for some views.
@@ -98,6 +106,11 @@ pub fn run(random: &mut Random, n: u64, views: u64) -> Day {
     for _ in 0..views {
         let set = names(random, &day);
         day = day.view(set).0;
+        if random.one_in(4) {
+            let campaign = random.below(n + 1);
+            let paused = day.clone().pause(campaign).0;
+            day = if random.one_in(2) { paused } else { day.resume(campaign).0 };
+        }
     }
     day
 }
@@ -106,12 +119,13 @@ pub fn size(random: &mut Random) -> u64 {
     random.pick(&[0, 1, 1, 2, 2, 3, 5, 8, 16, 33, 63, 64])
 }
 
-/// The counts of a sound state that no day reaches: any plays, turns at least the plays, then ages and further turns for
-/// as long as the total claim stays within full.
+/// The counts and marks of a sound state that no day reaches: any marks, any plays, turns at least the plays, then ages
+/// and further turns for as long as the total claim stays within full.
 pub fn made_up(random: &mut Random) -> Day {
     let n = size(random);
     let mut day = filled(random, n);
     day.phase = Phase::Running;
+    day.paused = marks(random, &day);
     day.views = random.pick(&[1, 2, 40, MAX_VIEWS - 1, MAX_VIEWS]);
     for i in 0..n as usize {
         let c = &mut day.campaigns[i];
@@ -167,12 +181,11 @@ fn other(random: &mut Random, was: u64) -> u64 {
 
 /// The state with one number changed.
 pub fn mutate(random: &mut Random, day: &mut Day) {
-    let at = if random.one_in(4) {
-        random.below(MAX_CAMPAIGNS)
-    } else {
-        random.below((day.count + 1).min(MAX_CAMPAIGNS))
-    };
-    match random.below(10) {
+    let at =
+        if random.one_in(4) { random.below(MAX_CAMPAIGNS) } else { random.below((day.count + 1).min(MAX_CAMPAIGNS)) };
+    match random.below(12) {
+        10 => day.paused ^= 1 << at,
+        11 => day.paused = other(random, day.paused),
         0 => day.depth = other(random, day.depth),
         1 => day.width = other(random, day.width),
         2 => day.count = other(random, day.count),
@@ -208,7 +221,23 @@ fn changed(rule: &'static str, day: &Day, change: impl FnOnce(&mut Day)) -> Brok
 /// of them and fewer than 4,096 views.
 pub fn broken(day: &Day) -> Vec<Broken> {
     let n = day.count as usize;
-    let mut all = vec![
+    let mut all = [broken_heads(day), broken_phases(day), broken_marks(day)].concat();
+    for which in 0..6 {
+        for at in [n, 63] {
+            all.push(changed("an entry past the last", day, |d| {
+                *field(&mut d.campaigns[at], which) = 1;
+            }));
+        }
+    }
+    for at in [0, n - 1] {
+        all.extend(broken_terms(day, at));
+        all.extend(broken_counts(day, at));
+    }
+    all
+}
+
+fn broken_heads(day: &Day) -> Vec<Broken> {
+    vec![
         changed("depth 0", day, |d| d.depth = 0),
         changed("depth 33", day, |d| d.depth = 33),
         changed("depth 2^64 - 1", day, |d| d.depth = u64::MAX),
@@ -224,6 +253,11 @@ pub fn broken(day: &Day) -> Vec<Broken> {
         changed("an entry past the last", day, |d| d.count -= 1),
         changed("4097 views", day, |d| d.views = 4_097),
         changed("2^64 - 1 views", day, |d| d.views = u64::MAX),
+    ]
+}
+
+fn broken_phases(day: &Day) -> Vec<Broken> {
+    vec![
         changed("Closed with other takings", day, |d| {
             close(d);
             if let Phase::Closed(takings) = &mut d.phase {
@@ -231,58 +265,73 @@ pub fn broken(day: &Day) -> Vec<Broken> {
             }
         }),
         changed("Filling with a view", day, |d| {
-            d.phase = Phase::Filling;
+            filling(d, 0);
             d.views = 1;
-            uncount(d);
         }),
         changed("Filling with an age", day, |d| {
-            d.phase = Phase::Filling;
+            filling(d, 0);
             // of width 1, so that the age claims nothing
-            (d.views, d.depth, d.width) = (0, 2, 1);
-            uncount(d);
+            (d.depth, d.width) = (2, 1);
             d.campaigns[0].age = 1;
         }),
-    ];
-    for which in 0..6 {
-        for at in [n, 63] {
-            all.push(changed("an entry past the last", day, |d| {
-                *field(&mut d.campaigns[at], which) = 1;
-            }));
-        }
-    }
-    for at in [0, n - 1] {
-        let c = day.campaigns[at];
-        let one = |rule, change: &dyn Fn(&mut Campaign)| {
-            changed(rule, day, |d| change(&mut d.campaigns[at]))
-        };
-        all.push(one("price 0", &|c| (c.price, c.plays) = (0, 0)));
-        all.push(one("price above 1,000,000", &|c| c.price = MAX_PRICE + 1));
-        all.push(one("budget below price", &|c| c.budget = c.price - 1));
-        all.push(one("budget above 2,000,000,000", &|c| {
-            c.budget = MAX_BUDGET + 1
-        }));
-        all.push(changed("sum of budgets", day, |d| {
-            let others = d.campaigns.iter().map(|c| c.budget).sum::<u64>() - c.budget;
-            d.campaigns[at].budget = MAX_BUDGET + 1 - others;
-        }));
-        all.push(one("age at depth", &|c| c.age = day.depth));
-        all.push(one("age 65535", &|c| c.age = 65_535));
-        all.push(one("plays above turns", &|c| {
-            c.turns = c.plays.saturating_sub(1)
-        }));
-        all.push(one("turns above named", &|c| c.turns = c.named + 1));
-        all.push(one("named above views", &|c| c.named = day.views + 1));
-        all.push(one("plays above whole plays", &|c| {
-            c.budget = c.price * c.plays - 1
-        }));
-    }
-    all
+    ]
 }
 
+fn broken_marks(day: &Day) -> Vec<Broken> {
+    let next = 1 << day.count;
+    vec![
+        changed("a mark past the last", day, |d| d.paused |= next),
+        changed("a mark past the last", day, |d| d.paused = 1 << 63),
+        changed("all marks, also past the last", day, |d| d.paused = u64::MAX),
+        changed("Closed with a mark past the last", day, |d| {
+            close(d);
+            d.paused |= next;
+        }),
+        changed("Filling with a mark", day, |d| filling(d, 1)),
+        changed("Filling with the last mark", day, |d| filling(d, next / 2)),
+        changed("Filling with a mark past the last", day, |d| filling(d, next)),
+    ]
+}
+
+/// The state with one campaign changed.
+fn one(rule: &'static str, day: &Day, at: usize, change: impl FnOnce(&mut Campaign)) -> Broken {
+    changed(rule, day, |d| change(&mut d.campaigns[at]))
+}
+
+fn broken_terms(day: &Day, at: usize) -> Vec<Broken> {
+    let others = day.campaigns.iter().map(|c| c.budget).sum::<u64>() - day.campaigns[at].budget;
+    vec![
+        one("price 0", day, at, |c| (c.price, c.plays) = (0, 0)),
+        one("price above 1,000,000", day, at, |c| c.price = MAX_PRICE + 1),
+        one("budget below price", day, at, |c| c.budget = c.price - 1),
+        one("budget above 2,000,000,000", day, at, |c| c.budget = MAX_BUDGET + 1),
+        one("sum of budgets", day, at, |c| c.budget = MAX_BUDGET + 1 - others),
+        one("plays above whole plays", day, at, |c| c.budget = c.price * c.plays - 1),
+    ]
+}
+
+fn broken_counts(day: &Day, at: usize) -> Vec<Broken> {
+    vec![
+        one("age at depth", day, at, |c| c.age = day.depth),
+        one("age 65535", day, at, |c| c.age = 65_535),
+        one("plays above turns", day, at, |c| c.turns = c.plays.saturating_sub(1)),
+        one("turns above named", day, at, |c| c.turns = c.named + 1),
+        one("named above views", day, at, |c| c.named = day.views + 1),
+    ]
+}
+
+/// No counts and no marks.
 fn uncount(day: &mut Day) {
+    day.paused = 0;
     for c in &mut day.campaigns {
         (c.plays, c.turns, c.age, c.named) = (0, 0, 0, 0);
     }
+}
+
+/// Filling, with these marks alone.
+fn filling(day: &mut Day, marks: u64) {
+    uncount(day);
+    (day.phase, day.views, day.paused) = (Phase::Filling, 0, marks);
 }
 
 /// A running day whose every campaign has at least two plays, and cents and views left.
@@ -301,6 +350,7 @@ pub fn sturdy(random: &mut Random) -> Day {
             day = day.view(set).0;
         }
         if day.campaigns[..n as usize].iter().all(|c| c.plays >= 2) {
+            day.paused = random.below(1 << n);
             return day;
         }
     }

@@ -20,15 +20,15 @@ use Rattle.campaigns.specs.Phase.{phase-holds}
 use Rattle.campaigns.specs.View.{budgets, takings, claims, full}
 use Rattle.campaigns.proofs.Laws.{plan-sized}
 use Rattle.audit.specs.declared.Audit.{Audit}
-use Rattle.audit.specs.Sound.{sound-record, not-sound, figures, audit-of}
+use Rattle.audit.specs.Sound.{marks-hold, sound-record, not-sound, figures, audit-of}
 use Rattle.audit.specs.Contracts.{limits, waiting, sums-of, empty-from, claim-sum, claim-checked}
 use Rattle.audit.proofs.Totals.{held}
 use Rattle.audit.proofs.Claims.{tested, each}
 
 -- soundness in the order of the code
-regroup : (a b c x y e f g : Bool)
-    → (a && (b && (c && ((x && y) && (e && (f && (g && true))))))) ≡ ((a && b && c) && ((x && y && e && f) && g))
-regroup a b c x y e f g = simp (and-assoc, and-true)
+regroup : (a b c m x y e f g : Bool)
+    → (a && (b && (c && (m && ((x && y) && (e && (f && (g && true)))))))) ≡ ((a && b && c && m) && ((x && y && e && f) && g))
+regroup a b c m x y e f g = simp (and-assoc, and-true)
 
 -- the claims of n campaigns that are not past the depth
 claims-sum : (pl : Plan) → sound-plan pl ≡ true → (n : ℕ) (f : ℕ → Campaign)
@@ -59,20 +59,21 @@ module _ (h : Head) (f : ℕ → Campaign) where
   sound-parts few =
       let sound-at : ℕ → Bool = λ i. sound-campaign (h .phase) (h .plan) (h .accepted) (f i) in
       rw (every-cut 64 (h .count) sound-at (λ i. empty (f i)) few)
-      (regroup (sound-plan (h .plan)) (leb (h .count) max-campaigns) (leb (h .accepted) max-views)
+      (regroup (sound-plan (h .plan)) (leb (h .count) max-campaigns) (leb (h .accepted) max-views) (marks-hold h)
       (every (h .count) sound-at) (empty-from (h .count) f) (leb (budgets (h .count) f) max-budget)
       (phase-holds (h .phase) (h .accepted) (takings (h .plan) (h .count) f)) covered)
 
   -- a record outside the limits is not sound
   pub outside : limits h ≡ false → sound-record h f ≡ false
   unfolding sound-record
-  outside e = go (sound-plan (h .plan)) (leb (h .count) max-campaigns) (leb (h .accepted) max-views) _ e
+  outside e = go (sound-plan (h .plan)) (leb (h .count) max-campaigns) (leb (h .accepted) max-views) (marks-hold h) _ e
     where
-      go : (a b c d : Bool) → (a && b && c) ≡ false → (a && (b && (c && d))) ≡ false
-      go false b c d e = refl
-      go true false c d e = refl
-      go true true false d e = refl
-      go true true true d e = absurd (let z : _≡_ {A = ℕ} 0 1 = cc in omega arith)
+      go : (a b c m d : Bool) → (a && b && c && m) ≡ false → (a && (b && (c && (m && d)))) ≡ false
+      go false b c m d e = refl
+      go true false c m d e = refl
+      go true true false m d e = refl
+      go true true true false d e = refl
+      go true true true true d e = absurd (let z : _≡_ {A = ℕ} 0 1 = cc in omega arith)
 
   pub sound-within : sound-record h f ≡ true → limits h ≡ true
   sound-within s = go (limits h) refl
@@ -100,17 +101,21 @@ module _ (h : Head) (f : ℕ → Campaign) where
 
   -- within the limits
   module _ (e : limits h ≡ true) where
+    numbers : (sound-plan (h .plan) && leb (h .count) max-campaigns && leb (h .accepted) max-views) ≡ true
+    numbers = both-left (sound-plan (h .plan) && leb (h .count) max-campaigns && leb (h .accepted) max-views)
+        (marks-hold h) e
+
     pub plan-of : sound-plan (h .plan) ≡ true
     plan-of = both-left (sound-plan (h .plan)) (leb (h .count) max-campaigns)
-        (both-left (sound-plan (h .plan) && leb (h .count) max-campaigns) (leb (h .accepted) max-views) e)
+        (both-left (sound-plan (h .plan) && leb (h .count) max-campaigns) (leb (h .accepted) max-views) numbers)
 
     pub few-of : h .count ≤ max-campaigns
     few-of = leb-true (h .count) max-campaigns (both-right (sound-plan (h .plan)) (leb (h .count) max-campaigns)
-        (both-left (sound-plan (h .plan) && leb (h .count) max-campaigns) (leb (h .accepted) max-views) e))
+        (both-left (sound-plan (h .plan) && leb (h .count) max-campaigns) (leb (h .accepted) max-views) numbers))
 
     pub views-of : h .accepted ≤ max-views
     views-of = leb-true (h .accepted) max-views
-        (both-right (sound-plan (h .plan) && leb (h .count) max-campaigns) (leb (h .accepted) max-views) e)
+        (both-right (sound-plan (h .plan) && leb (h .count) max-campaigns) (leb (h .accepted) max-views) numbers)
 
     pub audit-failed : rest ≡ false → audit-of h f ≡ not-sound
     unfolding audit-of

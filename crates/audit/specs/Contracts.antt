@@ -15,11 +15,11 @@ use Rattle.campaigns.specs.View.{full}
 use Rattle.audit.specs.declared.Audit.{Audit}
 use Rattle.audit.specs.declared.sums.Spent.{Spent}
 use Rattle.audit.specs.declared.sums.Sums.{Sums}
-use Rattle.audit.specs.Sound.{not-sound}
+use Rattle.audit.specs.Sound.{marks-hold, not-sound}
 
--- the first tests of soundness: the plan's, and the limits of campaigns and views
+-- the first tests of soundness: the plan's, the limits of campaigns and views, and the paused marks
 abbrev pub limits : Head → Bool
-limits h = sound-plan (h .plan) && leb (h .count) max-campaigns && leb (h .accepted) max-views
+limits h = sound-plan (h .plan) && leb (h .count) max-campaigns && leb (h .accepted) max-views && marks-hold h
 
 -- the tests of soundness on the first n campaigns, by columns
 unfoldable pub priced-columns : ℕ → (ℕ → Campaign) → Bool

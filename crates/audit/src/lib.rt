@@ -15,7 +15,7 @@ ghost use mathlib.Core.Bool.{true};
 ghost use Rattle.campaigns.specs.Campaign.{campaign-at};
 ghost use Rattle.campaigns.specs.Contracts.{Weights};
 ghost use Rattle.campaigns.specs.Phase.{phase-holds};
-ghost use Rattle.audit.specs.Sound.{not-sound, audit-of};
+ghost use Rattle.audit.specs.Sound.{marks-hold, not-sound, audit-of};
 ghost use Rattle.audit.specs.Contracts.{limits, Bounded, claim-checked};
 
 // Whether the state is sound and, if so, the sum of its budgets, its takings, total claim and full.
@@ -41,7 +41,15 @@ impl Audit {
     }
 }
 
-// Questions 3 to 5 of a state's plan, and the limits of its campaigns and its views.
+// No campaign past the last is paused and, in Filling, none at all.
+fn marks_hold(head: Head) -> bool
+    ensures { λ r. ⌜ r ≡ marks-hold head ⌝ }
+{
+    let phase = head.phase;
+    sets::within(head.paused, head.count) & ((head.paused == 0) | !phase.filling())
+}
+
+// Questions 3 to 5 of a state's plan, the limits of its campaigns and its views, and the paused marks.
 pub fn limits_hold(head: Head) -> bool
     ensures { λ r. ⌜ r ≡ limits head ⌝ }
 {
@@ -51,6 +59,7 @@ pub fn limits_hold(head: Head) -> bool
         & (plan.depth <= powers::deepest(plan.width))
         & (head.count <= Plan::MAX_CAMPAIGNS)
         & (head.accepted <= Plan::MAX_VIEWS)
+        & marks_hold(head)
 }
 
 // In Filling no view is accepted; a Closed phase holds the takings.

@@ -85,6 +85,7 @@ fn shown_in_place(start: Day, views: &[u64]) -> Viewed {
             plan: plan,
             count: head.count,
             accepted: head.accepted,
+            paused: head.paused,
             terms: terms,
             counts: counts,
         },

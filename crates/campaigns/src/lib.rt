@@ -35,6 +35,8 @@ pub struct Head {
     pub plan: Plan,
     pub count: u64,
     pub accepted: u64,
+    // the paused marks: bit i is campaign i's
+    pub paused: u64,
 }
 
 // One campaign, read out of the arrays.

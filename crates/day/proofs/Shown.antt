@@ -7,7 +7,7 @@ use Prim.Native.Nat.{ℕ, _+_, _≤_, _<_}
 use native.Mathlib.Omega.{arith}
 use Rattle.finite.proofs.Tests.{never}
 use Rattle.sets.specs.Set.{within}
-use Rattle.sets.proofs.Bounds.{within-member}
+use Rattle.sets.proofs.Bounds.{within-member, within-without}
 use Rattle.campaigns.specs.declared.Head.{Head}
 use Rattle.campaigns.specs.declared.Phase.{Phase}
 use Rattle.campaigns.specs.declared.Phase.the-variants.{Filling, Running, Closed}
@@ -26,8 +26,9 @@ use Rattle.day.specs.declared.Answer.{Answer}
 use Rattle.day.specs.declared.Day.{Day}
 use Rattle.day.specs.Day.{campaign, state-of, state-with}
 use Rattle.campaigns.specs.Phase.{is-running}
-use Rattle.day.specs.Calls.{questions, player, offers, shown, view-answer, call}
+use Rattle.day.specs.Calls.{questions, found, player, offers, head-shown, shown, view-answer, call}
 use Rattle.day.specs.Calls.Call.{show-view}
+use Rattle.questions.specs.Questions.{unpaused}
 use Rattle.day.specs.Contracts.{answer-of}
 use Rattle.day.proofs.State.{Sound, sound-facts, held-at, state-with-is}
 use Rattle.day.proofs.Questions.{Yes, call-yes}
@@ -39,17 +40,23 @@ running-is (Closed t) e = absurd (never false refl e)
 
 -- a choice among the campaigns of a state as a candidate
 abbrev chosen : Day → View → Choice → Candidate
-chosen s w ch = as-candidate (λ i. figure (s .plan) w i (campaign s i)) (offers s w) ch
+chosen s w ch = as-candidate (λ i. figure (s .plan) (found s w) i (campaign s i)) (offers s w) ch
+
+-- the names that a view finds are in the plan where all its names are
+found-within : (s : Day) (w : View) → within (s .count) (w .set) ≡ true → within (s .count) (found s w .set) ≡ true
+found-within s w e = within-without (s .count) (w .set) (s .paused) e
 
 -- the candidate is the choice among the campaigns of the plan
 chosen-is : (s : Day) (w : View) (b : Candidate) → s .count ≤ 64 → within (s .count) (w .set) ≡ true
-    → b ≡ candidate-of (s .plan) w (campaign s) 64 → b ≡ chosen s w (player s w)
+    → b ≡ candidate-of (s .plan) (found s w) (campaign s) 64 → b ≡ chosen s w (player s w)
 unfolding candidate-of
-chosen-is s w b h e q = q ∙ ap (chosen s w) (choice-within (s .plan) w (campaign s) (s .count) h e)
+chosen-is s w b h e q =
+    q ∙ ap (chosen s w) (choice-within (s .plan) (found s w) (campaign s) (s .count) h (found-within s w e))
 
 -- what the walk made of the campaigns is what the view shows
-made : (s : Day) (w : View) (ch : Choice) (i : ℕ) → after-view (s .plan) w (chosen s w ch) (campaign s) i
-    ≡ becomes (s .plan) w i (role-of (names w i) (pays (s .plan) w i (campaign s i)) (is ch i)) (campaign s i)
+made : (s : Day) (w : View) (ch : Choice) (i : ℕ) → let v = found s w in
+    after-view (s .plan) v (chosen s w ch) (campaign s) i
+    ≡ becomes (s .plan) v i (role-of (names v i) (pays (s .plan) v i (campaign s i)) (is ch i)) (campaign s i)
 made s w nobody i = refl
 made s w (plays m) i = refl
 
@@ -60,10 +67,10 @@ answered s w (plays m) = refl
 
 -- the named campaigns of a sound state are ready for the choice
 module _ (s : Day) (w : View) (h : Sound s) (e : within (s .count) (w .set) ≡ true) where
-  held : (i : ℕ) → i < 64 → names w i ≡ true → Held (s .plan) (s .accepted) (campaign s i)
-  held i l m = held-at s h i (within-member (s .count) (w .set) i e l m)
+  held : (i : ℕ) → i < 64 → names (found s w) i ≡ true → Held (s .plan) (s .accepted) (campaign s i)
+  held i l m = held-at s h i (within-member (s .count) (found s w .set) i (found-within s w e) l m)
 
-  pub named-ready : Ready (s .plan) w (campaign s)
+  pub named-ready : Ready (s .plan) (found s w) (campaign s)
   named-ready = record {
     named-priced = λ i l m. held i l m .is-priced;
     named-young = λ i l m. held i l m .young;
@@ -76,27 +83,33 @@ module _ (s : Day) (w : View) (h : Sound s) (e : within (s .count) (w .set) ≡ 
 
 -- an accepted view, from what the choice and the marks gave
 module _ (h : Head) (t n : List ℕ) (w : View) (b : Candidate) (y : Yes (questions (state-of h t n) (show-view w)))
-    (q : b ≡ candidate-of (h .plan) w (campaign-at t n) 64) where
+    (q : b ≡ candidate-of (h .plan) (unpaused h w) (campaign-at t n) 64) where
   abbrev s : Day
   s = state-of h t n
 
   plays-is : b ≡ chosen s w (player s w)
   plays-is = chosen-is s w b (sound-facts s (y .0) .few) (y .1 .1 .1 .0) q
 
-  becomes-shown : (i : ℕ) → after-view (h .plan) w b (campaign s) i ≡ shown s w i
-  becomes-shown i = ap (λ (x : Candidate). after-view (s .plan) w x (campaign s) i) plays-is ∙ made s w (player s w) i
+  becomes-shown : (i : ℕ) → after-view (h .plan) (found s w) b (campaign s) i ≡ shown s w i
+  becomes-shown i =
+      ap (λ (x : Candidate). after-view (s .plan) (found s w) x (campaign s) i) plays-is ∙ made s w (player s w) i
 
-  -- the state with one view more
-  abbrev one-more : List ℕ → Day
-  one-more m = state-of (record { phase = h .phase; plan = h .plan; count = h .count; accepted = h .accepted + 1 }) t m
+  -- the head with one view more
+  abbrev one-more : Phase → Head
+  one-more p = record {
+    phase = p;
+    plan = h .plan;
+    count = h .count;
+    accepted = h .accepted + 1;
+    paused = h .paused;
+  }
 
-  pub accepted-shows : (m : List ℕ) (r : Answer) → Counts (after-view (h .plan) w b (campaign-at t n)) t m
-      → r ≡ answer-of b → record { day = one-more m; answer = r } ≡ call s (show-view w)
+  pub accepted-shows : (m : List ℕ) (r : Answer) → Counts (after-view (h .plan) (found s w) b (campaign-at t n)) t m
+      → r ≡ answer-of b → record { day = state-of (one-more (h .phase)) t m; answer = r } ≡ call s (show-view w)
   accepted-shows m r c e =
-      let a : one-more m ≡ state-with Running (h .plan) (h .count) (h .accepted + 1) (shown s w) =
-      state-with-is (one-more m) (shown s w) (c .room) (λ i k. c .at i k ∙ becomes-shown i)
-      ∙ ap (λ (p : Phase). state-with p (h .plan) (h .count) (h .accepted + 1) (shown s w))
-      (running-is (h .phase) (y .1 .0)) in
+      let a : state-of (one-more (h .phase)) t m ≡ state-with (head-shown s) (shown s w) =
+      state-with-is (state-of (one-more (h .phase)) t m) (shown s w) (c .room) (λ i k. c .at i k ∙ becomes-shown i)
+      ∙ ap (λ (p : Phase). state-with (one-more p) (shown s w)) (running-is (h .phase) (y .1 .0)) in
       ap₂ (λ (x : Day) (z : Answer). record { day = x; answer = z }) a
       (e ∙ ap answer-of plays-is ∙ answered s w (player s w))
       ∙ sym (call-yes s (show-view w) y)

@@ -28,6 +28,6 @@ unfolding first-failed
 own-asks s c e = rw e
 
 -- arrays of zeros hold no campaigns
-pub planned-is : (p : Phase) (pl : Plan) → state-of (record { phase = p; plan = pl; count = 0; accepted = 0 }) (replicate 128 0) (replicate 256 0) ≡ empty-plan p pl
+pub planned-is : (p : Phase) (pl : Plan) → state-of (record { phase = p; plan = pl; count = 0; accepted = 0; paused = 0 }) (replicate 128 0) (replicate 256 0) ≡ empty-plan p pl
 unfolding table
 planned-is p pl = refl

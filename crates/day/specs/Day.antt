@@ -21,7 +21,13 @@ campaign s i = campaign-at (s .terms) (s .counts) i
 
 -- a state but for its campaigns
 abbrev pub head-of : Day → Head
-head-of s = record { phase = s .phase; plan = s .plan; count = s .count; accepted = s .accepted }
+head-of s = record {
+  phase = s .phase;
+  plan = s .plan;
+  count = s .count;
+  accepted = s .accepted;
+  paused = s .paused;
+}
 
 -- the state of a head and two arrays
 abbrev pub state-of : Head → (terms counts : List ℕ) → Day
@@ -30,17 +36,19 @@ state-of h t n = record {
   plan = h .plan;
   count = h .count;
   accepted = h .accepted;
+  paused = h .paused;
   terms = t;
   counts = n;
 }
 
--- the state that holds n campaigns, f i at entry i
-abbrev pub state-with : Phase → Plan → (count accepted : ℕ) → (ℕ → Campaign) → Day
-state-with p pl n a f = record {
-  phase = p;
-  plan = pl;
-  count = n;
-  accepted = a;
+-- the state of a head that holds campaign f i at entry i
+abbrev pub state-with : Head → (ℕ → Campaign) → Day
+state-with h f = record {
+  phase = h .phase;
+  plan = h .plan;
+  count = h .count;
+  accepted = h .accepted;
+  paused = h .paused;
   terms = table 64 (λ i. f i .price) ++ table 64 (λ i. f i .budget);
   counts = table 64 (λ i. f i .plays) ++
       (table 64 (λ i. f i .turns) ++ (table 64 (λ i. f i .age) ++ table 64 (λ i. f i .named)));
@@ -53,6 +61,7 @@ in-phase s p = record {
   plan = s .plan;
   count = s .count;
   accepted = s .accepted;
+  paused = s .paused;
   terms = s .terms;
   counts = s .counts;
 }
@@ -61,9 +70,10 @@ in-phase s p = record {
 abbrev pub no-terms : Terms
 no-terms = record { price = 0; budget = 0 }
 
--- a plan with no campaigns and zero counts
+-- a plan with no campaigns, zero counts and no mark
 abbrev pub empty-plan : Phase → Plan → Day
-empty-plan p pl = state-with p pl 0 0 (λ i. fresh no-terms)
+empty-plan p pl = state-with (record { phase = p; plan = pl; count = 0; accepted = 0; paused = 0 })
+    (λ i. fresh no-terms)
 
 -- the blank state: Closed, depth 1, width 1, no campaigns, zero accepted views and zero takings
 abbrev pub blank-plan : Plan

@@ -1,4 +1,4 @@
-// The six operations, each of any state whose arrays are lent.
+// The eight operations, each of any state whose arrays are lent.
 use crate::Call;
 use crate::Step;
 use crate::ops::execute;
@@ -7,9 +7,11 @@ use campaigns::Plan;
 use campaigns::Terms;
 use campaigns::View;
 ghost use mathlib.Core.Path.{_≡_};
+ghost use mathlib.Core.Bool.{true, false};
 ghost use Rattle.day.specs.Day.{state-of};
 ghost use Rattle.day.specs.Calls.{call};
 ghost use Rattle.day.specs.Calls.Call.{open-plan, add-campaign, start-day, show-view, ask-tally, close-day};
+ghost use Rattle.day.specs.Calls.Call.{mark-campaign};
 ghost use Rattle.day.specs.InPlace.{outcome-of};
 
 pub fn open<'a>(
@@ -67,4 +69,28 @@ pub fn close<'a>(head: Head, terms: &'a mut [u32; 128], counts: &'a mut [u16; 25
         ≡ call (state-of head (now (terms .entry)) (now (counts .entry))) close-day ⌝ }
 {
     execute(head, Call::Close, terms, counts)
+}
+
+pub fn pause<'a>(
+    head: Head,
+    campaign: u64,
+    terms: &'a mut [u32; 128],
+    counts: &'a mut [u16; 256],
+) -> Step
+    ensures { λ r. ⌜ outcome-of r (now (terms .exit)) (now (counts .exit))
+        ≡ call (state-of head (now (terms .entry)) (now (counts .entry))) (mark-campaign true campaign) ⌝ }
+{
+    execute(head, Call::Pause(campaign), terms, counts)
+}
+
+pub fn resume<'a>(
+    head: Head,
+    campaign: u64,
+    terms: &'a mut [u32; 128],
+    counts: &'a mut [u16; 256],
+) -> Step
+    ensures { λ r. ⌜ outcome-of r (now (terms .exit)) (now (counts .exit))
+        ≡ call (state-of head (now (terms .entry)) (now (counts .entry))) (mark-campaign false campaign) ⌝ }
+{
+    execute(head, Call::Resume(campaign), terms, counts)
 }

@@ -1,4 +1,4 @@
-// The day's record: its state and the six operations on it, which change the lent arrays of its campaigns where they
+// The day's record: its state and the eight operations on it, which change the lent arrays of its campaigns where they
 // stand.
 pub mod in_place;
 pub mod ops;
@@ -21,6 +21,8 @@ pub struct Day {
     pub plan: Plan,
     pub count: u64,
     pub accepted: u64,
+    // the paused marks: bit i is campaign i's
+    pub paused: u64,
     pub terms: [u32; 128],
     pub counts: [u16; 256],
 }
@@ -66,6 +68,8 @@ pub enum Call {
     Show(View),
     Tally(u64),
     Close,
+    Pause(u64),
+    Resume(u64),
 }
 
 impl Step {
@@ -88,5 +92,6 @@ pub fn blank() -> Head
         plan: Plan { depth: 1, width: 1 },
         count: 0,
         accepted: 0,
+        paused: 0,
     }
 }

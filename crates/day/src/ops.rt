@@ -1,5 +1,5 @@
-// Opening a plan, adding a campaign, starting the day, asking for a tally and closing, of a sound state; and any call
-// of any state, which is audited first. A loop that has asked once whether its state is sound
+// Opening a plan, adding a campaign, starting the day, asking for a tally, closing, pausing and resuming, of a sound
+// state; and any call of any state, which is audited first. A loop that has asked once whether its state is sound
 // (`prepare`) goes on with the operations of a sound state.
 use crate::Answer;
 use crate::Call;
@@ -15,15 +15,16 @@ use campaigns::entry::sized;
 use campaigns::entry::wide32;
 use campaigns::weights::weights;
 use questions::add_question;
+use questions::mark_question;
 use questions::plan_question;
 ghost use mathlib.Core.Path.{_≡_};
-ghost use Prim.Native.Nat.{_≤_};
+ghost use Prim.Native.Nat.{_≤_, _<_};
 ghost use Rattle.finite.specs.Finite.{sum};
 ghost use Rattle.campaigns.specs.Campaign.{campaign-at};
 ghost use Rattle.campaigns.specs.Contracts.{Room, Weights};
 ghost use Rattle.day.specs.Day.{state-of};
-ghost use Rattle.day.specs.Calls.{call};
-ghost use Rattle.day.specs.Calls.Call.{open-plan, add-campaign, start-day, ask-tally, close-day};
+ghost use Rattle.day.specs.Calls.{call, marked};
+ghost use Rattle.day.specs.Calls.Call.{open-plan, add-campaign, start-day, ask-tally, close-day, mark-campaign};
 ghost use Rattle.day.specs.Day.{audited};
 ghost use Rattle.day.specs.InPlace.{outcome-of, asked};
 ghost use Rattle.day.specs.Contracts.{Kept, Ready};
@@ -67,6 +68,7 @@ pub fn open_sound<'a>(
             plan: plan,
             count: 0,
             accepted: 0,
+            paused: 0,
         },
         answer: Answer::Done,
     }
@@ -112,6 +114,7 @@ pub fn add_sound<'a>(
             plan: plan,
             count: head.count + 1,
             accepted: head.accepted,
+            paused: head.paused,
         },
         answer: Answer::Done,
     }
@@ -134,6 +137,7 @@ pub fn start_sound<'a>(head: Head, terms: &'a [u32; 128], counts: &'a [u16; 256]
             plan: plan,
             count: head.count,
             accepted: head.accepted,
+            paused: head.paused,
         },
         answer: Answer::Done,
     }
@@ -183,12 +187,14 @@ pub fn close_sound<'a>(
         return Step::refused(head, 11);
     }
     let plan = head.plan;
+    let marks = head.paused;
     // a copy made here, so that no other operation has to keep its head in memory
     let copy = Head {
         phase: phase,
         plan: plan,
         count: head.count,
         accepted: head.accepted,
+        paused: head.paused,
     };
     let audit = audit::audit_parts(copy, list, terms, counts);
     Step {
@@ -197,12 +203,54 @@ pub fn close_sound<'a>(
             plan: plan,
             count: head.count,
             accepted: head.accepted,
+            paused: marks,
         },
         answer: Answer::Closing {
             takings: audit.takings,
             claim: audit.claim,
             full: audit.full,
         },
+    }
+}
+
+// The marks with that of a campaign set or cleared.
+fn marked(set: u64, campaign: u64, paused: bool) -> u64
+    requires { ⌜ campaign < 64 ⌝ }
+    ensures { λ r. ⌜ r ≡ marked paused campaign set ⌝ }
+{
+    if paused {
+        return sets::including(set, campaign);
+    }
+    sets::without(set, sets::including(0, campaign))
+}
+
+// A campaign is paused, or resumed: its mark alone changes.
+pub fn mark_sound<'a>(
+    head: Head,
+    campaign: u64,
+    paused: bool,
+    terms: &'a [u32; 128],
+    counts: &'a [u16; 256],
+) -> Step
+    requires { ⌜ Kept head (now terms) (now counts) ⌝ }
+    ensures { λ r. ⌜ outcome-of r (now (terms .entry)) (now (counts .entry))
+        ≡ call (state-of head (now (terms .entry)) (now (counts .entry))) (mark-campaign paused campaign) ⌝ }
+{
+    let question = mark_question(head, campaign);
+    if question != 0 {
+        return Step::refused(head, question);
+    }
+    let phase = head.phase;
+    let plan = head.plan;
+    Step {
+        head: Head {
+            phase: phase,
+            plan: plan,
+            count: head.count,
+            accepted: head.accepted,
+            paused: marked(head.paused, campaign, paused),
+        },
+        answer: Answer::Done,
     }
 }
 
@@ -226,6 +274,8 @@ pub fn execute_sound<'a>(
         Call::Show(view) => show_sound(head, view, weights, terms, counts),
         Call::Tally(campaign) => tally_sound(head, campaign, terms, counts),
         Call::Close => close_sound(head, weights, terms, counts),
+        Call::Pause(campaign) => mark_sound(head, campaign, true, terms, counts),
+        Call::Resume(campaign) => mark_sound(head, campaign, false, terms, counts),
     }
 }
 

@@ -15,6 +15,8 @@ ghost use mathlib.Core.Path.{_≡_};
 ghost use Rattle.day.specs.Day.{blank};
 ghost use Rattle.day.specs.Calls.{day-limits, call};
 ghost use Rattle.day.specs.Calls.Call.{open-plan, add-campaign, start-day, show-view, ask-tally, close-day};
+ghost use Rattle.day.specs.Calls.Call.{mark-campaign};
+ghost use mathlib.Core.Bool.{true, false};
 ghost use Rattle.day.specs.Day.{audited, head-of};
 ghost use Rattle.day.specs.InPlace.{asked};
 
@@ -55,6 +57,7 @@ impl Day {
             plan: Plan { depth: 1, width: 1 },
             count: 0,
             accepted: 0,
+            paused: 0,
             terms: [0; 128],
             counts: [0; 256],
         }
@@ -71,6 +74,7 @@ impl Day {
             plan: plan,
             count: self.count,
             accepted: self.accepted,
+            paused: self.paused,
         }
     }
 
@@ -99,6 +103,7 @@ impl Day {
                 plan: plan,
                 count: next.count,
                 accepted: next.accepted,
+                paused: next.paused,
                 terms: terms,
                 counts: counts,
             },
@@ -146,5 +151,18 @@ impl Day {
         ensures { λ r. ⌜ r ≡ call self close-day ⌝ }
     {
         self.execute(Call::Close)
+    }
+    // The campaign is as one that no view names, until it is resumed.
+    pub fn pause(self, campaign: u64) -> Outcome
+        ensures { λ r. ⌜ r ≡ call self (mark-campaign true campaign) ⌝ }
+    {
+        self.execute(Call::Pause(campaign))
+    }
+
+    // The campaign takes part again.
+    pub fn resume(self, campaign: u64) -> Outcome
+        ensures { λ r. ⌜ r ≡ call self (mark-campaign false campaign) ⌝ }
+    {
+        self.execute(Call::Resume(campaign))
     }
 }

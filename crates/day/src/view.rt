@@ -1,4 +1,4 @@
-// A view of a sound state: its questions, the choice, and what it does to the named campaigns.
+// A view of a sound state: its questions, the choice, and what it does to the named campaigns that are not paused.
 use crate::Answer;
 use crate::Step;
 use campaigns::Head;
@@ -47,7 +47,10 @@ pub fn show_sound<'a>(
     }
     let phase = head.phase;
     let plan = head.plan;
-    let chosen = play(view, plan, weights, terms, counts);
+    let found = View {
+        set: sets::without(view.set, head.paused),
+    };
+    let chosen = play(found, plan, weights, terms, counts);
     let answer = view_answer(chosen);
     Step {
         head: Head {
@@ -55,6 +58,7 @@ pub fn show_sound<'a>(
             plan: plan,
             count: head.count,
             accepted: head.accepted + 1,
+            paused: head.paused,
         },
         answer: answer,
     }

@@ -1,7 +1,7 @@
 -- Every case of the table holds: both sides are computed.
 use mathlib.Core.Path.{refl}
 use Rattle.finite.specs.Finite.{sum, count, every, table}
-use Rattle.sets.specs.Set.{member, size, within}
+use Rattle.sets.specs.Set.{member, size, within, collect, without, including}
 use Rattle.powers.specs.Power.{weight, share}
 use Rattle.campaigns.specs.Choice.{best, choice}
 use Rattle.campaigns.specs.Campaign.{whole, claim, sound-plan, priced, counted, uncounted, empty, sound-campaign}
@@ -9,12 +9,13 @@ use Rattle.audit.specs.Sound.{sound-record}
 use Rattle.day.specs.Day.{blank, total-takings, total-claim, total-budgets}
 use Rattle.day.specs.Day.{sound}
 use Rattle.questions.specs.Questions.{first-failed, width-holds}
-use Rattle.day.specs.Calls.{call}
+use Rattle.day.specs.Calls.{marked, call}
 use Rattle.demands.specs.Transcript.{transcript, final}
 use Rattle.demands.specs.Cases.{All-hold, cases}
 
 pub cases-hold : All-hold cases
 unfolding transcript final call first-failed sound sound-record blank sum count every table within size member
+    collect without including marked
     width-holds weight share whole claim total-takings total-claim total-budgets sound-plan priced counted uncounted
     empty sound-campaign best choice
 cases-hold = (
@@ -27,7 +28,7 @@ cases-hold = (
         refl,
         (
           refl,
-          (refl, (refl, (refl, (refl, (refl, (refl, (refl, (refl, (refl, (refl, (refl, (refl, (refl, (refl, tt)))))))))))))),
+          (refl, (refl, (refl, (refl, (refl, (refl, (refl, (refl, (refl, (refl, (refl, (refl, (refl, (refl, (refl, (refl, (refl, (refl, (refl, (refl, (refl, tt))))))))))))))))))))),
         ),
       ),
     ),

@@ -14,7 +14,7 @@ use Rattle.campaigns.specs.Choice.Choice.{nobody, plays}
 use Rattle.campaigns.specs.View.{able, figure}
 use Rattle.day.specs.declared.Day.{Day}
 use Rattle.day.specs.Day.{campaign}
-use Rattle.day.specs.Calls.{player}
+use Rattle.day.specs.Calls.{found, player}
 use Rattle.demands.specs.Choice.{Right}
 use Rattle.demands.specs.Demands.{Plays-right}
 
@@ -152,11 +152,15 @@ choice-eq n a b f g h q = choice-only n b g (choice n a f) (go (choice n a f) (c
           omega (arith, r .lowest i l u, q i (omega (arith, r .below)) u, q m (r .below) (r .is-able));
     }
 
--- who plays a view: of the named campaigns that can pay the one with the greatest score, the lowest such
+-- who plays a view: of the named campaigns that are not paused and can pay the one with the greatest score, the lowest
+-- such
 pub player-right : (s : Day) (w : View) → Plays-right s w
-player-right s w = choice-right (s .count) (able (s .plan) w (campaign s)) (λ i. figure (s .plan) w i (campaign s i))
+player-right s w =
+    let v = found s w in
+    choice-right (s .count) (able (s .plan) v (campaign s)) (λ i. figure (s .plan) v i (campaign s i))
 
-pub player-only : (s : Day) (w : View) (ch : Choice)
-    → Right (s .count) (able (s .plan) w (campaign s)) (λ i. figure (s .plan) w i (campaign s i)) ch → ch ≡ player s w
+pub player-only : (s : Day) (w : View) (ch : Choice) → let v = found s w in
+    Right (s .count) (able (s .plan) v (campaign s)) (λ i. figure (s .plan) v i (campaign s i)) ch → ch ≡ player s w
 player-only s w ch r =
-    choice-only (s .count) (able (s .plan) w (campaign s)) (λ i. figure (s .plan) w i (campaign s i)) ch r
+    let v = found s w in
+    choice-only (s .count) (able (s .plan) v (campaign s)) (λ i. figure (s .plan) v i (campaign s i)) ch r

@@ -6,7 +6,7 @@ use Rattle.campaigns.specs.Choice.Choice.{nobody, plays}
 use Rattle.day.specs.declared.Day.{Day}
 use Rattle.day.specs.declared.Outcome.{Outcome}
 use Rattle.day.specs.Calls.{values, Call, view-answer, offers, player, result}
-use Rattle.day.specs.Calls.Call.{open-plan, add-campaign, start-day, show-view, ask-tally, close-day}
+use Rattle.day.specs.Calls.Call.{open-plan, add-campaign, start-day, show-view, ask-tally, close-day, mark-campaign}
 use Rattle.demands.specs.Demands.{view-values, accepted-values, Answers}
 use Rattle.demands.proofs.Refusals.{call-number, refused-unchanged, accepted-result}
 use Rattle.demands.proofs.Sound.{sound-kept}
@@ -22,6 +22,7 @@ result-values s start-day = refl
 result-values s (show-view w) = view-answer-values (offers s w) (player s w)
 result-values s (ask-tally i) = refl
 result-values s close-day = refl
+result-values s (mark-campaign b i) = refl
 
 pub answers : (s : Day) (c : Call) → Answers s c
 answers s c = record {

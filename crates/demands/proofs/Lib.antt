@@ -5,6 +5,7 @@ pub mod Laws
 pub mod Step
 pub mod States
 pub mod SoundCampaign
+pub mod Marks
 pub mod Sound
 pub mod Refusals
 pub mod Cases

@@ -7,7 +7,7 @@ use Rattle.day.specs.declared.Day.{Day}
 use Rattle.day.specs.declared.Answer.the-variants.{Refused}
 use Rattle.questions.specs.Questions.{first-failed}
 use Rattle.day.specs.Calls.{number, Call, questions, offers, player, view-answer, result, answered, call}
-use Rattle.day.specs.Calls.Call.{open-plan, add-campaign, start-day, show-view, ask-tally, close-day}
+use Rattle.day.specs.Calls.Call.{open-plan, add-campaign, start-day, show-view, ask-tally, close-day, mark-campaign}
 
 view-answer-number : (x : ℕ → ℕ) (ch : Choice) → number (view-answer x ch) ≡ 0
 view-answer-number x nobody = refl
@@ -20,6 +20,7 @@ result-number s start-day = refl
 result-number s (show-view w) = view-answer-number (offers s w) (player s w)
 result-number s (ask-tally i) = refl
 result-number s close-day = refl
+result-number s (mark-campaign b i) = refl
 
 -- a call is refused with the number of the first question that fails, and accepted where none does
 pub call-number : (s : Day) (c : Call) → number (call s c .answer) ≡ first-failed (questions s c)

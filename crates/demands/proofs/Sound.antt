@@ -1,19 +1,20 @@
 -- Every call keeps a sound state sound. What makes a state sound is gathered in one record over its campaigns
 -- (`Whole`), and each call keeps the record; the bound on the total claim is the potential step.
 use mathlib.Core.Path.{_≡_, refl, ap, subst}
-use mathlib.Core.Bool.{Bool, true, false}
+use mathlib.Core.Bool.{Bool, true, false, not, _||_}
 use mathlib.Core.List.{[], _∷_}
 use Prim.Native.Nat.{ℕ, suc, _+_, _≤_, _<_}
 use native.Mathlib.Nat.{le-trans, lt-of-lt-of-le, not-suc-le-zero}
 use native.Mathlib.Omega.{arith}
 use lib.Dec.{leb, ltb, eqb}
 use borrow.Author.Tests.{eq-eqb, ltb-true, ltb-false, leb-true, le-leb}
-use Rattle.finite.specs.Finite.{sum, count}
+use Rattle.finite.specs.Finite.{sum, count, every}
 use Rattle.finite.proofs.Tests.{both-right, all-of, every-of, joint-of, one-more}
 use Rattle.finite.proofs.Sums.{sum-eq, sum-zero, count-below}
-use Rattle.sets.specs.Set.{size}
-use Rattle.sets.proofs.Bounds.{within-not-member}
+use Rattle.sets.specs.Set.{member, size, within}
+use Rattle.sets.proofs.Bounds.{within-not-member, within-without}
 use Rattle.campaigns.specs.declared.Campaign.{Campaign}
+use Rattle.campaigns.specs.declared.Head.{Head}
 use Rattle.campaigns.specs.declared.Phase.{Phase}
 use Rattle.campaigns.specs.declared.Phase.the-variants.{Filling, Running, Closed}
 use Rattle.campaigns.specs.declared.Plan.{Plan}
@@ -29,32 +30,35 @@ use Rattle.day.specs.declared.Day.{Day}
 use Rattle.day.specs.declared.Outcome.{Outcome}
 use Rattle.day.specs.Day.{campaign, state-with, in-phase, no-terms, empty-plan, blank-plan, blank, total-takings}
 use Rattle.day.specs.Day.{total-claim, total-budgets}
-use Rattle.audit.specs.Sound.{sound-entry, sound-tests, sound-record}
+use Rattle.audit.specs.Sound.{marks-hold, sound-entry, sound-tests, sound-record}
 use Rattle.day.specs.Day.{head-of, sound}
-use Rattle.campaigns.specs.Phase.{phase-holds}
+use Rattle.campaigns.specs.Phase.{is-filling, phase-holds}
 use Rattle.questions.specs.Questions.{width-holds}
-use Rattle.day.specs.Calls.{number, Call, questions, result, with-campaign, player, shown, call}
-use Rattle.day.specs.Calls.Call.{open-plan, add-campaign, start-day, show-view, ask-tally, close-day}
+use Rattle.day.specs.Calls.{number, Call, questions, result, with-campaign, found, player, shown, marked, call}
+use Rattle.day.specs.Calls.{head-joined, head-shown, head-marked}
+use Rattle.day.specs.Calls.Call.{open-plan, add-campaign, start-day, show-view, ask-tally, close-day, mark-campaign}
 use Rattle.day.proofs.Questions.{Yes, call-elim}
 use Rattle.day.proofs.State.{filling-is, Sound, sound-facts, sound-at, held-at, empty-at, campaign-of-state}
 use Rattle.demands.proofs.Laws.{claim-of, claim-fresh}
 use Rattle.demands.proofs.Step.{able-few, takings-step, claims-step}
 use Rattle.demands.proofs.States.{sum-state-with, with-campaign-old, with-campaign-new, sum-with-campaign}
 use Rattle.demands.proofs.States.{takings-with-campaign}
+use Rattle.demands.proofs.Marks.{running-not-filling, marks-within, marks-of, within-more, within-marked}
 use Rattle.demands.proofs.SoundCampaign.{campaign-sound, becomes-sound, fresh-sound}
 
--- all that makes the state that holds n campaigns, f i at entry i, a sound one
-pub record Whole (p : Phase) (pl : Plan) (n a : ℕ) (f : ℕ → Campaign) : Type 0 where
-  pub plan-sound : sound-plan pl ≡ true
-  pub few : n ≤ max-campaigns
-  pub views : a ≤ max-views
-  pub entry : (i : ℕ) → i < n → sound-campaign p pl a (f i) ≡ true
-  pub past : (i : ℕ) → n ≤ i → i < 64 → empty (f i) ≡ true
-  pub budgets : sum n (λ i. f i .budget) ≤ max-budget
-  pub phased : phase-holds p a (takings pl n f) ≡ true
-  pub covered : claims pl n f ≤ full pl (takings pl n f)
+-- all that makes the state of a head that holds f i at entry i a sound one
+pub record Whole (h : Head) (f : ℕ → Campaign) : Type 0 where
+  pub plan-sound : sound-plan (h .plan) ≡ true
+  pub few : h .count ≤ max-campaigns
+  pub views : h .accepted ≤ max-views
+  pub marks : marks-hold h ≡ true
+  pub entry : (i : ℕ) → i < h .count → sound-campaign (h .phase) (h .plan) (h .accepted) (f i) ≡ true
+  pub past : (i : ℕ) → h .count ≤ i → i < 64 → empty (f i) ≡ true
+  pub budgets : sum (h .count) (λ i. f i .budget) ≤ max-budget
+  pub phased : phase-holds (h .phase) (h .accepted) (takings (h .plan) (h .count) f) ≡ true
+  pub covered : claims (h .plan) (h .count) f ≤ full (h .plan) (takings (h .plan) (h .count) f)
 
-whole-sound : (s : Day) → Whole (s .phase) (s .plan) (s .count) (s .accepted) (campaign s) → sound s ≡ true
+whole-sound : (s : Day) → Whole (head-of s) (campaign s) → sound s ≡ true
 unfolding sound sound-record
 whole-sound s h =
     all-of (sound-tests (head-of s) (campaign s)) (
@@ -64,8 +68,11 @@ whole-sound s h =
         (
           le-leb _ _ (h .views),
           (
-            every-of 64 (sound-entry (head-of s) (campaign s)) (λ i l. go i l (ltb i (s .count)) refl),
-            (le-leb _ _ (h .budgets), (h .phased, (le-leb _ _ (h .covered), tt))),
+            h .marks,
+            (
+              every-of 64 (sound-entry (head-of s) (campaign s)) (λ i l. go i l (ltb i (s .count)) refl),
+              (le-leb _ _ (h .budgets), (h .phased, (le-leb _ _ (h .covered), tt))),
+            ),
           ),
         ),
       ),
@@ -75,32 +82,33 @@ whole-sound s h =
     go i l true e = rw e (h .entry i (ltb-true i (s .count) e))
     go i l false e = rw e (h .past i (ltb-false i (s .count) e) l)
 
-sound-state-with : (p : Phase) (pl : Plan) (n a : ℕ) (f : ℕ → Campaign) → Whole p pl n a f
-    → sound (state-with p pl n a f) ≡ true
-sound-state-with p pl n a f h =
-    let ta : takings pl n (campaign (state-with p pl n a f)) ≡ takings pl n f =
-    sum-state-with p pl n a f spending (h .few) in
-    let cl : claims pl n (campaign (state-with p pl n a f)) ≡ claims pl n f =
-    sum-state-with p pl n a f (claim-of pl) (h .few) in
-    whole-sound (state-with p pl n a f) (record {
-      plan-sound = h .plan-sound;
-      few = h .few;
-      views = h .views;
-      entry = λ i l. rw (campaign-of-state p pl n a f i (lt-of-lt-of-le l (h .few))) (h .entry i l);
-      past = λ i l m. rw (campaign-of-state p pl n a f i m) (h .past i l m);
-      budgets = rw (sum-state-with p pl n a f (λ c. c .budget) (h .few)) (h .budgets);
-      phased = rw ta (h .phased);
-      covered = rw (ta, cl) (h .covered);
+sound-state-with : (h : Head) (f : ℕ → Campaign) → Whole h f → sound (state-with h f) ≡ true
+sound-state-with h f w =
+    let n = h .count in
+    let pl = h .plan in
+    let ta : takings pl n (campaign (state-with h f)) ≡ takings pl n f = sum-state-with h f spending (w .few) in
+    let cl : claims pl n (campaign (state-with h f)) ≡ claims pl n f = sum-state-with h f (claim-of pl) (w .few) in
+    whole-sound (state-with h f) (record {
+      plan-sound = w .plan-sound;
+      few = w .few;
+      views = w .views;
+      marks = w .marks;
+      entry = λ i l. rw (campaign-of-state h f i (lt-of-lt-of-le l (w .few))) (w .entry i l);
+      past = λ i l m. rw (campaign-of-state h f i m) (w .past i l m);
+      budgets = rw (sum-state-with h f (λ c. c .budget) (w .few)) (w .budgets);
+      phased = rw ta (w .phased);
+      covered = rw (ta, cl) (w .covered);
     })
 
 -- a plan with no campaigns
 sound-empty-plan : (p : Phase) (pl : Plan) → sound-plan pl ≡ true → phase-holds p 0 0 ≡ true
     → sound (empty-plan p pl) ≡ true
-unfolding empty uncounted
-sound-empty-plan p pl e h = sound-state-with p pl 0 0 (λ i. fresh no-terms) (record {
+unfolding empty uncounted within every member
+sound-empty-plan p pl e h = sound-state-with (head-of (empty-plan p pl)) (λ i. fresh no-terms) (record {
   plan-sound = e;
   few = omega arith;
   views = omega arith;
+  marks = refl;
   entry = λ i l. absurd (not-suc-le-zero l);
   past = λ i l m. refl;
   budgets = omega (arith, sum-zero (λ i. 0));
@@ -134,14 +142,18 @@ module _ (s : Day) (h : Sound s) where
   unfolding total-takings total-claim
   covered-claims = h .covered
 
+  inside : within (s .count) (s .paused) ≡ true
+  inside = marks-within (head-of s) (h .marks)
+
   -- another phase than Filling
-  sound-phase : (p : Phase) → ((c : Campaign) → untouched p c ≡ true)
+  sound-phase : (p : Phase) → is-filling p ≡ false → ((c : Campaign) → untouched p c ≡ true)
       → phase-holds p (s .accepted) (total-takings s) ≡ true → sound (in-phase s p) ≡ true
   unfolding total-takings total-budgets
-  sound-phase p u e = whole-sound (in-phase s p) (record {
+  sound-phase p f u e = whole-sound (in-phase s p) (record {
     plan-sound = h .plan-sound;
     few = h .few;
     views = h .views;
+    marks = marks-of (head-of (in-phase s p)) inside f;
     entry = λ i l. let o = held-at s h i l in
         campaign-sound p (s .plan) (s .accepted) (campaign s i) (o .is-priced) (o .young) (o .within-whole)
         (o .plays-turns) (o .turns-named) (o .named-accepted) (u (campaign s i));
@@ -153,16 +165,20 @@ module _ (s : Day) (h : Sound s) where
 
   module _ (t : Terms) where
     sound-joined : Yes (questions s (add-campaign t))
-        → sound (state-with Filling (s .plan) (s .count + 1) (s .accepted) (with-campaign s t)) ≡ true
+        → sound (state-with (head-joined s) (with-campaign s t)) ≡ true
     unfolding total-budgets total-takings
     sound-joined (e1, (e6, (e7, (e8, (e9, (e10, _)))))) =
         let f : s .phase ≡ Filling = filling-is (s .phase) e6 in
         let room : s .count < 64 = ltb-true (s .count) 64 e7 in
         let next : s .count + 1 ≡ suc (s .count) = omega arith in
-        sound-state-with Filling (s .plan) (s .count + 1) (s .accepted) (with-campaign s t) (record {
+        sound-state-with (head-joined s) (with-campaign s t) (record {
           plan-sound = h .plan-sound;
           few = omega arith;
           views = h .views;
+          marks =
+              rw (within-more (s .count) (s .count + 1) (s .paused) (omega arith) inside)
+              (subst (λ (b : Bool). (eqb (s .paused) 0 || not b) ≡ true) e6
+              (both-right (within (s .count) (s .paused)) _ (h .marks)));
           entry =
               λ i l.
               one-more (λ j. sound-campaign Filling (s .plan) (s .accepted) (with-campaign s t j) ≡ true) (s .count)
@@ -190,40 +206,69 @@ module _ (s : Day) (h : Sound s) where
         })
 
   module _ (w : View) where
-    few-able : width-holds (head-of s) w ≡ true → count (s .count) (able (s .plan) w (campaign s)) ≤ s .plan .width
-    unfolding width-holds size
-    few-able e =
-        le-trans (able-few (s .count) (s .plan) w (campaign s))
-        (le-trans (count-below (s .count) 64 (names w) (h .few))
-        (leb-true (size (w .set)) (s .plan .width) e))
+    v : View
+    v = found s w
 
-    sound-shown : Yes (questions s (show-view w))
-        → sound (state-with Running (s .plan) (s .count) (s .accepted + 1) (shown s w)) ≡ true
-    unfolding total-budgets
+    few-able : width-holds (head-of s) v ≡ true → count (s .count) (able (s .plan) v (campaign s)) ≤ s .plan .width
+    unfolding width-holds size v
+    few-able e =
+        le-trans (able-few (s .count) (s .plan) v (campaign s))
+        (le-trans (count-below (s .count) 64 (names v) (h .few))
+        (leb-true (size (v .set)) (s .plan .width) e))
+
+    -- a name past the last campaign is found by no view that passes question 13
+    past-absent : within (s .count) (w .set) ≡ true → (i : ℕ) → s .count ≤ i → i < 64 → names v i ≡ false
+    unfolding v
+    past-absent e i l m =
+        within-not-member (s .count) (v .set) i (within-without (s .count) (w .set) (s .paused) e) l m
+
+    sound-shown : Yes (questions s (show-view w)) → sound (state-with (head-shown s) (shown s w)) ≡ true
+    unfolding total-budgets v
     sound-shown (e1, (e11, (e12, (e13, (e14, _))))) =
-        sound-state-with Running (s .plan) (s .count) (s .accepted + 1) (shown s w) (record {
+        sound-state-with (head-shown s) (shown s w) (record {
           plan-sound = h .plan-sound;
           few = h .few;
           views = omega (arith, ltb-true (s .accepted) max-views e12);
-          entry = λ i l. becomes-sound (s .plan) (s .accepted) (campaign s i) (held-at s h i l) w i (is (player s w) i);
+          marks = marks-of (head-shown s) inside refl;
+          entry = λ i l. becomes-sound (s .plan) (s .accepted) (campaign s i) (held-at s h i l) v i (is (player s w) i);
           past =
               λ i l m.
-              rw (absent-becomes (s .plan) w i (names w i) (pays (s .plan) w i (campaign s i)) (is (player s w) i)
-              (campaign s i) (within-not-member (s .count) (w .set) i e13 l m)) (empty-at s h i l m);
+              rw (absent-becomes (s .plan) v i (names v i) (pays (s .plan) v i (campaign s i)) (is (player s w) i)
+              (campaign s i) (past-absent e13 i l m)) (empty-at s h i l m);
           budgets =
               rw (sum-eq (s .count) (λ i. shown s w i .budget) (λ i. campaign s i .budget)
               (λ i l.
-              budget-after (s .plan .depth) (names w i) (pays (s .plan) w i (campaign s i)) (is (player s w) i)
+              budget-after (s .plan .depth) (names v i) (pays (s .plan) v i (campaign s i)) (is (player s w) i)
               (campaign s i))) (h .budgets);
           phased = refl;
           covered =
               omega (
                 arith,
                 covered-claims,
-                claims-step (s .count) (s .plan) w (campaign s) sized (λ i l. held-at s h i l .young) (few-able e14),
-                ap (full (s .plan)) (takings-step (s .count) (s .plan) w (campaign s)),
+                claims-step (s .count) (s .plan) v (campaign s) sized (λ i l. held-at s h i l .young) (few-able e14),
+                ap (full (s .plan)) (takings-step (s .count) (s .plan) v (campaign s)),
               );
         })
+
+  -- a mark set or cleared
+  sound-marked : (b : Bool) (i : ℕ) → Yes (questions s (mark-campaign b i))
+      → sound (result s (mark-campaign b i) .day) ≡ true
+  unfolding total-takings total-budgets
+  sound-marked b i (e1, (e11, (e15, _))) =
+      whole-sound (result s (mark-campaign b i) .day) (record {
+        plan-sound = h .plan-sound;
+        few = h .few;
+        views = h .views;
+        marks =
+            marks-of (head-marked s (marked b i (s .paused)))
+            (within-marked b (s .count) i (s .paused) inside (ltb-true i (s .count) e15))
+            (running-not-filling (s .phase) e11);
+        entry = sound-at s h;
+        past = empty-at s h;
+        budgets = h .budgets;
+        phased = h .phased;
+        covered = covered-claims;
+      })
 
 -- an opening that is accepted gives a sound state
 opened-sound : (s : Day) (pl : Plan) → Yes (questions s (open-plan pl)) → sound (empty-plan Filling pl) ≡ true
@@ -242,11 +287,12 @@ sound-kept s c e = call-elim (λ (o : Outcome). sound (o .day) ≡ true) s c (λ
     go : (c : Call) → Yes (questions s c) → sound (result s c .day) ≡ true
     go (open-plan pl) y = opened-sound s pl y
     go (add-campaign t) y = sound-joined s h t y
-    go start-day y = sound-phase s h Running (λ x. refl) refl
+    go start-day y = sound-phase s h Running refl (λ x. refl) refl
     go (show-view w) y = sound-shown s h w y
     go (ask-tally i) y = e
     go close-day y =
-        sound-phase s h (Closed (total-takings s)) (λ x. refl) (eq-eqb (total-takings s) (total-takings s) refl)
+        sound-phase s h (Closed (total-takings s)) refl (λ x. refl) (eq-eqb (total-takings s) (total-takings s) refl)
+    go (mark-campaign b i) y = sound-marked s h b i y
 
 -- an accepted opening gives a sound state whatever it was given
 pub opening-sound : (s : Day) (pl : Plan) → number (call s (open-plan pl) .answer) ≡ 0

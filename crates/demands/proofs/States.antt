@@ -9,8 +9,7 @@ use borrow.Author.Tests.{eq-eqb, ne-eqb}
 use Rattle.finite.specs.Finite.{sum}
 use Rattle.finite.proofs.Sums.{sum-eq, sum-suc}
 use Rattle.campaigns.specs.declared.Campaign.{Campaign}
-use Rattle.campaigns.specs.declared.Phase.{Phase}
-use Rattle.campaigns.specs.declared.Plan.{Plan}
+use Rattle.campaigns.specs.declared.Head.{Head}
 use Rattle.campaigns.specs.declared.Terms.{Terms}
 use Rattle.campaigns.specs.Campaign.{spending, fresh}
 use Rattle.campaigns.specs.View.{takings}
@@ -20,13 +19,13 @@ use Rattle.day.specs.Calls.{with-campaign}
 use Rattle.day.proofs.State.{campaign-of-state}
 use Rattle.demands.proofs.Laws.{spending-fresh}
 
-module _ (p : Phase) (pl : Plan) (n a : ℕ) (f : ℕ → Campaign) where
+module _ (h : Head) (f : ℕ → Campaign) where
   -- any sum over the campaigns
-  pub sum-state-with : (g : Campaign → ℕ) → n ≤ 64
-      → sum n (λ i. g (campaign (state-with p pl n a f) i)) ≡ sum n (λ i. g (f i))
-  sum-state-with g h =
-      sum-eq n (λ i. g (campaign (state-with p pl n a f) i)) (λ i. g (f i))
-      (λ i l. ap g (campaign-of-state p pl n a f i (lt-of-lt-of-le l h)))
+  pub sum-state-with : (g : Campaign → ℕ) → h .count ≤ 64
+      → sum (h .count) (λ i. g (campaign (state-with h f) i)) ≡ sum (h .count) (λ i. g (f i))
+  sum-state-with g few =
+      sum-eq (h .count) (λ i. g (campaign (state-with h f) i)) (λ i. g (f i))
+      (λ i l. ap g (campaign-of-state h f i (lt-of-lt-of-le l few)))
 
 module _ (s : Day) (t : Terms) where
   pub with-campaign-old : (i : ℕ) → (i ≡ s .count → ⊥) → with-campaign s t i ≡ campaign s i

@@ -1,19 +1,19 @@
 -- Document 01's listing, its cases by the limits and further ones, as one table.
 use mathlib.Core.Path.{_≡_}
-use mathlib.Core.Bool.{cond}
+use mathlib.Core.Bool.{true, false, cond}
 use mathlib.Core.List.{List, [], _∷_, map}
 use Prim.Native.Nat.{ℕ}
 use lib.Dec.{ltb}
 use Rattle.finite.specs.Finite.{table}
 use Rattle.campaigns.specs.declared.Phase.{Phase}
-use Rattle.campaigns.specs.declared.Phase.the-variants.{Filling, Running}
+use Rattle.campaigns.specs.declared.Phase.the-variants.{Filling, Running, Closed}
 use Rattle.campaigns.specs.Campaign.{score, fresh}
 use Rattle.day.specs.declared.Answer.{Answer}
 use Rattle.day.specs.declared.Answer.the-variants.{Refused, Done, Played, Nobody, Tallied, Closing}
 use Rattle.day.specs.declared.Day.{Day}
 use Rattle.day.specs.Day.{campaign, state-with, no-terms, blank}
 use Rattle.day.specs.Calls.{Call}
-use Rattle.day.specs.Calls.Call.{open-plan, add-campaign, start-day, show-view, ask-tally, close-day}
+use Rattle.day.specs.Calls.Call.{open-plan, add-campaign, start-day, show-view, ask-tally, close-day, mark-campaign}
 use Rattle.demands.specs.Transcript.{Exchange, transcript, final}
 
 infix 70 _gives_
@@ -40,10 +40,21 @@ pub data Case : Type 0 where
 abbrev pub scores : Day → List ℕ
 scores s = table (s .count) (λ i. score (s .plan .depth) (s .plan .width) (campaign s i))
 
--- a state of depth 1 and width 1 with n campaigns of price 1 and one play, which nothing named
-abbrev pub state : Phase → (count accepted : ℕ) → Day
-state p n a = state-with p (record { depth = 1; width = 1 }) n a
+-- a pausing and a resuming
+abbrev pub pause : (campaign : ℕ) → Call
+pause i = mark-campaign true i
+
+abbrev pub resume : (campaign : ℕ) → Call
+resume i = mark-campaign false i
+
+-- a state of depth 1 and width 1 with n campaigns of price 1 and one play, which nothing named; m are its marks
+abbrev pub state-marked : Phase → (count accepted m : ℕ) → Day
+state-marked p n a m = state-with
+    (record { phase = p; plan = record { depth = 1; width = 1 }; count = n; accepted = a; paused = m })
     (λ i. fresh (cond (ltb i n) (record { price = 1; budget = 1 }) no-terms))
+
+abbrev pub state : Phase → (count accepted : ℕ) → Day
+state p n a = state-marked p n a 0
 
 abbrev pub Holds : Case → Type 0
 Holds (answered xs) = transcript blank (map (λ x. x .made) xs) ≡ xs
@@ -124,4 +135,27 @@ cases =
     -- no call of a state with more: 1
     resumed (state Running 1 4_097) (view 0 gives Refused 1 ∷ view 1 gives Refused 1 ∷ close-day gives Refused 1 ∷
     ask-tally 0 gives Refused 1 ∷ []) ∷
+    -- Pausing (document 02, request 3).
+    -- it is for Running alone, and that is asked before the number; twice is done twice; closing keeps the marks
+    answered (
+    pause 0 gives Refused 11 ∷ plan 2 2 gives Done ∷ campaign-of 3 9 gives Done ∷ pause 0 gives Refused 11 ∷
+    resume 9 gives Refused 11 ∷ start-day gives Done ∷ pause 1 gives Refused 15 ∷ resume 64 gives Refused 15 ∷
+    resume 0 gives Done ∷ pause 0 gives Done ∷ pause 0 gives Done ∷ view 1 gives Nobody ∷
+    ask-tally 0 gives Tallied 0 0 0 0 ∷ resume 0 gives Done ∷ view 1 gives Played 0 3 ∷ pause 0 gives Done ∷
+    close-day gives Closing 3 9 12 ∷ resume 0 gives Refused 11 ∷ plan 1 1 gives Done ∷ campaign-of 2 2 gives Done ∷
+    start-day gives Done ∷ view 1 gives Played 0 2 ∷ []) ∷
+    -- a paused name is neither played nor passed over, and is no longer counted for 14; 13 still sees it
+    answered (
+    plan 2 2 gives Done ∷ campaign-of 3 9 gives Done ∷ campaign-of 2 4 gives Done ∷ campaign-of 1 1 gives Done ∷
+    start-day gives Done ∷ view 7 gives Refused 14 ∷ pause 0 gives Done ∷ view 7 gives Played 1 2 ∷
+    ask-tally 0 gives Tallied 0 0 0 0 ∷ ask-tally 2 gives Tallied 0 0 1 1 ∷ view 8 gives Refused 13 ∷
+    view 9 gives Refused 13 ∷ pause 1 gives Done ∷ pause 2 gives Done ∷ view 7 gives Nobody ∷
+    resume 0 gives Done ∷ view 7 gives Played 0 3 ∷ ask-tally 2 gives Tallied 0 0 1 1 ∷ []) ∷
+    -- a view that finds none counts among the 4,096
+    resumed (state-marked Running 1 4_095 1) (view 1 gives Nobody ∷ view 1 gives Refused 12 ∷ []) ∷
+    -- a mark in Filling, or past the last campaign in any phase: 1; of a campaign of the plan it is free when closed
+    resumed (state-marked Filling 1 0 1) (start-day gives Refused 1 ∷ pause 0 gives Refused 1 ∷ []) ∷
+    resumed (state-marked Running 1 0 2) (view 1 gives Refused 1 ∷ resume 1 gives Refused 1 ∷ []) ∷
+    resumed (state-marked (Closed 0) 1 0 2) (ask-tally 0 gives Refused 1 ∷ plan 1 1 gives Refused 1 ∷ []) ∷
+    resumed (state-marked (Closed 0) 1 0 1) (ask-tally 0 gives Tallied 0 0 0 0 ∷ plan 1 1 gives Done ∷ []) ∷
     []

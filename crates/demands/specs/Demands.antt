@@ -13,8 +13,8 @@ use Rattle.day.specs.declared.Day.{Day}
 use Rattle.day.specs.Day.{campaign, total-takings, total-claim}
 use Rattle.day.specs.Day.{sound}
 use Rattle.questions.specs.Questions.{first-failed}
-use Rattle.day.specs.Calls.{number, values, Call, questions, player, offers, call}
-use Rattle.day.specs.Calls.Call.{open-plan, add-campaign, start-day, show-view, ask-tally, close-day}
+use Rattle.day.specs.Calls.{number, values, Call, questions, found, player, offers, call}
+use Rattle.day.specs.Calls.Call.{open-plan, add-campaign, start-day, show-view, ask-tally, close-day, mark-campaign}
 use Rattle.demands.specs.Choice.{Right}
 
 -- the values of the answer to an accepted call: the player and the price of this one play; the four counts; takings,
@@ -31,6 +31,7 @@ accepted-values s (show-view w) = view-values (offers s w) (player s w)
 accepted-values s (ask-tally i) =
     campaign s i .plays ∷ campaign s i .turns ∷ campaign s i .age ∷ campaign s i .named ∷ []
 accepted-values s close-day = total-takings s ∷ total-claim s ∷ full (s .plan) (total-takings s) ∷ []
+accepted-values s (mark-campaign b i) = []
 
 pub record Answers (s : Day) (c : Call) : Type 0 where
   -- the number of the first question that fails, or 0
@@ -41,7 +42,7 @@ pub record Answers (s : Day) (c : Call) : Type 0 where
   pub values-are : number (call s c .answer) ≡ 0 → values (call s c .answer) ≡ accepted-values s c
   pub keeps-sound : sound s ≡ true → sound (call s c .day) ≡ true
 
--- the player of a view is rule 1's, among the named campaigns that can pay
+-- the player of a view is rule 1's, among the named campaigns that are not paused and can pay
 abbrev pub Plays-right : Day → View → Type 0
-Plays-right s w = Right (s .count) (able (s .plan) w (campaign s)) (λ i. figure (s .plan) w i (campaign s i))
-    (player s w)
+Plays-right s w = let v = found s w in
+    Right (s .count) (able (s .plan) v (campaign s)) (λ i. figure (s .plan) v i (campaign s i)) (player s w)

@@ -19,7 +19,7 @@ use Rattle.lines.specs.Form.{numbers}
 use Rattle.lines.specs.Reading.{forms, made}
 use Rattle.encoding.specs.Encoding.{padded, tag-of, held-by, is-head, phase-of, head-of, head-words, answer-after}
 use Rattle.encoding.specs.Encoding.{is-form, record-of, record-words}
-use Rattle.encoding.specs.Faithful.{Faithful, six}
+use Rattle.encoding.specs.Faithful.{Faithful, seven}
 
 -- heads
 tagged : (p : Phase) → leb (tag-of p) 2 && (eqb (tag-of p) 2 || eqb (held-by p) 0) ≡ true
@@ -35,7 +35,7 @@ phase-back (Closed t) = refl
 
 head-back : (h : Head) → head-of (head-words h) ≡ h
 head-back h =
-    ap (λ (p : Phase). record { phase = p; plan = h .plan; count = h .count; accepted = h .accepted })
+    ap (λ (p : Phase). record { phase = p; plan = h .plan; count = h .count; accepted = h .accepted; paused = h .paused })
     (phase-back (h .phase))
 
 -- the words of the phase that two words give
@@ -56,9 +56,9 @@ twice (suc (suc (suc a))) b e =
     let n = suc (suc (suc a)) in
     absurd (omega (arith, leb-true n 2 (both (leb n 2) (eqb n 2 || eqb b 0) e)))
 
-words-back : (a b c d e f : ℕ) → is-head (six a b c d e f) ≡ true →
-    head-words (head-of (six a b c d e f)) ≡ six a b c d e f
-words-back a b c d e f h = let t = twice a b h in rw (t .tag, t .held)
+words-back : (a b c d e f g : ℕ) → is-head (seven a b c d e f g) ≡ true →
+    head-words (head-of (seven a b c d e f g)) ≡ seven a b c d e f g
+words-back a b c d e f g h = let t = twice a b h in rw (t .tag, t .held)
 
 -- answers: the answer that a status and five words give, where 0 was there before
 answer-of : ℕ → List ℕ → Answer
@@ -96,6 +96,8 @@ form-is form.Nobody = refl
 form-is (form.Refused _) = refl
 form-is (form.Closed _ _ _) = refl
 form-is (form.Tally _ _ _ _ _) = refl
+form-is (form.Pause _) = refl
+form-is (form.Resume _) = refl
 
 record-back : (r : Record) → record-of (record-words r) ≡ r
 unfolding record-words padded numbers record-of forms made
@@ -110,6 +112,8 @@ record-back form.Nobody = refl
 record-back (form.Refused _) = refl
 record-back (form.Closed _ _ _) = refl
 record-back (form.Tally _ _ _ _ _) = refl
+record-back (form.Pause _) = refl
+record-back (form.Resume _) = refl
 
 pub faithful : Faithful
 faithful = record {

@@ -10,5 +10,5 @@ use native.Mathlib.Omega.{arith}
 pub next : (f n : ℕ) → n ≤ f → (f ≡ n → ⊥) → suc n ≤ f
 next f n a b = omega arith
 
-pub last : (f : ℕ) → leb f 10 ≡ true → 10 ≤ f → f ≡ 10
-last f a b = omega (arith, leb-true f 10 a)
+pub last : (f : ℕ) → leb f 12 ≡ true → 12 ≤ f → f ≡ 12
+last f a b = omega (arith, leb-true f 12 a)

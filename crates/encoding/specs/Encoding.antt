@@ -21,7 +21,7 @@ unfoldable pub padded : ℕ → List ℕ → List ℕ
 padded n vs = take n (vs ++ replicate n 0)
 
 -- a head: the phase's tag, the takings that a Closed phase holds or 0, depth, width, number of campaigns, accepted
--- views
+-- views, paused marks
 abbrev pub tag-of : Phase → ℕ
 tag-of Filling = 0
 tag-of Running = 1
@@ -34,7 +34,8 @@ held-by (Closed t) = t
 
 abbrev pub head-words : Head → List ℕ
 head-words h =
-    tag-of (h .phase) ∷ held-by (h .phase) ∷ h .plan .depth ∷ h .plan .width ∷ h .count ∷ h .accepted ∷ []
+    tag-of (h .phase) ∷ held-by (h .phase) ∷ h .plan .depth ∷ h .plan .width ∷ h .count ∷ h .accepted ∷
+    h .paused ∷ []
 
 -- words that are a head: a phase's tag, and takings held only where it is Closed
 abbrev pub is-head : List ℕ → Bool
@@ -50,6 +51,7 @@ head-of w = record {
   plan = record { depth = getD w 2 0; width = getD w 3 0 };
   count = getD w 4 0;
   accepted = getD w 5 0;
+  paused = getD w 6 0;
 }
 
 -- an answer: its kind and its values. A refusal has no words and leaves w: its number is the status.
@@ -77,13 +79,15 @@ form-of form.Nobody = 7
 form-of (form.Refused _) = 8
 form-of (form.Closed _ _ _) = 9
 form-of (form.Tally _ _ _ _ _) = 10
+form-of (form.Pause _) = 11
+form-of (form.Resume _) = 12
 
 unfoldable pub record-words : Record → List ℕ
 record-words r = form-of r ∷ padded 5 (numbers r)
 
 -- words that are a record, and the record that they give
 abbrev pub is-form : List ℕ → Bool
-is-form w = leb (getD w 0 0) 10
+is-form w = leb (getD w 0 0) 12
 
 unfoldable pub record-of : List ℕ → Record
 record-of w = made (getD forms (getD w 0 0) form.Start) (drop 1 w)

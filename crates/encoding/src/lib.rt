@@ -15,7 +15,7 @@ ghost use Rattle.encoding.specs.Encoding.{answer-after, is-form, record-
 // where what was lent is no state, no record, no stream or too little. No refusal has a number above 99.
 pub const STATUS_ACCEPTED: u64 = 0;
 
-// The six words are no head of a state.
+// The seven words are no head of a state.
 pub const STATUS_NO_HEAD: u64 = 100;
 
 // The first word of a record is no form's number.
@@ -42,6 +42,8 @@ pub const HEAD_WIDTH: usize = 3;
 pub const HEAD_CAMPAIGNS: usize = 4;
 
 pub const HEAD_VIEWS: usize = 5;
+
+pub const HEAD_PAUSED: usize = 6;
 
 // The first of them.
 pub const PHASE_FILLING: u64 = 0;
@@ -91,8 +93,12 @@ pub const FORM_CLOSED: u64 = 9;
 
 pub const FORM_TALLY: u64 = 10;
 
-// Whether six words are the head of a state: a phase, and takings only where it is Closed.
-pub fn is_head(words: &[u64; 6]) -> bool
+pub const FORM_PAUSE: u64 = 11;
+
+pub const FORM_RESUME: u64 = 12;
+
+// Whether seven words are the head of a state: a phase, and takings only where it is Closed.
+pub fn is_head(words: &[u64; 7]) -> bool
     ensures { λ r. ⌜ r ≡ is-head (now (words .entry)) ⌝ }
 {
     let phase = words[HEAD_PHASE];
@@ -112,8 +118,8 @@ fn phase_of(tag: u64, held: u64) -> Phase
     Phase::Closed(held)
 }
 
-// The head that six words give.
-pub fn head_of(words: &[u64; 6]) -> Head
+// The head that seven words give.
+pub fn head_of(words: &[u64; 7]) -> Head
     ensures { λ r. ⌜ r ≡ head-of (now (words .entry)) ⌝ }
 {
     let phase = phase_of(words[HEAD_PHASE], words[HEAD_TAKINGS]);
@@ -126,6 +132,7 @@ pub fn head_of(words: &[u64; 6]) -> Head
         plan: plan,
         count: words[HEAD_CAMPAIGNS],
         accepted: words[HEAD_VIEWS],
+        paused: words[HEAD_PAUSED],
     }
 }
 
@@ -149,8 +156,8 @@ fn held_by(phase: Phase) -> u64
     }
 }
 
-// The six words of a head.
-pub fn head_words(head: Head) -> [u64; 6]
+// The seven words of a head.
+pub fn head_words(head: Head) -> [u64; 7]
     ensures { λ r. ⌜ r ≡ head-words head ⌝ }
 {
     let phase = head.phase;
@@ -162,6 +169,7 @@ pub fn head_words(head: Head) -> [u64; 6]
         plan.width,
         head.count,
         head.accepted,
+        head.paused,
     ]
 }
 
@@ -220,7 +228,7 @@ pub fn is_form(words: &[u64; 6]) -> bool
     ensures { λ r. ⌜ r ≡ is-form (now (words .entry)) ⌝ }
 {
     let form = words[0];
-    form <= FORM_TALLY
+    form <= FORM_RESUME
 }
 
 // The record that six words give.
@@ -253,13 +261,15 @@ pub fn record_of(words: &[u64; 6]) -> Record
             claim: b,
             full: c,
         },
-        _ => Record::Tally {
+        10 => Record::Tally {
             campaign: a,
             plays: b,
             turns: c,
             age: words[4],
             named: words[5],
         },
+        11 => Record::Pause(a),
+        _ => Record::Resume(a),
     }
 }
 
@@ -289,6 +299,8 @@ pub fn record_words(r: Record) -> [u64; 6]
             age,
             named,
         } => [FORM_TALLY, campaign, plays, turns, age, named],
+        Record::Pause(campaign) => [FORM_PAUSE, campaign, 0, 0, 0, 0],
+        Record::Resume(campaign) => [FORM_RESUME, campaign, 0, 0, 0, 0],
     }
 }
 

@@ -5,3 +5,4 @@ pub mod Floor
 pub mod Moments
 pub mod Tight
 pub mod Short
+pub mod Paused

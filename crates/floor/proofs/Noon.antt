@@ -93,6 +93,7 @@ module _ (s : Day) (h : History) (r : Reached s h) where
     whole-is = whole-is;
     named-is = λ i l. r .tracks .follows i l .named-is;
     takings-is = r .tracks .paid-is;
+    paused-is = r .tracks .paused-is;
     due-is = due-is;
     turns-enough = turns-enough;
     answered = noon-sound s (r .is-sound);

@@ -1,7 +1,7 @@
 -- What every list of calls keeps between its day and the state at its end: the state holds the day's plan, terms and
 -- takings, and each campaign follows its trace. By induction on the list; a refused call changes neither.
 use mathlib.Core.Path.{_≡_, refl, ap, _∙_, subst}
-use mathlib.Core.Bool.{true, false}
+use mathlib.Core.Bool.{Bool, true, false}
 use mathlib.Core.List.{List, [], _∷_, _++_}
 use Prim.Native.Nat.{ℕ, suc, _+_, _≤_, _<_}
 use native.Mathlib.Nat.{lt-of-lt-of-le, not-suc-le-zero}
@@ -13,7 +13,8 @@ use Rattle.finite.specs.Finite.{one-if, total}
 use Rattle.finite.proofs.Tests.{never, one-more}
 use Rattle.finite.proofs.Sums.{sum-zero}
 use Rattle.finite.proofs.Tables.{total-snoc}
-use Rattle.sets.specs.Set.{within}
+use Rattle.sets.specs.Set.{within, without}
+use Rattle.sets.proofs.Bounds.{within-without}
 use Rattle.campaigns.specs.declared.Phase.{Phase}
 use Rattle.campaigns.specs.declared.Phase.the-variants.{Filling, Running, Closed}
 use Rattle.campaigns.specs.declared.Plan.{Plan}
@@ -31,7 +32,8 @@ use Rattle.day.specs.Day.{campaign, no-terms, empty-plan, blank-plan, blank, to
 use Rattle.campaigns.specs.Phase.{is-filling}
 use Rattle.day.specs.Day.{sound}
 use Rattle.day.specs.Calls.{number, Call, questions, with-campaign, player, offers, shown, view-answer, result, call}
-use Rattle.day.specs.Calls.Call.{open-plan, add-campaign, start-day, show-view, ask-tally, close-day}
+use Rattle.day.specs.Calls.{found, marked, head-joined, head-shown}
+use Rattle.day.specs.Calls.Call.{open-plan, add-campaign, start-day, show-view, ask-tally, close-day, mark-campaign}
 use Rattle.day.proofs.Questions.{Yes, call-elim}
 use Rattle.day.proofs.State.{Sound, sound-facts, held-at, campaign-of-state}
 use Rattle.demands.specs.Transcript.{transcript, final}
@@ -53,6 +55,7 @@ pub record Tracks (s : Day) (h : History) : Type 0 where
   pub paid-is : total-takings s ≡ day-takings h
   pub unviewed : is-filling (s .phase) ≡ true → h .views ≡ []
   pub inside : (j : ℕ) → j < length (h .views) → within (s .count) (names-at h j) ≡ true
+  pub paused-is : s .paused ≡ h .paused
 
 tracks-opening : (p : Phase) (pl : Plan) → Tracks (empty-plan p pl) (opening pl)
 unfolding total-takings total
@@ -64,6 +67,7 @@ tracks-opening p pl =
       paid-is = sum-zero _;
       unviewed = λ _. refl;
       inside = λ j l. absurd (not-suc-le-zero l);
+      paused-is = refl;
     }
 
 tracks-blank : Tracks blank (opening blank-plan)
@@ -73,6 +77,16 @@ tracks-blank = tracks-opening (Closed 0) blank-plan
 -- a list one longer
 snoc-last : (xs : List Terms) (x : Terms) (n : ℕ) → length xs ≡ n → getD (xs ++ (x ∷ [])) n no-terms ≡ x
 snoc-last xs x n e = subst (λ (m : ℕ). getD (xs ++ (x ∷ [])) m no-terms ≡ x) e (getD-append-seam xs x [] no-terms)
+
+-- the day with a view more, of what it found
+abbrev pub with-view : History → View → Answer → History
+with-view h v a = record {
+  plan = h .plan;
+  terms = h .terms;
+  paused = h .paused;
+  views = h .views ++ (v ∷ []);
+  answers = h .answers ++ (a ∷ []);
+}
 
 -- what the day becomes by an outcome
 abbrev Keeps : History → Call → Outcome → Type 0
@@ -103,17 +117,17 @@ module _ (s : Day) (h : History) (e : sound s ≡ true) (k : Tracks s h) where
           many = length-append (h .terms) (t ∷ []) ∙ ap (λ (n : ℕ). n + 1) (k .many);
           follows =
               λ i l.
-              rw (campaign-of-state Filling (s .plan) (s .count + 1) (s .accepted) (with-campaign s t) i
-              (lt-of-lt-of-le l few))
+              rw (campaign-of-state (head-joined s) (with-campaign s t) i (lt-of-lt-of-le l few))
               (one-more (λ j. Follows (s .plan) (trace more j) (with-campaign s t j)) (s .count) old new i
               (omega arith));
           paid-is =
-              sum-state-with Filling (s .plan) (s .count + 1) (s .accepted) (with-campaign s t) spending few
+              sum-state-with (head-joined s) (with-campaign s t) spending few
               ∙ takings-with-campaign s t ∙ k .paid-is;
           unviewed = λ _. k .unviewed (y .1 .0);
           inside =
               λ j l.
               absurd (not-suc-le-zero (subst (λ (vs : List View). j < length vs) (k .unviewed (y .1 .0)) l));
+          paused-is = k .paused-is;
         }
       where
         old : (j : ℕ) → j < s .count → Follows (s .plan) (trace more j) (with-campaign s t j)
@@ -129,37 +143,64 @@ module _ (s : Day) (h : History) (e : sound s ≡ true) (k : Tracks s h) where
             (follows-fresh (s .plan) t)
 
   module _ (w : View) (y : Yes (questions s (show-view w))) where
-    tracks-view : (a : Answer) → paid-in a ≡ paid (offers s w) (player s w)
-        → Tracks (result s (show-view w) .day) (with-call h (show-view w) a)
-    unfolding total-takings total
-    tracks-view a q = record {
+    v : View
+    v = found s w
+
+    -- the day with a view more that found v
+    tracks-found : (a : Answer) → paid-in a ≡ paid (offers s w) (player s w)
+        → Tracks (result s (show-view w) .day) (with-view h v a)
+    unfolding total-takings total v
+    tracks-found a q = record {
       plan-is = k .plan-is;
       many = k .many;
       follows =
           λ i l.
           rw (
-            campaign-of-state Running (s .plan) (s .count) (s .accepted + 1) (shown s w) i
-                (lt-of-lt-of-le l (p .few)),
-            total-snoc (λ (v : View). one-if (names v i)) (h .views) w,
+            campaign-of-state (head-shown s) (shown s w) i (lt-of-lt-of-le l (p .few)),
+            total-snoc (λ (u : View). one-if (names u i)) (h .views) v,
           )
-          (follows-view (s .plan) (trace h i) (campaign s i) (k .follows i l) (held-at s p i l .young) w i
+          (follows-view (s .plan) (trace h i) (campaign s i) (k .follows i l) (held-at s p i l .young) v i
           (is (player s w) i));
       paid-is =
           omega (
             arith,
-            sum-state-with Running (s .plan) (s .count) (s .accepted + 1) (shown s w) spending (p .few),
-            takings-step (s .count) (s .plan) w (campaign s),
+            sum-state-with (head-shown s) (shown s w) spending (p .few),
+            takings-step (s .count) (s .plan) v (campaign s),
             k .paid-is,
             total-snoc paid-in (h .answers) a,
           );
       unviewed = λ z. absurd (never false refl z);
       inside =
           λ j l.
-          one-more (λ i. within (s .count) (getD (h .views ++ (w ∷ [])) i no-view .set) ≡ true) (length (h .views))
-          (λ i m. rw (List·getD-append (h .views) (w ∷ []) no-view i m) (k .inside i m))
-          (rw (getD-append-seam (h .views) w [] no-view) (y .1 .1 .1 .0))
-          j (omega (arith, length-append (h .views) (w ∷ [])));
+          one-more (λ i. within (s .count) (getD (h .views ++ (v ∷ [])) i no-view .set) ≡ true) (length (h .views))
+          (λ i m. rw (List·getD-append (h .views) (v ∷ []) no-view i m) (k .inside i m))
+          (rw (getD-append-seam (h .views) v [] no-view)
+          (within-without (s .count) (w .set) (s .paused) (y .1 .1 .1 .0)))
+          j (omega (arith, length-append (h .views) (v ∷ [])));
+      paused-is = k .paused-is;
     }
+
+    -- what the marks of the state leave is what those of the day leave
+    tracks-view : (a : Answer) → paid-in a ≡ paid (offers s w) (player s w)
+        → Tracks (result s (show-view w) .day) (with-call h (show-view w) a)
+    unfolding v
+    tracks-view a q =
+        subst
+        (λ (m : ℕ). Tracks (result s (show-view w) .day) (with-view h (record { set = without (w .set) m }) a))
+        (k .paused-is) (tracks-found a q)
+
+  tracks-marked : (b : Bool) (i : ℕ) (a : Answer)
+      → Tracks (result s (mark-campaign b i) .day) (with-call h (mark-campaign b i) a)
+  unfolding total-takings
+  tracks-marked b i a = record {
+    plan-is = k .plan-is;
+    many = k .many;
+    follows = k .follows;
+    paid-is = k .paid-is;
+    unviewed = k .unviewed;
+    inside = k .inside;
+    paused-is = ap (marked b i) (k .paused-is);
+  }
 
   keeps-result : (c : Call) → Yes (questions s c) → Tracks (result s c .day) (with-call h c (result s c .answer))
   unfolding more total-takings
@@ -173,10 +214,12 @@ module _ (s : Day) (h : History) (e : sound s ≡ true) (k : Tracks s h) where
         paid-is = k .paid-is;
         unviewed = λ z. absurd (never false refl z);
         inside = k .inside;
+        paused-is = k .paused-is;
       }
   keeps-result (show-view w) y =
       tracks-view w y (view-answer (offers s w) (player s w)) (view-answer-paid (offers s w) (player s w))
   keeps-result (ask-tally i) y = k
+  keeps-result (mark-campaign b i) y = tracks-marked b i Done
   keeps-result close-day y =
       record {
         plan-is = k .plan-is;
@@ -185,6 +228,7 @@ module _ (s : Day) (h : History) (e : sound s ≡ true) (k : Tracks s h) where
         paid-is = k .paid-is;
         unviewed = λ z. absurd (never false refl z);
         inside = k .inside;
+        paused-is = k .paused-is;
       }
 
   keeps : (c : Call) → Keeps h c (call s c)

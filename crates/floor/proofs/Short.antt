@@ -6,7 +6,7 @@ use Prim.Native.Nat.{_≤_}
 use native.Mathlib.Omega.{arith}
 use borrow.Author.Tests.{leb-true}
 use Rattle.finite.specs.Finite.{sum, count, every, table, total}
-use Rattle.sets.specs.Set.{member, size, within}
+use Rattle.sets.specs.Set.{member, size, within, collect, without, including}
 use Rattle.powers.specs.Power.{weight, share}
 use Rattle.allotments.specs.Allotment.{times, takings}
 use Rattle.campaigns.specs.Choice.{best, choice}
@@ -16,7 +16,7 @@ use Rattle.day.specs.Day.{blank, total-takings, total-claim, total-budgets}
 use Rattle.day.specs.Day.{sound}
 use Rattle.day.specs.declared.Answer.the-variants.{Played, Nobody}
 use Rattle.questions.specs.Questions.{first-failed, width-holds}
-use Rattle.day.specs.Calls.{call}
+use Rattle.day.specs.Calls.{marked, call}
 use Rattle.demands.specs.Transcript.{transcript}
 use Rattle.floor.specs.History.{History, continued}
 use Rattle.floor.specs.History.Starts.{from-blank}
@@ -30,15 +30,15 @@ day =
     record {
       plan = record { depth = 2; width = 2 };
       terms = record { price = 2; budget = 3 } ∷ record { price = 2; budget = 3 } ∷ [];
-      views =
-          record { set = 3 } ∷ record { set = 1 } ∷ [];
+      paused = 0;
+      views = record { set = 3 } ∷ record { set = 1 } ∷ [];
       answers = Played 0 2 ∷ Nobody ∷ [];
     }
 
 day-is : short-day ≡ day
 unfolding day transcript continued call first-failed sound sound-record blank sum count every table total within size
     member width-holds weight share whole claim total-takings total-claim total-budgets sound-plan priced counted
-    uncounted empty sound-campaign best choice
+    uncounted empty sound-campaign best choice collect without including marked
 day-is = refl
 
 record Computed (h : History) : Type 0 where

@@ -9,7 +9,7 @@ use lib.ListN.{getD, length}
 use borrow.Author.Tests.{leb-true, ltb-true, eqb-true, not-true}
 use Rattle.finite.specs.Finite.{sum, count, every, all, table, total}
 use Rattle.finite.proofs.Tests.{all-parts, every-at}
-use Rattle.sets.specs.Set.{member, size, within}
+use Rattle.sets.specs.Set.{member, size, within, collect, without, including}
 use Rattle.powers.specs.Power.{weight, share}
 use Rattle.allotments.specs.Allotment.{times, takings, entry-fits}
 use Rattle.allotments.proofs.Takings.{entry-given}
@@ -21,7 +21,7 @@ use Rattle.day.specs.Day.{blank, total-takings, total-claim, total-budgets}
 use Rattle.day.specs.Day.{sound}
 use Rattle.day.specs.declared.Answer.the-variants.{Played, Nobody}
 use Rattle.questions.specs.Questions.{first-failed, width-holds}
-use Rattle.day.specs.Calls.{call}
+use Rattle.day.specs.Calls.{marked, call}
 use Rattle.demands.specs.Transcript.{transcript}
 use Rattle.floor.specs.History.{History, day-takings, continued, history}
 use Rattle.floor.specs.History.Starts.{from-blank}
@@ -68,6 +68,7 @@ day-of : Exact → History
 day-of x = record {
   plan = record { depth = x .depth; width = x .width };
   terms = table (x .campaigns) (λ i. record { price = 1; budget = 1 });
+  paused = 0;
   views = map (λ v. record { set = v }) (x .views);
   answers = map (λ m. cond (eqb m 64) Nobody (Played m 1)) (x .players);
 }
@@ -90,7 +91,7 @@ tight-of (x ∷ xs) c = (
 )
 
 pub tight : Tight exact-days
-unfolding day-of transcript continued call first-failed sound sound-record blank sum count every table total within size
-    member width-holds weight share whole claim total-takings total-claim total-budgets sound-plan priced counted
-    uncounted empty sound-campaign best choice times takings
+unfolding day-of transcript continued call first-failed sound sound-record blank sum count every table total within
+    size member width-holds weight share whole claim total-takings total-claim total-budgets sound-plan priced counted
+    uncounted empty sound-campaign best choice times takings collect without including marked
 tight = tight-of exact-days ((refl, refl), ((refl, refl), ((refl, refl), ((refl, refl), ((refl, refl), ((refl, refl), tt))))))

@@ -5,6 +5,7 @@ use mathlib.Core.List.{List, [], _∷_, _++_}
 use Prim.Native.Nat.{ℕ}
 use lib.Dec.{eqb}
 use Rattle.finite.specs.Finite.{total}
+use Rattle.sets.specs.Set.{without}
 use Rattle.campaigns.specs.declared.Plan.{Plan}
 use Rattle.campaigns.specs.declared.Terms.{Terms}
 use Rattle.campaigns.specs.declared.View.{View}
@@ -12,8 +13,8 @@ use Rattle.day.specs.declared.Answer.{Answer}
 use Rattle.day.specs.declared.Answer.the-variants.{Refused, Done, Played, Nobody, Tallied, Closing}
 use Rattle.day.specs.declared.Day.{Day}
 use Rattle.day.specs.Day.{blank-plan, blank}
-use Rattle.day.specs.Calls.{number, Call, call}
-use Rattle.day.specs.Calls.Call.{open-plan, add-campaign, start-day, show-view, ask-tally, close-day}
+use Rattle.day.specs.Calls.{number, marked, Call, call}
+use Rattle.day.specs.Calls.Call.{open-plan, add-campaign, start-day, show-view, ask-tally, close-day, mark-campaign}
 use Rattle.demands.specs.Transcript.{Exchange}
 
 -- a call is accepted when it isn't refused: its answer has no question's number
@@ -27,16 +28,21 @@ pub data Starts : Day → List Call → Type 0 where
       → Starts s (open-plan pl ∷ cs)
 
 -- the day: the last accepted opening with the accepted calls after it. Depth and width are those handed to the opening,
--- price and budget those handed to the accepted adding, and a view is the set handed in; beside the views stand the
--- answers to them.
+-- price and budget those handed to the accepted adding, the paused marks what the accepted pausings and resumings left,
+-- and a view is what it found: the set handed in less those marks. Beside the views stand the answers to them.
 pub record History : Type 0 where
   pub plan : Plan
   pub terms : List Terms
+  pub paused : ℕ
   pub views : List View
   pub answers : List Answer
 
 abbrev pub opening : Plan → History
-opening pl = record { plan = pl; terms = []; views = []; answers = [] }
+opening pl = record { plan = pl; terms = []; paused = 0; views = []; answers = [] }
+
+-- the unpaused of the campaigns that a view names
+abbrev pub unpaused-in : History → View → View
+unpaused-in h w = record { set = without (w .set) (h .paused) }
 
 -- the price paid in an answer, where nobody counts 0
 abbrev pub paid-in : Answer → ℕ
@@ -57,6 +63,7 @@ with-call h (open-plan pl) a = opening pl
 with-call h (add-campaign t) a = record {
   plan = h .plan;
   terms = h .terms ++ (t ∷ []);
+  paused = h .paused;
   views = h .views;
   answers = h .answers;
 }
@@ -64,11 +71,19 @@ with-call h start-day a = h
 with-call h (show-view w) a = record {
   plan = h .plan;
   terms = h .terms;
-  views = h .views ++ (w ∷ []);
+  paused = h .paused;
+  views = h .views ++ (unpaused-in h w ∷ []);
   answers = h .answers ++ (a ∷ []);
 }
 with-call h (ask-tally i) a = h
 with-call h close-day a = h
+with-call h (mark-campaign b i) a = record {
+  plan = h .plan;
+  terms = h .terms;
+  paused = marked b i (h .paused);
+  views = h .views;
+  answers = h .answers;
+}
 
 -- refused calls are no part of a day
 abbrev pub entered : History → Exchange → History

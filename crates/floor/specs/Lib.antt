@@ -4,3 +4,4 @@ pub mod Noon
 pub mod Moments
 pub mod Tight
 pub mod Short
+pub mod Paused

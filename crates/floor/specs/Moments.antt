@@ -16,7 +16,7 @@ use Rattle.noon.specs.declared.Noon.{Noon}
 use Rattle.noon.specs.declared.Noon.the-variants.{Figures}
 use Rattle.noon.specs.Noon.{floor-figure, at-noon}
 use Rattle.demands.specs.Transcript.{final}
-use Rattle.demands.specs.Cases.{plan, campaign-of, view}
+use Rattle.demands.specs.Cases.{plan, campaign-of, view, pause, resume}
 
 -- the figures after each call
 unfoldable pub moments : Day → List Call → List Noon
@@ -37,6 +37,11 @@ second-day = plan 1 2 ∷ campaign-of 2 2 ∷ campaign-of 1 1 ∷ start-day ∷ 
 abbrev pub width-1 : List Call
 width-1 = plan 2 1 ∷ campaign-of 3 7 ∷ start-day ∷ view 1 ∷ view 1 ∷ view 0 ∷ view 1 ∷ view 1 ∷ view 1 ∷ []
 
+-- the first day with pauses: a paused campaign is named by no view, and once both are, a view finds none
+abbrev pub paused-day : List Call
+paused-day = plan 2 2 ∷ campaign-of 5 10 ∷ campaign-of 3 6 ∷ start-day ∷ view 3 ∷ pause 0 ∷ view 3 ∷ view 3 ∷
+    pause 1 ∷ view 3 ∷ resume 0 ∷ view 3 ∷ []
+
 -- what nothing was paid for
 abbrev pub nothing : Noon
 nothing = Figures 0 0 0
@@ -50,11 +55,15 @@ pub record Moments : Type 0 where
   pub narrow : moments blank width-1 ≡
       nothing ∷ nothing ∷ nothing ∷ Figures 3 3 0 ∷ Figures 6 6 3 ∷ Figures 6 6 3 ∷ Figures 6 6 3 ∷ Figures 6 6 6 ∷
       Figures 6 6 6 ∷ []
+  pub pausing : moments blank paused-day ≡
+      nothing ∷ nothing ∷ nothing ∷ nothing ∷ Figures 20 18 0 ∷ Figures 20 18 0 ∷ Figures 32 24 9 ∷
+      Figures 44 33 9 ∷ Figures 44 33 9 ∷ Figures 44 33 9 ∷ Figures 44 33 9 ∷ Figures 64 48 24 ∷ []
 
 -- depth 1, width 1, five accepted views: a campaign of price 1 and five plays that each of them named and none played
 abbrev pub unplayed : Day
-unplayed = state-with Running (record { depth = 1; width = 1 }) 1 5 (λ i. cond (eqb i 0)
-    (record { price = 1; budget = 5; plays = 0; turns = 0; age = 0; named = 5 }) (fresh no-terms))
+unplayed = state-with
+    (record { phase = Running; plan = record { depth = 1; width = 1 }; count = 1; accepted = 5; paused = 0 })
+    (λ i. cond (eqb i 0) (record { price = 1; budget = 5; plays = 0; turns = 0; age = 0; named = 5 }) (fresh no-terms))
 
 pub record Needs-history : Type 0 where
   pub is-sound : sound unplayed ≡ true

@@ -39,6 +39,8 @@ pub record Noon-floor (h : History) (s : Day) : Type 0 where
   pub whole-is : (i : ℕ) → i < s .count → whole (campaign s i) ≡ whole-of h i
   pub named-is : (i : ℕ) → i < s .count → campaign s i .named ≡ trace h i .named
   pub takings-is : total-takings s ≡ day-takings h
+  -- the marks are those that the accepted pausings and resumings left
+  pub paused-is : s .paused ≡ h .paused
   pub due-is : total-due s ≡ day-due h
   -- the turns of each campaign reach what is due to it
   pub turns-enough : (i : ℕ) → i < s .count → due (s .plan .depth) (campaign s i) ≤ campaign s i .turns

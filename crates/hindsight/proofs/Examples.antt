@@ -3,7 +3,7 @@ use mathlib.Core.Path.{refl}
 use Prim.Native.Nat.{_≤_}
 use native.Mathlib.Omega.{arith}
 use Rattle.finite.specs.Finite.{sum, count, every, table, total}
-use Rattle.sets.specs.Set.{member, size, within}
+use Rattle.sets.specs.Set.{member, size, within, collect, without}
 use Rattle.powers.specs.Power.{weight, share}
 use Rattle.campaigns.specs.Choice.{best, choice}
 use Rattle.campaigns.specs.Campaign.{whole, claim, sound-plan, priced, counted, uncounted, empty, sound-campaign}
@@ -24,6 +24,7 @@ pub examples : Examples
 unfolding transcript final continued call first-failed sound sound-record blank sum count every table total within
     size member width-holds weight share whole claim total-takings total-claim total-budgets sound-plan priced counted
     uncounted empty sound-campaign best choice times takings certified greatest most failed fits
+    collect without
 examples = record {
   listing = record { starts = from-blank listed; accepted = refl; paid-is = refl; most-is = refl; short-is = refl };
   short = record { starts = from-blank short-calls; accepted = refl; paid-is = refl; most-is = refl; short-is = refl };

@@ -13,25 +13,28 @@ use Rattle.lines.specs.Form.{template, numbers, is-output, in-slot, piec
 use Rattle.lines.specs.Form.{in-slots, text, in-range}
 use Rattle.lines.specs.Reading.{reading}
 use Rattle.lines.specs.Before.{old-template, in-old-slot, in-old-slots, in-old-range, old-text, Was, As-before}
+use Rattle.lines.specs.Before.{has-form}
 use Rattle.lines.specs.declared.Record.{Record}
 use Rattle.lines.specs.declared.Record.the-variants.{Plan, Campaign, Start, View, Close, Done, Play, Nobody}
-use Rattle.lines.specs.declared.Record.the-variants.{Refused, Closed, Tally}
+use Rattle.lines.specs.declared.Record.the-variants.{Refused, Closed, Tally, Pause, Resume}
 use Rattle.lines.specs.declared.Reading.the-variants.{Got}
 use Rattle.lines.proofs.Inverse.{text-reads, read-text}
 
-same-text : (r : Record) → text r ≡ old-text r
+same-text : (r : Record) → has-form r ≡ true → text r ≡ old-text r
 unfolding text old-text template old-template numbers filled piece slot-text numbers-after
-same-text (Plan a b) = refl
-same-text (Campaign a b) = refl
-same-text Start = refl
-same-text (View s) = refl
-same-text Close = refl
-same-text Done = refl
-same-text (Play i p) = refl
-same-text Nobody = refl
-same-text (Refused q) = refl
-same-text (Closed t c f) = refl
-same-text (Tally i p t a n) = refl
+same-text (Plan a b) e = refl
+same-text (Campaign a b) e = refl
+same-text Start e = refl
+same-text (View s) e = refl
+same-text Close e = refl
+same-text Done e = refl
+same-text (Play i p) e = refl
+same-text Nobody e = refl
+same-text (Refused q) e = refl
+same-text (Closed t c f) e = refl
+same-text (Tally i p t a n) e = refl
+same-text (Pause i) e = absurd (never false refl e)
+same-text (Resume i) e = absurd (never false refl e)
 
 same-range : (r : Record) → is-output r ≡ true → in-range r ≡ in-old-range r
 unfolding in-range in-old-range template old-template numbers in-slots in-old-slots in-slot in-old-slot numbers-after
@@ -46,6 +49,8 @@ same-range Nobody e = refl
 same-range (Refused q) e = refl
 same-range (Closed t c f) e = refl
 same-range (Tally i p t a n) e = refl
+same-range (Pause i) e = absurd (never false refl e)
+same-range (Resume i) e = absurd (never false refl e)
 
 -- two numerals of an input line
 wider : (a b : ℕ) → (leb a 4294967295 && (leb b 4294967295 && true)) ≡ true
@@ -70,12 +75,18 @@ in-range-still Nobody e = e
 in-range-still (Refused q) e = e
 in-range-still (Closed t c f) e = e
 in-range-still (Tally i p t a n) e = e
+in-range-still (Pause i) e = absurd (never false refl e)
+in-range-still (Resume i) e = absurd (never false refl e)
+
+had : (r : Record) → in-old-range r ≡ true → has-form r ≡ true
+unfolding in-old-range
+had r = both-left (has-form r) (in-old-slots (old-template r) (numbers r))
 
 same-record : (l : List ℕ) (r : Record) → Was l r → reading l ≡ Got r
-same-record l r w = ap reading (w .1 ∙ sym (same-text r)) ∙ text-reads r (in-range-still r (w .0))
+same-record l r w = ap reading (w .1 ∙ sym (same-text r (had r (w .0)))) ∙ text-reads r (in-range-still r (w .0))
 
 only-longer : (l : List ℕ) (r : Record) → reading l ≡ Got r → in-old-range r ≡ true → Was l r
-only-longer l r e i = (i, read-text l r e .1 ∙ same-text r)
+only-longer l r e i = (i, read-text l r e .1 ∙ same-text r (had r i))
 
 same-outputs : (l : List ℕ) (r : Record) → is-output r ≡ true → reading l ≡ Got r → Was l r
 same-outputs l r o e = only-longer l r e (sym (same-range r o) ∙ read-text l r e .0)

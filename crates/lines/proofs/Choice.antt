@@ -10,7 +10,7 @@ use lib.Dec.{eqb, lit<, lit≤}
 use lib.ListN.{length, getD}
 use Rattle.lines.specs.declared.Record.{Record}
 use Rattle.lines.specs.declared.Record.the-variants.{Plan, Campaign, Start, View, Close, Done, Play, Nobody}
-use Rattle.lines.specs.declared.Record.the-variants.{Refused, Closed, Tally}
+use Rattle.lines.specs.declared.Record.the-variants.{Refused, Closed, Tally, Pause, Resume}
 use Rattle.lines.specs.declared.Reading.the-variants.{Got, Refusal}
 use Rattle.lines.specs.Limits.{max-line, max-answer}
 use Rattle.lines.specs.Form.{is-output, template, numbers, piece, numbers-after, filled, in-slots, text, in-range}
@@ -21,21 +21,21 @@ use Rattle.lines.proofs.Digits.{clash, apart}
 use Rattle.lines.proofs.Templates.{fair, taken, most, sound, complete, filled-most}
 use Rattle.lines.proofs.Plain.{plain, plain-at, filled-plain}
 
--- the form that the bytes b, d and e leave, where they stand at 1, 4 and 6:
---   118 v, 112 p (110 n), 99 c (41 a bracket, 100 d), 115 s, 111 o, 110 n, 114 r, and else t
-abbrev pub leaves : ℕ → ℕ → ℕ → Record
-leaves b d e =
+-- the form that the bytes b, c, d and e leave, where they stand at 1, 3, 4 and 6:
+--   118 v, 112 p (110 n, 115 s), 99 c (41 a bracket, 100 d), 115 s, 111 o, 110 n, 114 r (115 s), and else t
+abbrev pub leaves : ℕ → ℕ → ℕ → ℕ → Record
+leaves b c d e =
     cond (eqb b 118) (View 0)
-    (cond (eqb b 112) (cond (eqb d 110) (Plan 0 0) (Play 0 0))
+    (cond (eqb b 112) (cond (eqb d 110) (Plan 0 0) (cond (eqb d 115) (Pause 0) (Play 0 0)))
     (cond (eqb b 99) (cond (eqb e 41) Close (cond (eqb e 100) (Closed 0 0 0) (Campaign 0 0)))
     (cond (eqb b 115) Start
     (cond (eqb b 111) Done
     (cond (eqb b 110) Nobody
-    (cond (eqb b 114) (Refused 0)
+    (cond (eqb b 114) (cond (eqb c 115) (Resume 0) (Refused 0))
     (Tally 0 0 0 0 0)))))))
 
 unfoldable pub chosen : List ℕ → Record
-chosen l = leaves (getD l 1 0) (getD l 4 0) (getD l 6 0)
+chosen l = leaves (getD l 1 0) (getD l 3 0) (getD l 4 0) (getD l 6 0)
 
 -- What a form of the list is, and what a record is to its form: a new form is a row in each of the two tables.
 
@@ -63,7 +63,9 @@ all-forms =
     (form (λ _. refl, λ _. refl, λ _. refl)
     (form (λ _. refl, λ _. refl, λ _. refl)
     (form (λ _. refl, λ _. refl, λ _. refl)
-    (form (λ _. refl, λ _. refl, λ _. refl) done)))))))))))
+    (form (λ _. refl, λ _. refl, λ _. refl)
+    (form (λ _. refl, λ _. refl, λ _. refl)
+    (form (λ _. refl, λ _. refl, λ _. refl) done)))))))))))))
 
 -- Each slot of r's template can be told from what follows, no text of it is longer than a line, and r is made from its
 -- form and its numbers; the bytes of its text choose its form; no byte of its template is 10.
@@ -86,6 +88,8 @@ known Nobody = (refl, lit≤ tt, refl, refl, refl, refl)
 known (Refused _) = (refl, lit≤ tt, refl, refl, refl, refl)
 known (Closed _ _ _) = (refl, lit≤ tt, refl, refl, refl, refl)
 known (Tally _ _ _ _ _) = (refl, lit≤ tt, refl, refl, refl, refl)
+known (Pause _) = (refl, lit≤ tt, refl, refl, refl, refl)
+known (Resume _) = (refl, lit≤ tt, refl, refl, refl, refl)
 
 -- the text of a record is no longer than a line that is read
 pub text-most : (r : Record) → length (text r) ≤ max-line
@@ -106,6 +110,8 @@ answer-template Nobody h = lit≤ tt
 answer-template (Refused _) h = lit≤ tt
 answer-template (Closed _ _ _) h = lit≤ tt
 answer-template (Tally _ _ _ _ _) h = lit≤ tt
+answer-template (Pause _) h = apart h
+answer-template (Resume _) h = apart h
 
 pub answer-most : (r : Record) → is-output r ≡ true → length (text r) ≤ max-answer
 unfolding text
@@ -201,14 +207,18 @@ chosen-in : (l : List ℕ) → In (chosen l) forms
 unfolding chosen forms
 chosen-in l =
     either (eqb (getD l 1 0) 118) (nth forms 3 (lit< tt))
-    (either (eqb (getD l 1 0) 112) (either (eqb (getD l 4 0) 110) (nth forms 0 (lit< tt)) (nth forms 6 (lit< tt)))
+    (either (eqb (getD l 1 0) 112)
+    (either (eqb (getD l 4 0) 110) (nth forms 0 (lit< tt))
+    (either (eqb (getD l 4 0) 115) (nth forms 11 (lit< tt)) (nth forms 6 (lit< tt))))
     (either (eqb (getD l 1 0) 99)
     (either (eqb (getD l 6 0) 41) (nth forms 4 (lit< tt))
     (either (eqb (getD l 6 0) 100) (nth forms 9 (lit< tt)) (nth forms 1 (lit< tt))))
     (either (eqb (getD l 1 0) 115) (nth forms 2 (lit< tt))
     (either (eqb (getD l 1 0) 111) (nth forms 5 (lit< tt))
     (either (eqb (getD l 1 0) 110) (nth forms 7 (lit< tt))
-    (either (eqb (getD l 1 0) 114) (nth forms 8 (lit< tt)) (nth forms 10 (lit< tt))))))))
+    (either (eqb (getD l 1 0) 114)
+    (either (eqb (getD l 3 0) 115) (nth forms 12 (lit< tt)) (nth forms 8 (lit< tt)))
+    (nth forms 10 (lit< tt))))))))
 
 form-of : {p : Record} {fs : List Record} → All-forms fs → In p fs → Form p
 form-of (form f a) (here q) = subst Form (sym q) f

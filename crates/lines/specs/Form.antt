@@ -11,7 +11,7 @@ use Rattle.lines.specs.Limits.{max-input, max-output, max-campaign, set-
 use Rattle.lines.specs.Numeral.{numeral}
 use Rattle.lines.specs.declared.Record.{Record}
 use Rattle.lines.specs.declared.Record.the-variants.{Plan, Campaign, Start, View, Close, Done, Play, Nobody}
-use Rattle.lines.specs.declared.Record.the-variants.{Refused, Closed, Tally}
+use Rattle.lines.specs.declared.Record.the-variants.{Refused, Closed, Tally, Pause, Resume}
 
 -- A slot of a form is an upper-case letter.
 
@@ -59,6 +59,8 @@ template Nobody = bytes "(nobody)"
 template (Refused _) = bytes "(refused R)"
 template (Closed _ _ _) = bytes "(closed (takings M) (claim M) (full M))"
 template (Tally _ _ _ _ _) = bytes "(tally C (plays N) (turns N) (age N) (named N))"
+template (Pause _) = bytes "(pause C)"
+template (Resume _) = bytes "(resume C)"
 
 -- a record's numbers, in the order of its slots; a view is a 64-bit set, and so a number
 unfoldable pub numbers : Record → List ℕ
@@ -73,8 +75,10 @@ numbers Nobody = []
 numbers (Refused number) = number ∷ []
 numbers (Closed takings claim full) = takings ∷ claim ∷ full ∷ []
 numbers (Tally campaign plays turns age named) = campaign ∷ plays ∷ turns ∷ age ∷ named ∷ []
+numbers (Pause campaign) = campaign ∷ []
+numbers (Resume campaign) = campaign ∷ []
 
--- whether a record is one of the six kinds of output line; the others are the five kinds of input line
+-- whether a record is one of the six kinds of output line; the others are the seven kinds of input line
 abbrev pub is-output : Record → Bool
 is-output (Plan _ _) = false
 is-output (Campaign _ _) = false
@@ -87,6 +91,8 @@ is-output Nobody = true
 is-output (Refused _) = true
 is-output (Closed _ _ _) = true
 is-output (Tally _ _ _ _ _) = true
+is-output (Pause _) = false
+is-output (Resume _) = false
 
 -- the greatest number in each slot; M and S have all of 64 bits
 abbrev pub slot-max : ℕ → ℕ

@@ -9,7 +9,7 @@ use Rattle.lines.specs.Limits.{max-line, set-bits}
 use Rattle.lines.specs.Form.{campaign-slot, names-slot, is-slot, template, in-slot}
 use Rattle.lines.specs.declared.Record.{Record}
 use Rattle.lines.specs.declared.Record.the-variants.{Plan, Campaign, Start, View, Close, Done, Play, Nobody}
-use Rattle.lines.specs.declared.Record.the-variants.{Refused, Closed, Tally}
+use Rattle.lines.specs.declared.Record.the-variants.{Refused, Closed, Tally, Pause, Resume}
 use Rattle.lines.specs.declared.Reading.{Reading}
 use Rattle.lines.specs.declared.Reading.the-variants.{Got, Refusal}
 
@@ -106,6 +106,8 @@ made Nobody ns = Nobody
 made (Refused _) ns = Refused (getD ns 0 0)
 made (Closed _ _ _) ns = Closed (getD ns 0 0) (getD ns 1 0) (getD ns 2 0)
 made (Tally _ _ _ _ _) ns = Tally (getD ns 0 0) (getD ns 1 0) (getD ns 2 0) (getD ns 3 0) (getD ns 4 0)
+made (Pause _) ns = Pause (getD ns 0 0)
+made (Resume _) ns = Resume (getD ns 0 0)
 
 abbrev pub is-end : Rest → Bool
 is-end none = false
@@ -120,11 +122,12 @@ ended-or other rest r = cond (is-end rest) (Got r) other
 unfoldable pub held-or : Reading → Record → List ℕ → Reading
 held-or other f l = ended-or other (rest-of (template f) (some l)) (made f (numbers-of (template f) (some l)))
 
--- the five kinds of input line and the six kinds of output line
+-- five kinds of input line, the six kinds of output line and two kinds of input line that document 02 adds
 unfoldable pub forms : List Record
 forms =
     Plan 0 0 ∷ Campaign 0 0 ∷ Start ∷ View 0 ∷ Close
-    ∷ Done ∷ Play 0 0 ∷ Nobody ∷ Refused 0 ∷ Closed 0 0 0 ∷ Tally 0 0 0 0 0 ∷ []
+    ∷ Done ∷ Play 0 0 ∷ Nobody ∷ Refused 0 ∷ Closed 0 0 0 ∷ Tally 0 0 0 0 0
+    ∷ Pause 0 ∷ Resume 0 ∷ []
 
 unfoldable pub first-of : List Record → List ℕ → Reading
 first-of [] l = Refusal 17

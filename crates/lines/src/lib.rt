@@ -12,7 +12,8 @@ ghost use lib.ListN.{length};
 ghost use Rattle.lines.specs.Limits.{max-line};
 ghost use Rattle.lines.specs.Reading.{held-or, reading};
 
-// One line: an input line (the first five) or an output line. A view is a 64-bit set, bit i standing for campaign i.
+// One line: an input line (the first five and the last two) or an output line. A view is a 64-bit set, bit i standing
+// for campaign i.
 pub enum Record {
     Plan {
         depth: u64,
@@ -44,6 +45,8 @@ pub enum Record {
         age: u64,
         named: u64,
     },
+    Pause(u64),
+    Resume(u64),
 }
 
 // What reading answers: a record, or the number of the first question that fails.
@@ -52,7 +55,7 @@ pub enum Reading {
     Refusal(u64),
 }
 
-// A line of the plan form, else 17; and so for each form with several slots.
+// A line of the plan form, else 17; and so for each form with slots.
 fn read_plan(s: &[u8]) -> Reading
     requires { ⌜ length (now s) ≤ max-line ⌝ }
     ensures { λ r. ⌜ r ≡ held-or (Reading.Refusal 17) (Record.Plan 0 0) (now (s .entry)) ⌝ }
@@ -146,6 +149,30 @@ fn read_tally(s: &[u8]) -> Reading
     )
 }
 
+fn read_refused(s: &[u8]) -> Reading
+    requires { ⌜ length (now s) ≤ max-line ⌝ }
+    ensures { λ r. ⌜ r ≡ held-or (Reading.Refusal 17) (Record.Refused 0) (now (s .entry)) ⌝ }
+{
+    let number = field(s, 0, b"(refused ", b'R');
+    ended(s, number.end, b")", Record::Refused(number.number))
+}
+
+fn read_pause(s: &[u8]) -> Reading
+    requires { ⌜ length (now s) ≤ max-line ⌝ }
+    ensures { λ r. ⌜ r ≡ held-or (Reading.Refusal 17) (Record.Pause 0) (now (s .entry)) ⌝ }
+{
+    let campaign = field(s, 0, b"(pause ", b'C');
+    ended(s, campaign.end, b")", Record::Pause(campaign.number))
+}
+
+fn read_resume(s: &[u8]) -> Reading
+    requires { ⌜ length (now s) ≤ max-line ⌝ }
+    ensures { λ r. ⌜ r ≡ held-or (Reading.Refusal 17) (Record.Resume 0) (now (s .entry)) ⌝ }
+{
+    let campaign = field(s, 0, b"(resume ", b'C');
+    ended(s, campaign.end, b")", Record::Resume(campaign.number))
+}
+
 // Reads one line without its byte 10. The first bytes leave one form, and only that one is tried.
 pub fn read_line(s: &[u8]) -> Reading
     ensures { λ r. ⌜ r ≡ reading (now (s .entry)) ⌝ }
@@ -160,6 +187,7 @@ pub fn read_line(s: &[u8]) -> Reading
         }
         b'p' => match byte(s, 4) {
             b'n' => read_plan(s),
+            b's' => read_pause(s),
             _ => read_play(s),
         },
         b'c' => match byte(s, 6) {
@@ -170,10 +198,10 @@ pub fn read_line(s: &[u8]) -> Reading
         b's' => ended(s, 0, b"(start)", Record::Start),
         b'o' => ended(s, 0, b"(ok)", Record::Done),
         b'n' => ended(s, 0, b"(nobody)", Record::Nobody),
-        b'r' => {
-            let number = field(s, 0, b"(refused ", b'R');
-            ended(s, number.end, b")", Record::Refused(number.number))
-        }
+        b'r' => match byte(s, 3) {
+            b's' => read_resume(s),
+            _ => read_refused(s),
+        },
         _ => read_tally(s),
     }
 }

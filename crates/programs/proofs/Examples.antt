@@ -10,7 +10,7 @@ use lib.ListN.{length, take, drop, replicate, length-append}
 use lib.Seq.{take-length, take-append-seam, drop-length}
 use borrow.Author.Tests.{le-leb}
 use Rattle.finite.specs.Finite.{sum, count, every, table}
-use Rattle.sets.specs.Set.{member, size, within}
+use Rattle.sets.specs.Set.{member, size, within, collect, without}
 use Rattle.powers.specs.Power.{weight, share}
 use Rattle.campaigns.specs.Choice.{best, choice}
 use Rattle.campaigns.specs.Campaign.{whole, claim, sound-plan, priced, counted, uncounted, empty, sound-campaign}
@@ -172,13 +172,11 @@ day-split = record {
 }
 
 day-answers : replies blank day-lines ++ last-reply (after-lines blank day-lines) (bytes "(close)") ≡ answers
-unfolding replies after-lines joined reply reply-text next outcome tallies
-    reading first-of forms held-or ended-or made numbers-of rest-of step strip slot-at names-at numeral-at digits
-    is-digit
-    template in-slot in-range line text filled slot-text names-text piece numbers numeral numeral-in numbers-after
-    call first-failed sound sound-record blank sum count every table within size member width-holds weight share whole
-    claim
-    total-takings total-claim total-budgets sound-plan priced counted uncounted empty sound-campaign best choice
+unfolding replies after-lines joined reply reply-text next outcome tallies reading first-of forms held-or ended-or
+    made numbers-of rest-of step strip slot-at names-at numeral-at digits is-digit template in-slot in-range line text
+    filled slot-text names-text piece numbers numeral numeral-in numbers-after call first-failed sound sound-record
+    blank sum count every table within size member width-holds weight share whole claim total-takings total-claim
+    total-budgets sound-plan priced counted uncounted empty sound-campaign best choice collect without
 day-answers = refl
 
 answers-length : length answers ≡ 123

@@ -13,7 +13,7 @@ use Rattle.finite.specs.Finite.{total}
 use Rattle.finite.proofs.Tables.{total-snoc}
 use Rattle.lines.specs.declared.Record.{Record}
 use Rattle.lines.specs.declared.Record.the-variants.{Plan, Campaign, Start, View, Close, Done, Play, Nobody, Refused}
-use Rattle.lines.specs.declared.Record.the-variants.{Closed, Tally}
+use Rattle.lines.specs.declared.Record.the-variants.{Closed, Tally, Pause, Resume}
 use Rattle.lines.specs.declared.Reading.{Reading}
 use Rattle.lines.specs.declared.Reading.the-variants.{Got, Refusal}
 use Rattle.lines.specs.Form.{text, in-range}
@@ -31,8 +31,8 @@ use Rattle.day.specs.declared.Answer.the-variants.{Nobody as no-one, Tallied as
 use Rattle.day.specs.declared.Day.{Day}
 use Rattle.day.specs.declared.Outcome.{Outcome}
 use Rattle.day.specs.Day.{blank, blank-plan, campaign, total-takings, total-claim}
-use Rattle.day.specs.Calls.{Call, player, offers, view-answer}
-use Rattle.day.specs.Calls.Call.{open-plan, add-campaign, start-day, show-view, ask-tally, close-day}
+use Rattle.day.specs.Calls.{Call, player, offers, view-answer, call}
+use Rattle.day.specs.Calls.Call.{open-plan, add-campaign, start-day, show-view, ask-tally, close-day, mark-campaign}
 use Rattle.day.proofs.Questions.{call-elim}
 use Rattle.noon.specs.Noon.{floor-figure}
 use Rattle.demands.specs.Transcript.{Exchange, transcript, final}
@@ -166,6 +166,15 @@ module _ (s : Day) (h : History) where
   view-adds w nobody = total-snoc paid-in (h .answers) no-one
   view-adds w (plays m) = total-snoc paid-in (h .answers) (played m (offers s w m))
 
+  -- a marking pays nothing
+  mark-adds : (r : Record) (b : Bool) (i : ℕ)
+      → ((a : Answer) → summed (day-takings h) (Got r) a ≡ day-takings h + price-in (record-of a))
+      → Adds r (mark-campaign b i) (call s (mark-campaign b i))
+  mark-adds r b i e =
+      let c = mark-campaign b i in
+      call-elim (Adds r c) s c (λ q. refused-adds c q ∙ sym (e (refusing (suc q))))
+      (λ y. none-more (day-takings h) ∙ sym (e done))
+
   record-adds : (r : Record)
       → day-takings (stepped h (request r) (executed s (request r) .answer))
       ≡ summed (day-takings h) (Got r) (executed s (request r) .answer)
@@ -190,6 +199,8 @@ module _ (s : Day) (h : History) where
   record-adds (Refused q) = none-more (day-takings h)
   record-adds (Closed t c f) = none-more (day-takings h)
   record-adds (Tally i p t a n) = none-more (day-takings h)
+  record-adds (Pause i) = mark-adds (Pause i) true i (λ a. refl)
+  record-adds (Resume i) = mark-adds (Resume i) false i (λ a. refl)
 
   reading-adds : (l : Reading)
       → day-takings (stepped h (request-of l) (executed s (request-of l) .answer))
@@ -249,6 +260,7 @@ module _ (s : Day) (t c f : ℕ) where
       go (plays m) e = cc
   call-closes (ask-tally i) = call-elim Closes s (ask-tally i) (λ q e. cc) (λ y e. cc)
   call-closes close-day = call-elim Closes s close-day (λ q e. cc) (λ y e. cc)
+  call-closes (mark-campaign b i) = call-elim Closes s (mark-campaign b i) (λ q e. cc) (λ y e. cc)
 
   request-closes : (r : Request) → Closes (executed s r)
   request-closes (makes k) = call-closes k

@@ -7,7 +7,7 @@ use Prim.Native.Nat.{ℕ, _+_, _≤_, _<_}
 use lib.ListN.{take}
 use Rattle.lines.specs.declared.Record.{Record}
 use Rattle.lines.specs.declared.Record.the-variants.{Plan, Campaign, Start, View, Close, Done, Play, Nobody, Refused}
-use Rattle.lines.specs.declared.Record.the-variants.{Closed, Tally}
+use Rattle.lines.specs.declared.Record.the-variants.{Closed, Tally, Pause, Resume}
 use Rattle.lines.specs.declared.Reading.{Reading}
 use Rattle.lines.specs.declared.Reading.the-variants.{Got, Refusal}
 use Rattle.lines.specs.Reading.{reading}
@@ -67,6 +67,8 @@ is-plan Nobody = false
 is-plan (Refused q) = false
 is-plan (Closed t c f) = false
 is-plan (Tally i p t a n) = false
+is-plan (Pause i) = false
+is-plan (Resume i) = false
 
 abbrev pub is-ok : Record → Bool
 is-ok (Plan k d) = false
@@ -80,6 +82,8 @@ is-ok Nobody = false
 is-ok (Refused q) = false
 is-ok (Closed t c f) = false
 is-ok (Tally i p t a n) = false
+is-ok (Pause i) = false
+is-ok (Resume i) = false
 
 abbrev pub price-in : Record → ℕ
 price-in (Plan k d) = 0
@@ -93,6 +97,8 @@ price-in Nobody = 0
 price-in (Refused q) = 0
 price-in (Closed t c f) = 0
 price-in (Tally i p t a n) = 0
+price-in (Pause i) = 0
+price-in (Resume i) = 0
 
 abbrev pub of-reading : {A : Type 0} → (Record → A) → A → Reading → A
 of-reading f a (Got r) = f r

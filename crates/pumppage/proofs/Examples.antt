@@ -1,7 +1,7 @@
 -- The page of the listing, by computation: its lines are read, its calls made, its figures printed.
 use mathlib.Core.Path.{refl}
 use Rattle.finite.specs.Finite.{sum, count, every, table}
-use Rattle.sets.specs.Set.{member, size, within}
+use Rattle.sets.specs.Set.{member, size, within, collect, without}
 use Rattle.powers.specs.Power.{weight, share}
 use Rattle.campaigns.specs.Choice.{best, choice}
 use Rattle.campaigns.specs.Campaign.{whole, claim, sound-plan, priced, counted, uncounted, empty, sound-campaign}
@@ -25,5 +25,5 @@ unfolding after-lines next outcome
     is-digit template in-slot numeral numeral-in
     call first-failed sound sound-record blank sum count every table within size member width-holds weight share
     whole claim total-takings total-claim total-budgets sound-plan priced counted uncounted empty sound-campaign
-    best choice flush cents row-text total-text row-lines page figures
+    best choice collect without flush cents row-text total-text row-lines page figures
 page-of-the-listing = refl

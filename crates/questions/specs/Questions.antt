@@ -3,7 +3,7 @@ use mathlib.Core.Bool.{Bool, cond}
 use mathlib.Core.List.{List, [], _∷_}
 use Prim.Native.Nat.{ℕ, _+_}
 use lib.Dec.{leb, ltb}
-use Rattle.sets.specs.Set.{size, within}
+use Rattle.sets.specs.Set.{size, within, without}
 use Rattle.campaigns.specs.declared.Head.{Head}
 use Rattle.campaigns.specs.declared.Plan.{Plan}
 use Rattle.campaigns.specs.declared.Terms.{Terms}
@@ -36,12 +36,20 @@ add-questions h t b =
     question 8 (price-fits (t .price)) ∷ question 9 (budget-fits (t .price) (t .budget)) ∷
     question 10 (leb (b + t .budget) max-budget) ∷ []
 
+-- a view as it finds the campaigns (document 02, request 3): a paused one that it names is as one not named
+abbrev pub unpaused : Head → View → View
+unpaused h w = record { set = without (w .set) (h .paused) }
+
 -- question 14: are at most d campaigns named
 unfoldable pub width-holds : Head → View → Bool
 width-holds h w = leb (size (w .set)) (h .plan .width)
 
--- questions 11 to 14
+-- questions 11 to 14; the last is asked of the unpaused names alone
 abbrev pub view-questions : Head → View → List Question
 view-questions h w =
     question 11 (is-running (h .phase)) ∷ question 12 (ltb (h .accepted) max-views) ∷
-    question 13 (within (h .count) (w .set)) ∷ question 14 (width-holds h w) ∷ []
+    question 13 (within (h .count) (w .set)) ∷ question 14 (width-holds h (unpaused h w)) ∷ []
+
+-- of a pausing or a resuming of campaign i: 11, then 15
+abbrev pub mark-questions : Head → (i : ℕ) → List Question
+mark-questions h i = question 11 (is-running (h .phase)) ∷ question 15 (ltb i (h .count)) ∷ []

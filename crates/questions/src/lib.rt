@@ -1,4 +1,4 @@
-// Questions 3 to 14 at the door, each list in its order: the number of the first "no", or 0.
+// Questions 3 to 15 at the door, each list in its order: the number of the first "no", or 0.
 use campaigns::Head;
 use campaigns::Plan;
 use campaigns::Terms;
@@ -6,6 +6,7 @@ use campaigns::View;
 ghost use mathlib.Core.Path.{_≡_};
 ghost use Prim.Native.Nat.{_≤_};
 ghost use Rattle.questions.specs.Questions.{first-failed, plan-questions, add-questions, view-questions};
+ghost use Rattle.questions.specs.Questions.{mark-questions};
 
 // The number of the first of questions 3 to 5 that a plan fails, or 0. The last is looked up in the table, unless
 // `deepest` already tells yes: a constant table is written to the stack at each use.
@@ -51,7 +52,8 @@ pub fn add_question(head: Head, t: Terms, budgets: u64) -> u64
     0
 }
 
-// The number of the first of questions 11 to 14 that a view fails, or 0.
+// The number of the first of questions 11 to 14 that a view fails, or 0. A paused name is a name for 13, and none for
+// 14.
 pub fn view_question(head: Head, view: View) -> u64
     ensures { λ r. ⌜ r ≡ first-failed (view-questions head view) ⌝ }
 {
@@ -63,11 +65,28 @@ pub fn view_question(head: Head, view: View) -> u64
         return 12;
     }
     let set = view.set;
+    let unpaused = sets::without(set, head.paused);
     if !sets::within(set, head.count) {
         return 13;
     }
-    if head.plan.width < sets::count(set) {
+    if head.plan.width < sets::count(unpaused) {
         return 14;
+    }
+    0
+}
+
+// The number of the first of questions 11 and 15 that a pausing or a resuming fails, or 0.
+pub fn mark_question(head: Head, campaign: u64) -> u64
+    ensures { λ r. ⌜ r ≡ first-failed (mark-questions head campaign) ⌝ }
+{
+    let phase = head.phase;
+    let running = phase.running();
+    let known = campaign < head.count;
+    if !running {
+        return 11;
+    }
+    if !known {
+        return 15;
     }
     0
 }

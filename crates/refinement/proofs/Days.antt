@@ -1,7 +1,7 @@
 -- Every list of calls keeps its day beside Algorithm 4 (`Alongside`): by induction on the list, and an accepted view is
 -- one slot more.
 use mathlib.Core.Path.{_≡_, refl, ap, sym, subst, _∙_}
-use mathlib.Core.Bool.{true, false}
+use mathlib.Core.Bool.{Bool, true, false}
 use mathlib.Core.List.{List, [], _∷_, _++_, map, map-append}
 use Prim.Native.Nat.{ℕ, suc, _+_, _≤_, _<_}
 use native.Mathlib.Nat.{not-suc-le-zero}
@@ -11,6 +11,7 @@ use lib.ListN.{getD, length, length-append, length-map, List·getD-append}
 use lib.Seq.{getD-append-seam}
 use borrow.Author.Tests.{eqb-true, eq-eqb, ne-eqb, ltb-true, leb-true}
 use Rattle.finite.proofs.Tests.{never, both-left, one-more}
+use Rattle.sets.specs.Set.{without}
 use Rattle.day.specs.declared.Day.{Day}
 use Rattle.campaigns.specs.declared.Phase.{Phase}
 use Rattle.campaigns.specs.declared.Phase.the-variants.{Filling, Running, Closed}
@@ -22,7 +23,9 @@ use Rattle.campaigns.specs.View.{names}
 use Rattle.day.specs.Day.{campaign, in-phase, empty-plan, no-terms, blank-plan, blank, total-takings}
 use Rattle.campaigns.specs.Phase.{is-filling}
 use Rattle.day.specs.Calls.{number, Call, questions, with-campaign, player, offers, shown, view-answer, result, call}
-use Rattle.day.specs.Calls.Call.{open-plan, add-campaign, start-day, show-view, ask-tally, close-day}
+use Rattle.day.specs.Calls.{found, marked, head-joined, head-shown}
+use Rattle.day.specs.declared.Answer.the-variants.{Done}
+use Rattle.day.specs.Calls.Call.{open-plan, add-campaign, start-day, show-view, ask-tally, close-day, mark-campaign}
 use Rattle.day.proofs.Questions.{Yes, call-elim}
 use Rattle.day.proofs.State.{sound-facts, campaign-of-state}
 use Rattle.demands.specs.Transcript.{transcript, final}
@@ -30,6 +33,7 @@ use Rattle.demands.proofs.States.{with-campaign-old, with-campaign-new}
 use Rattle.demands.proofs.Refusals.{result-number}
 use Rattle.floor.specs.History.{accepted, Starts, History, opening, with-call, entered, continued, history}
 use Rattle.floor.specs.History.Starts.{from-blank, from-opening}
+use Rattle.floor.proofs.Reach.{with-view}
 use Rattle.refinement.specs.Algorithm4.{Instance, Neighbors, Variables, line-1, line-2, line-4, lines-3-to-11}
 use Rattle.refinement.specs.Algorithm4.{matches-from, algorithm-4, matches}
 use Rattle.refinement.specs.Correspondence.{Buys-alike, slots, Valid}
@@ -88,6 +92,7 @@ module _ (B : Terms → ℕ) (buys : Buys-alike B) where
     pub unplayed : is-filling (s .phase) ≡ true → (i : ℕ) → i < length (h .terms) → campaign s i ≡ fresh (terms-of h i)
     pub beside : 1 < h .plan .width → Beside h s
     pub answered : 1 < h .plan .width → Answered h
+    pub paused-is : s .paused ≡ h .paused
 
   alongside-opening : (p : Phase) (pl : Plan) → 1 ≤ pl .depth → Alongside (empty-plan p pl) (opening pl)
   unfolding matches-from
@@ -101,6 +106,7 @@ module _ (B : Terms → ℕ) (buys : Buys-alike B) where
     unplayed = λ _ i l. absurd (not-suc-le-zero l);
     beside = λ _ i l. absurd (not-suc-le-zero l);
     answered = λ _. refl;
+    paused-is = refl;
   }
 
   valid-of : (s : Day) (h : History) → Alongside s h → 1 < h .plan .width
@@ -138,9 +144,9 @@ module _ (B : Terms → ℕ) (buys : Buys-alike B) where
           let room : s .count < 64 = ltb-true (s .count) 64 (y .1 .1 .0) in
           snoc-all (λ i u. campaign (result s (add-campaign t) .day) i ≡ fresh u) (h .terms) t
           (λ i l.
-          campaign-of-state Filling (s .plan) (s .count + 1) (s .accepted) (with-campaign s t) i
+          campaign-of-state (head-joined s) (with-campaign s t) i
           (omega (arith, k .many)) ∙ with-campaign-old s t i (λ e. omega (arith, k .many)) ∙ k .unplayed (y .1 .0) i l)
-          (campaign-of-state Filling (s .plan) (s .count + 1) (s .accepted) (with-campaign s t) (length (h .terms))
+          (campaign-of-state (head-joined s) (with-campaign s t) (length (h .terms))
           (omega (arith, k .many)) ∙ ap (with-campaign s t) (k .many) ∙ with-campaign-new s t)
 
       alongside-add : Alongside (result s (add-campaign t) .day) more
@@ -159,6 +165,7 @@ module _ (B : Terms → ℕ) (buys : Buys-alike B) where
             (record { deep = k .deep; wide = wide; priced = more-priced; funded = more-funded })
             (k .unviewed (y .1 .0)) more-fresh;
         answered = λ wide. rw (k .unviewed (y .1 .0)) (rw (k .unviewed (y .1 .0)) at (k .answered wide));
+        paused-is = k .paused-is;
       }
 
     module _ (w : View) (y : Yes (questions s (show-view w))) where
@@ -168,8 +175,8 @@ module _ (B : Terms → ℕ) (buys : Buys-alike B) where
       so-far : Variables
       so-far = algorithm-4 I (slots (h .views))
 
-      slots-snoc : slots (h .views ++ (w ∷ [])) ≡ slots (h .views) ++ (names w ∷ [])
-      slots-snoc = map-append names (h .views) (w ∷ [])
+      slots-snoc : slots (h .views ++ (found s w ∷ [])) ≡ slots (h .views) ++ (names (found s w) ∷ [])
+      slots-snoc = map-append names (h .views) (found s w ∷ [])
 
       slots-many : length (slots (h .views)) + 0 ≡ length (h .views)
       slots-many = omega (arith, length-map (h .views) names)
@@ -180,21 +187,21 @@ module _ (B : Terms → ℕ) (buys : Buys-alike B) where
         ok = proper B buys (h .plan) (length (h .terms)) (terms-of h) (valid-of s h k wide)
 
         view-simulates : (i : ℕ) → i < length (h .terms)
-            → Simulates I (suc (length (h .views))) (lines-3-to-11 I (length (h .views)) (names w) so-far) i
+            → Simulates I (suc (length (h .views))) (lines-3-to-11 I (length (h .views)) (names (found s w)) so-far) i
             (shown s w i)
         unfolding I so-far ok
         view-simulates i l =
             same-view I ok (length (h .views)) so-far s (sym (k .plan-is)) (k .many) (k .beside wide) w i l
 
         answers-as : view-answer (offers s w) (player s w)
-            ≡ view-answer (λ i. terms-of h i .price) (line-4 I (length (h .views)) (names w) so-far)
+            ≡ view-answer (λ i. terms-of h i .price) (line-4 I (length (h .views)) (names (found s w)) so-far)
         unfolding I so-far ok
         answers-as = same-answer I ok (length (h .views)) so-far s (sym (k .plan-is)) (k .many) (k .beside wide) w
 
-      alongside-view : Alongside (result s (show-view w) .day)
-          (with-call h (show-view w) (result s (show-view w) .answer))
+      alongside-found : Alongside (result s (show-view w) .day)
+          (with-view h (found s w) (result s (show-view w) .answer))
       unfolding I so-far
-      alongside-view = record {
+      alongside-found = record {
         plan-is = k .plan-is;
         many = k .many;
         deep = k .deep;
@@ -204,25 +211,36 @@ module _ (B : Terms → ℕ) (buys : Buys-alike B) where
         unplayed = λ e. absurd (never false refl e);
         beside = λ wide i l.
             rw (
-              length-append (h .views) (w ∷ []),
+              length-append (h .views) (found s w ∷ []),
               add-one,
               slots-snoc,
-              line-2-snoc I (slots (h .views)) (names w) 0 line-1,
+              line-2-snoc I (slots (h .views)) (names (found s w)) 0 line-1,
               slots-many,
-              campaign-of-state Running (s .plan) (s .count) (s .accepted + 1) (shown s w) i
+              campaign-of-state (head-shown s) (shown s w) i
                   (omega (arith, sound-facts s (y .0) .few, k .many)),
             )
             (view-simulates wide i l);
         answered = λ wide.
             rw (
               slots-snoc,
-              matches-snoc I (slots (h .views)) (names w) 0 line-1,
+              matches-snoc I (slots (h .views)) (names (found s w)) 0 line-1,
               slots-many,
               map-append,
               k .answered wide,
               answers-as wide,
             );
+        paused-is = k .paused-is;
       }
+
+      -- what the marks of the state leave is what those of the day leave
+      alongside-view : Alongside (result s (show-view w) .day)
+          (with-call h (show-view w) (result s (show-view w) .answer))
+      alongside-view =
+          subst
+          (λ (m : ℕ).
+          Alongside (result s (show-view w) .day)
+          (with-view h (record { set = without (w .set) m }) (result s (show-view w) .answer)))
+          (k .paused-is) alongside-found
 
     -- a phase that is not Filling
     alongside-phase : (p : Phase) → is-filling p ≡ false → Alongside (in-phase s p) h
@@ -236,6 +254,22 @@ module _ (B : Terms → ℕ) (buys : Buys-alike B) where
       unplayed = λ f. absurd (never (is-filling p) e f);
       beside = k .beside;
       answered = k .answered;
+      paused-is = k .paused-is;
+    }
+
+    alongside-marked : (b : Bool) (i : ℕ)
+        → Alongside (result s (mark-campaign b i) .day) (with-call h (mark-campaign b i) Done)
+    alongside-marked b i = record {
+      plan-is = k .plan-is;
+      many = k .many;
+      deep = k .deep;
+      priced = k .priced;
+      funded = k .funded;
+      unviewed = k .unviewed;
+      unplayed = k .unplayed;
+      beside = k .beside;
+      answered = k .answered;
+      paused-is = ap (marked b i) (k .paused-is);
     }
 
     alongside-result : (c : Call) → Yes (questions s c)
@@ -248,6 +282,7 @@ module _ (B : Terms → ℕ) (buys : Buys-alike B) where
     alongside-result (show-view w) y = alongside-view w y
     alongside-result (ask-tally i) y = k
     alongside-result close-day y = alongside-phase (Closed (total-takings s)) refl
+    alongside-result (mark-campaign b i) y = alongside-marked b i
 
     alongside-call : (c : Call) → Alongside (call s c .day) (entered h (record { made = c; answer = call s c .answer }))
     alongside-call c =

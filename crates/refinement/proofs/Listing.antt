@@ -5,7 +5,7 @@ use mathlib.Core.List.{List, [], _∷_, _++_, map}
 use native.Mathlib.Omega.{arith}
 use lib.ListN.{getD}
 use Rattle.finite.specs.Finite.{sum, count, every, table}
-use Rattle.sets.specs.Set.{member, size, within}
+use Rattle.sets.specs.Set.{member, size, within, collect, without, including}
 use Rattle.powers.specs.Power.{weight, share}
 use Rattle.day.specs.declared.Answer.the-variants.{Played, Nobody}
 use Rattle.campaigns.specs.declared.Plan.{Plan}
@@ -18,9 +18,10 @@ use Rattle.audit.specs.Sound.{sound-record}
 use Rattle.day.specs.Day.{no-terms, blank, total-takings, total-claim, total-budgets}
 use Rattle.day.specs.Day.{sound}
 use Rattle.questions.specs.Questions.{first-failed, width-holds}
-use Rattle.day.specs.Calls.{Call, call}
+use Rattle.day.specs.Calls.{marked, Call, call}
 use Rattle.day.specs.Calls.Call.{open-plan, add-campaign, start-day, show-view, close-day}
 use Rattle.demands.specs.Transcript.{transcript, final}
+use Rattle.demands.specs.Cases.{view, pause, resume}
 use Rattle.floor.specs.History.{continued, history}
 use Rattle.floor.specs.History.Starts.{from-blank}
 use Rattle.refinement.specs.Fraction.{integer, equal}
@@ -65,14 +66,14 @@ pub listing-answers : history (transcript blank calls) .answers
     ≡ Played 0 5 ∷ Played 1 3 ∷ Played 0 5 ∷ Nobody ∷ Played 1 3 ∷ []
 unfolding continued transcript call first-failed sound sound-record sound-plan sound-campaign priced counted uncounted
     empty total-takings total-claim total-budgets blank width-holds size within choice best whole claim weight share
-    member sum count every table
+    member sum count every table collect without including marked
 listing-answers = refl
 
 -- so the theorem speaks of this day
 pub listing-width : history (transcript blank calls) .plan ≡ plan
 unfolding continued transcript call first-failed sound sound-record sound-plan sound-campaign priced counted uncounted
     empty total-takings total-claim total-budgets blank width-holds size within choice best whole claim weight share
-    member sum count every table
+    member sum count every table collect without including marked
 listing-width = refl
 
 pub listing-agrees : Day-agrees (λ t. t .budget) (history (transcript blank calls)) (final blank calls)
@@ -95,13 +96,13 @@ pub cents-answers : history (transcript blank cents-calls) .answers
     ≡ Played 0 5 ∷ Played 1 3 ∷ Played 0 5 ∷ Nobody ∷ Played 1 3 ∷ []
 unfolding continued transcript call first-failed sound sound-record sound-plan sound-campaign priced counted uncounted
     empty total-takings total-claim total-budgets blank width-holds size within choice best whole claim weight share
-    member sum count every table
+    member sum count every table collect without including marked
 cents-answers = refl
 
 pub cents-width : history (transcript blank cents-calls) .plan ≡ plan
 unfolding continued transcript call first-failed sound sound-record sound-plan sound-campaign priced counted uncounted
     empty total-takings total-claim total-budgets blank width-holds size within choice best whole claim weight share
-    member sum count every table
+    member sum count every table collect without including marked
 cents-width = refl
 
 pub cents-agrees : Day-agrees spendable (history (transcript blank cents-calls)) (final blank cents-calls)
@@ -124,16 +125,54 @@ pub quiet-answers : history (transcript blank quiet-calls) .answers
     ≡ Nobody ∷ Played 0 5 ∷ Nobody ∷ Played 1 3 ∷ Nobody ∷ []
 unfolding continued transcript call first-failed sound sound-record sound-plan sound-campaign priced counted uncounted
     empty total-takings total-claim total-budgets blank width-holds size within choice best whole claim weight share
-    member sum count every table
+    member sum count every table collect without including marked
 quiet-answers = refl
 
 pub quiet-width : history (transcript blank quiet-calls) .plan ≡ plan
 unfolding continued transcript call first-failed sound sound-record sound-plan sound-campaign priced counted uncounted
     empty total-takings total-claim total-budgets blank width-holds size within choice best whole claim weight share
-    member sum count every table
+    member sum count every table collect without including marked
 quiet-width = refl
 
 pub quiet-agrees : Day-agrees (λ t. t .budget) (history (transcript blank quiet-calls)) (final blank quiet-calls)
 quiet-agrees =
     days-as-algorithm-4 (λ t. t .budget) budget-buys blank quiet-calls (from-blank quiet-calls)
     (rw quiet-width (omega arith))
+
+-- Pauses: a slot's neighbours are what its view found. The views name both, and find both, 1, 1, none and 0.
+abbrev unpaused-views : List View
+unpaused-views =
+    record { set = 3 } ∷ record { set = 2 } ∷ record { set = 2 } ∷ record { set = 0 } ∷ record { set = 1 } ∷ []
+
+pub paused-matches : matches listing (slots unpaused-views) ≡ plays 0 ∷ plays 1 ∷ plays 1 ∷ nobody ∷ plays 0 ∷ []
+unfolding matches-from lines-3-to-11 line-4 feasible C best member sum
+paused-matches = refl
+
+abbrev paused-calls : List Call
+paused-calls =
+    open-plan plan ∷ map add-campaign terms ++ start-day ∷ view 3 ∷ pause 0 ∷ view 3 ∷ view 3 ∷ pause 1 ∷ view 3 ∷
+    resume 0 ∷ view 3 ∷ []
+
+pub paused-answers : history (transcript blank paused-calls) .answers
+    ≡ Played 0 5 ∷ Played 1 3 ∷ Played 1 3 ∷ Nobody ∷ Played 0 5 ∷ []
+unfolding continued transcript call first-failed sound sound-record sound-plan sound-campaign priced counted uncounted
+    empty total-takings total-claim total-budgets blank width-holds size within choice best whole claim weight share
+    member sum count every table collect without including marked
+paused-answers = refl
+
+pub paused-views : history (transcript blank paused-calls) .views ≡ unpaused-views
+unfolding continued transcript call first-failed sound sound-record sound-plan sound-campaign priced counted uncounted
+    empty total-takings total-claim total-budgets blank width-holds size within choice best whole claim weight share
+    member sum count every table collect without including marked
+paused-views = refl
+
+pub paused-width : history (transcript blank paused-calls) .plan ≡ plan
+unfolding continued transcript call first-failed sound sound-record sound-plan sound-campaign priced counted uncounted
+    empty total-takings total-claim total-budgets blank width-holds size within choice best whole claim weight share
+    member sum count every table collect without including marked
+paused-width = refl
+
+pub paused-agrees : Day-agrees (λ t. t .budget) (history (transcript blank paused-calls)) (final blank paused-calls)
+paused-agrees =
+    days-as-algorithm-4 (λ t. t .budget) budget-buys blank paused-calls (from-blank paused-calls)
+    (rw paused-width (omega arith))

@@ -9,7 +9,7 @@ use lib.Dec.{leb, ltb}
 use borrow.Author.Tests.{leb-true, eqb-true, le-ltb, ltb-true, ltb-false}
 use Rattle.finite.specs.Finite.{sum, count, every, table, one-if}
 use Rattle.finite.proofs.Tests.{both-left, both-right}
-use Rattle.sets.specs.Set.{member, size, within}
+use Rattle.sets.specs.Set.{member, size, within, collect, without, including}
 use Rattle.powers.specs.Power.{weight, share}
 use Rattle.campaigns.specs.declared.Campaign.{Campaign}
 use Rattle.campaigns.specs.declared.Phase.the-variants.{Running}
@@ -29,7 +29,7 @@ use Rattle.day.specs.declared.Day.{Day}
 use Rattle.day.specs.declared.Outcome.{Outcome}
 use Rattle.day.specs.Day.{campaign, sound}
 use Rattle.questions.specs.Questions.{first-failed, width-holds}
-use Rattle.day.specs.Calls.{number, player, offers, shown, view-answer, result, call}
+use Rattle.day.specs.Calls.{number, found, player, offers, head-shown, shown, view-answer, marked, result, call}
 use Rattle.day.specs.Calls.Call.{show-view}
 use Rattle.day.proofs.State.{Sound, sound-facts, held-at, campaign-of-state}
 use Rattle.demands.proofs.Refusals.{accepted-result}
@@ -56,22 +56,22 @@ module _
     (I : Instance) (ok : Proper I) (j : ℕ) (v : Variables) (s : Day) (plan-is : plan-of I ≡ s .plan)
     (many : I .n ≡ s .count) (h : All I ok j v (campaign s)) (w : View)
   where
-    pub same-player : line-4 I j (names w) v ≡ player s w
+    pub same-player : line-4 I j (names (found s w)) v ≡ player s w
     same-player =
-        same-choice I ok j w v (campaign s) h ∙ ap₂ (λ n pl. chosen-of n pl w (campaign s)) many plan-is
+        same-choice I ok j (found s w) v (campaign s) h ∙ ap₂ (λ n pl. chosen-of n pl (found s w) (campaign s)) many plan-is
 
-    pub same-view : (i : ℕ) → i < I .n → Simulates I (suc j) (lines-3-to-11 I j (names w) v) i (shown s w i)
+    pub same-view : (i : ℕ) → i < I .n → Simulates I (suc j) (lines-3-to-11 I j (names (found s w)) v) i (shown s w i)
     same-view i l =
-        subst (λ (c : Campaign). Simulates I (suc j) (lines-3-to-11 I j (names w) v) i c)
-        (ap₂ (λ n pl. viewed n pl w (campaign s) i) many plan-is) (same-step I ok j w v (campaign s) h i l)
+        subst (λ (c : Campaign). Simulates I (suc j) (lines-3-to-11 I j (names (found s w)) v) i c)
+        (ap₂ (λ n pl. viewed n pl (found s w) (campaign s) i) many plan-is) (same-step I ok j (found s w) v (campaign s) h i l)
 
     -- the price of the one matched is its bid
-    pub same-answer : view-answer (offers s w) (player s w) ≡ view-answer (I .b) (line-4 I j (names w) v)
+    pub same-answer : view-answer (offers s w) (player s w) ≡ view-answer (I .b) (line-4 I j (names (found s w)) v)
     unfolding line-4
     same-answer =
         ap (view-answer (offers s w)) (sym same-player)
-        ∙ view-answer-eq (I .n) (feasible-neighbor I v j (names w)) (offers s w) (I .b) (λ i l. h i l .accounts .bid)
-        (line-4 I j (names w) v) (best-fits _ _ _)
+        ∙ view-answer-eq (I .n) (feasible-neighbor I v j (names (found s w))) (offers s w) (I .b) (λ i l. h i l .accounts .bid)
+        (line-4 I j (names (found s w)) v) (best-fits _ _ _)
 
 whole-play : (c : Campaign) → priced c ≡ true → 1 ≤ c .price → 0 < whole c
 unfolding priced whole
@@ -120,14 +120,14 @@ module _ (s : Day) (e : sound s ≡ true) (wide : 1 < s .plan .width) where
     plan-is = ap₂ (λ (k d : ℕ). record { depth = k; width = d }) (r .depth-is) (r .width-is)
 
     module _ (w : View) where
-      after-view : Represents-state I (suc j) (lines-3-to-11 I j (names w) v) (result s (show-view w) .day)
+      after-view : Represents-state I (suc j) (lines-3-to-11 I j (names (found s w)) v) (result s (show-view w) .day)
       after-view = record {
         depth-is = r .depth-is;
         width-is = r .width-is;
         count-is = r .count-is;
         bid-is = λ i l. sym (new i l .accounts .bid);
         copies-are = λ i l. sym (new i l .accounts .copies);
-        counts-are = λ i l. simulates-represents I ok (suc j) (lines-3-to-11 I j (names w) v) i _ (back i l) (new i l);
+        counts-are = λ i l. simulates-represents I ok (suc j) (lines-3-to-11 I j (names (found s w)) v) i _ (back i l) (new i l);
         unmatched = λ i j′ l q. new i l .accounts .later j′ q;
       }
         where
@@ -135,21 +135,21 @@ module _ (s : Day) (e : sound s ≡ true) (wide : 1 < s .plan .width) where
           back i l = omega (arith, r .count-is)
 
           new : (i : ℕ) → i < s .count
-              → Simulates I (suc j) (lines-3-to-11 I j (names w) v) i (campaign (result s (show-view w) .day) i)
+              → Simulates I (suc j) (lines-3-to-11 I j (names (found s w)) v) i (campaign (result s (show-view w) .day) i)
           new i l =
-              subst⁻¹ (λ (c : Campaign). Simulates I (suc j) (lines-3-to-11 I j (names w) v) i c)
-              (campaign-of-state Running (s .plan) (s .count) (s .accepted + 1) (shown s w) i
+              subst⁻¹ (λ (c : Campaign). Simulates I (suc j) (lines-3-to-11 I j (names (found s w)) v) i c)
+              (campaign-of-state (head-shown s) (shown s w) i
               (omega (arith, facts .few)))
               (same-view I ok j v s plan-is (r .count-is) simulates w i (back i l))
 
       slot : accepted (call s (show-view w) .answer) ≡ true
-          → (call s (show-view w) .answer ≡ view-answer (I .b) (line-4 I j (names w) v))
-          × Represents-state I (suc j) (lines-3-to-11 I j (names w) v) (call s (show-view w) .day)
+          → (call s (show-view w) .answer ≡ view-answer (I .b) (line-4 I j (names (found s w)) v))
+          × Represents-state I (suc j) (lines-3-to-11 I j (names (found s w)) v) (call s (show-view w) .day)
       slot a =
           subst⁻¹
           (λ (o : Outcome).
-          (o .answer ≡ view-answer (I .b) (line-4 I j (names w) v))
-          × Represents-state I (suc j) (lines-3-to-11 I j (names w) v) (o .day))
+          (o .answer ≡ view-answer (I .b) (line-4 I j (names (found s w)) v))
+          × Represents-state I (suc j) (lines-3-to-11 I j (names (found s w)) v) (o .day))
           (accepted-result s (show-view w) (eqb-true (number (call s (show-view w) .answer)) 0 a))
           (same-answer I ok j v s plan-is (r .count-is) simulates w, after-view)
 
@@ -231,17 +231,17 @@ pub represented : Represented
 represented B buys s e wide = represents B buys s e wide
 
 made-up-sound : sound made-up ≡ true
-unfolding sound sound-record sound-plan sound-campaign priced counted uncounted empty weight share whole claim sum every
-    table
+unfolding sound sound-record sound-plan sound-campaign priced counted uncounted empty weight share whole claim sum
+    every table within member collect without
 made-up-sound = refl
 
 made-up-answered : call made-up (show-view both) .answer ≡ Played 1 3
 unfolding call first-failed sound sound-record sound-plan sound-campaign priced counted uncounted empty weight share
-    whole claim sum count every table width-holds size within member choice best
+    whole claim sum count every table width-holds size within member choice best collect without including marked
 made-up-answered = refl
 
-made-up-matched : line-4 paper 5 (names both) (variables-at paper made-up) ≡ plays 1
-unfolding line-4 feasible C best member sum table
+made-up-matched : line-4 paper 5 (names (found made-up both)) (variables-at paper made-up) ≡ plays 1
+unfolding line-4 feasible C best member sum table collect without
 made-up-matched = refl
 
 -- so the theorem speaks of this state

@@ -16,7 +16,7 @@ use Rattle.campaigns.specs.View.{names}
 use Rattle.day.specs.declared.Answer.the-variants.{Played}
 use Rattle.day.specs.declared.Day.{Day}
 use Rattle.day.specs.Day.{campaign, state-with, no-terms, sound}
-use Rattle.day.specs.Calls.{view-answer, call}
+use Rattle.day.specs.Calls.{found, view-answer, call}
 use Rattle.day.specs.Calls.Call.{show-view}
 use Rattle.floor.specs.History.{accepted}
 use Rattle.refinement.specs.Fraction.{integer, _⊗_}
@@ -34,13 +34,13 @@ pub record Represents-state (I : Instance) (j : ℕ) (v : Variables) (s : Day) :
   pub counts-are : (i : ℕ) → i < s .count → Represents I j v i (campaign s i)
   pub unmatched : (i j′ : ℕ) → i < s .count → j ≤ j′ → v .x i j′ ≡ 0
 
--- every sound state of a width above 1, and every view that it accepts
+-- every sound state of a width above 1, and every view that it accepts; the neighbours are what the view found
 abbrev pub One-slot : Type 0
 One-slot =
     (s : Day) → sound s ≡ true → 1 < s .plan .width → (I : Instance) (j : ℕ) (v : Variables) → Represents-state I j v s
     → (w : View) → accepted (call s (show-view w) .answer) ≡ true
-    → (call s (show-view w) .answer ≡ view-answer (I .b) (line-4 I j (names w) v))
-    × Represents-state I (suc j) (lines-3-to-11 I j (names w) v) (call s (show-view w) .day)
+    → (call s (show-view w) .answer ≡ view-answer (I .b) (line-4 I j (names (found s w)) v))
+    × Represents-state I (suc j) (lines-3-to-11 I j (names (found s w)) v) (call s (show-view w) .day)
 
 -- There are such variables for every such state: z_i is the turns' part, z_i^c what a copy of that age has, and the
 -- plays stand at the first slots.
@@ -65,8 +65,9 @@ Represented =
 -- A sound state that no list of calls reaches (campaign 0 can pay, and was named more often than depth × turns + age);
 -- a view names both its campaigns, of scores 5 and 6.
 abbrev pub made-up : Day
-made-up = state-with Running (record { depth = 2; width = 2 }) 2 5 (λ i. getD (
-    record { price = 5; budget = 10; plays = 1; turns = 1; age = 0; named = 3 } ∷
+made-up = state-with
+    (record { phase = Running; plan = record { depth = 2; width = 2 }; count = 2; accepted = 5; paused = 0 })
+    (λ i. getD (record { price = 5; budget = 10; plays = 1; turns = 1; age = 0; named = 3 } ∷
     record { price = 3; budget = 6; plays = 0; turns = 0; age = 1; named = 1 } ∷ []) i (fresh no-terms))
 
 abbrev pub both : View
@@ -79,6 +80,7 @@ paper = instance-at (λ t. t .budget) made-up
 pub record Made-up : Type 0 where
   pub is-sound : sound made-up ≡ true
   pub answered : call made-up (show-view both) .answer ≡ Played 1 3
-  pub matched : line-4 paper 5 (names both) (variables-at paper made-up) ≡ plays 1
-  pub after : Represents-state paper 6 (lines-3-to-11 paper 5 (names both) (variables-at paper made-up))
+  pub matched : line-4 paper 5 (names (found made-up both)) (variables-at paper made-up) ≡ plays 1
+  pub after : Represents-state paper 6
+      (lines-3-to-11 paper 5 (names (found made-up both)) (variables-at paper made-up))
       (call made-up (show-view both) .day)

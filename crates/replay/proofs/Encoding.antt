@@ -1,8 +1,9 @@
 -- Every list of calls is encoded by its words.
 use mathlib.Core.Path.{refl, ap}
+use mathlib.Core.Bool.{true, false}
 use mathlib.Core.List.{List, [], _∷_}
 use Rattle.day.specs.Calls.{Call}
-use Rattle.day.specs.Calls.Call.{open-plan, add-campaign, start-day, show-view, ask-tally, close-day}
+use Rattle.day.specs.Calls.Call.{open-plan, add-campaign, start-day, show-view, ask-tally, close-day, mark-campaign}
 use Rattle.replay.specs.Replay.{call-in, decode, Every-list}
 
 pub every-list : Every-list
@@ -14,3 +15,5 @@ every-list (start-day ∷ cs) = ap (λ (l : List Call). start-day ∷ l) (every-
 every-list (show-view w ∷ cs) = ap (λ (l : List Call). show-view w ∷ l) (every-list cs)
 every-list (ask-tally i ∷ cs) = ap (λ (l : List Call). ask-tally i ∷ l) (every-list cs)
 every-list (close-day ∷ cs) = ap (λ (l : List Call). close-day ∷ l) (every-list cs)
+every-list (mark-campaign true i ∷ cs) = ap (λ (l : List Call). mark-campaign true i ∷ l) (every-list cs)
+every-list (mark-campaign false i ∷ cs) = ap (λ (l : List Call). mark-campaign false i ∷ l) (every-list cs)

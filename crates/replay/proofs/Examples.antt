@@ -1,9 +1,10 @@
--- Document 01's listing pays 16, and the day replayed behind it begins again and pays 2: both by computation.
+-- Document 01's listing pays 16, the day replayed behind it begins again and pays 2, and the day with a pause pays 10:
+-- by computation.
 use mathlib.Core.Path.{_≡_, refl, ap, _∙_, subst⁻¹}
 use mathlib.Core.List.{List}
 use Prim.Native.Nat.{ℕ}
 use Rattle.finite.specs.Finite.{sum, count, every, table, total}
-use Rattle.sets.specs.Set.{member, size, within}
+use Rattle.sets.specs.Set.{member, size, within, collect, without, including}
 use Rattle.powers.specs.Power.{weight, share}
 use Rattle.campaigns.specs.Choice.{best, choice}
 use Rattle.campaigns.specs.Campaign.{whole, claim, sound-plan, priced, counted, uncounted, empty, sound-campaign}
@@ -12,12 +13,12 @@ use Rattle.day.specs.declared.Day.{Day}
 use Rattle.day.specs.Day.{blank, total-takings, total-claim, total-budgets}
 use Rattle.day.specs.Day.{sound}
 use Rattle.questions.specs.Questions.{first-failed, width-holds}
-use Rattle.day.specs.Calls.{Call, call}
+use Rattle.day.specs.Calls.{marked, Call, call}
 use Rattle.demands.specs.Transcript.{transcript, final}
 use Rattle.floor.specs.History.{Starts, day-takings, continued, history}
 use Rattle.floor.specs.History.Starts.{from-blank, from-opening}
 use Rattle.replay.specs.Replay.{call-in, decode}
-use Rattle.replay.specs.Examples.{Example, Examples, listing, listed, next-day}
+use Rattle.replay.specs.Examples.{Example, Examples, listing, listed, next-day, with-pause, pausing}
 
 example : (s : Day) (words : List ℕ) (calls : List Call) (paid : ℕ) → decode words ≡ calls → Starts s calls
     → day-takings (history (transcript s calls)) ≡ paid → Example s words calls paid
@@ -30,8 +31,9 @@ example s words calls paid e st p =
 pub examples : Examples
 unfolding call-in decode transcript final continued call first-failed sound sound-record blank sum count every table
     total within size member width-holds weight share whole claim total-takings total-claim total-budgets sound-plan
-    priced counted uncounted empty sound-campaign best choice
+    priced counted uncounted empty sound-campaign best choice collect without including marked
 examples = (
   example blank listing listed 16 refl (from-blank listed) refl,
   example (final blank listed) next-day _ 2 refl (from-opening (final blank listed) _ _ refl) refl,
+  example blank with-pause pausing 10 refl (from-blank pausing) refl,
 )

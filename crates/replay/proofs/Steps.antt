@@ -24,8 +24,8 @@ use Rattle.day.specs.declared.Answer.the-variants.{Refused, Done, Played, Nobod
 use Rattle.day.specs.declared.Day.{Day}
 use Rattle.day.specs.declared.Outcome.{Outcome}
 use Rattle.day.specs.Day.{blank-plan, campaign}
-use Rattle.day.specs.Calls.{number, Call, questions, player, offers, view-answer, result, call}
-use Rattle.day.specs.Calls.Call.{open-plan, add-campaign, start-day, show-view, ask-tally, close-day}
+use Rattle.day.specs.Calls.{number, Call, questions, found, player, offers, view-answer, result, call}
+use Rattle.day.specs.Calls.Call.{open-plan, add-campaign, start-day, show-view, ask-tally, close-day, mark-campaign}
 use Rattle.day.proofs.Questions.{Yes, call-elim}
 use Rattle.day.proofs.State.{Sound, sound-facts, held-at}
 use Rattle.demands.specs.Choice.{Right}
@@ -46,7 +46,8 @@ pays-most : (s : Day) (w : View) → Sound s → paid-in (view-answer (offers s 
 pays-most s w h = go (player s w) (player-right s w)
   where
     go : (ch : Choice)
-        → Right (s .count) (able (s .plan) w (campaign s)) (λ i. figure (s .plan) w i (campaign s i)) ch
+        → Right (s .count) (able (s .plan) (found s w) (campaign s))
+        (λ i. figure (s .plan) (found s w) i (campaign s i)) ch
         → paid-in (view-answer (offers s w) ch) ≤ max-price
     go nobody r = omega arith
     go (plays m) r = price-most (campaign s m) (held-at s h m (r .below) .is-priced)
@@ -102,6 +103,7 @@ module _ (s : Day) (h : History) (b : Bounded s (day-takings h)) where
       )
   bounded-result (ask-tally i) y = b
   bounded-result close-day y = b
+  bounded-result (mark-campaign m i) y = b
 
   bounded-call : (c : Call) → Still h c (call s c)
   bounded-call c = call-elim (Still h c) s c (bounded-refusal c) (bounded-result c)
@@ -229,8 +231,19 @@ decode-short (x ∷ y ∷ z ∷ l) h = absurd (omega arith)
 pub decode-end : (ws : List ℕ) (i : ℕ) → length ws < i + 3 → decode (drop i ws) ≡ []
 decode-end ws i h = decode-short (drop i ws) (omega (arith, length-drop i ws))
 
--- a kind past the six is no call
-pub no-call : (kind a b : ℕ) → 6 ≤ kind → call-in kind a b ≡ []
+-- a kind that is none of the eight is past them; in two steps, since each "not" makes a case
+past-four : (k : ℕ) → (k ≡ 0 → ⊥) → (k ≡ 1 → ⊥) → (k ≡ 2 → ⊥) → (k ≡ 3 → ⊥) → 4 ≤ k
+past-four k a b c d = omega arith
+
+past-rest : (k : ℕ) → 4 ≤ k → (k ≡ 4 → ⊥) → (k ≡ 5 → ⊥) → (k ≡ 6 → ⊥) → (k ≡ 7 → ⊥) → 8 ≤ k
+past-rest k l e f g h = omega arith
+
+pub past-eight : (k : ℕ) → (k ≡ 0 → ⊥) → (k ≡ 1 → ⊥) → (k ≡ 2 → ⊥) → (k ≡ 3 → ⊥) → (k ≡ 4 → ⊥) → (k ≡ 5 → ⊥)
+    → (k ≡ 6 → ⊥) → (k ≡ 7 → ⊥) → 8 ≤ k
+past-eight k a b c d e f g h = past-rest k (past-four k a b c d) e f g h
+
+-- a kind past the eight is no call
+pub no-call : (kind a b : ℕ) → 8 ≤ kind → call-in kind a b ≡ []
 unfolding call-in
 no-call kind a b h = ap (take 1) (drop-of-length-le _ h)
 

@@ -1,4 +1,4 @@
--- The contract of replaying, asked of two days.
+-- The contract of replaying, asked of three days.
 use mathlib.Core.Path.{_≡_}
 use mathlib.Core.List.{List, [], _∷_}
 use Prim.Native.Nat.{ℕ}
@@ -7,7 +7,7 @@ use Rattle.day.specs.Day.{blank, total-takings}
 use Rattle.day.specs.Calls.{Call}
 use Rattle.day.specs.Calls.Call.{start-day, ask-tally, close-day}
 use Rattle.demands.specs.Transcript.{final}
-use Rattle.demands.specs.Cases.{plan, campaign-of, view}
+use Rattle.demands.specs.Cases.{plan, campaign-of, view, pause, resume}
 use Rattle.floor.specs.History.{Starts}
 use Rattle.replay.specs.declared.Replayed.{Replayed}
 use Rattle.replay.specs.Replay.{decode, Replays}
@@ -22,7 +22,7 @@ pub record Example (s : Day) (words : List ℕ) (calls : List Call) (paid : ℕ)
 abbrev pub listing : List ℕ
 listing =
     0 ∷ 2 ∷ 2 ∷ 1 ∷ 5 ∷ 10 ∷ 1 ∷ 3 ∷ 6 ∷ 2 ∷ 0 ∷ 0 ∷ 3 ∷ 3 ∷ 0 ∷ 3 ∷ 3 ∷ 0 ∷ 3 ∷ 3 ∷ 0 ∷ 3 ∷ 1 ∷ 0 ∷
-    6 ∷ 3 ∷ 3 ∷ 3 ∷ 2 ∷ 0 ∷ 3 ∷ 4 ∷ 0 ∷ 5 ∷ 0 ∷ 0 ∷ 4 ∷ 0 ∷ 0 ∷ 4 ∷ 1 ∷ 0 ∷ 3 ∷ 3 ∷ []
+    9 ∷ 3 ∷ 3 ∷ 3 ∷ 2 ∷ 0 ∷ 3 ∷ 4 ∷ 0 ∷ 5 ∷ 0 ∷ 0 ∷ 4 ∷ 0 ∷ 0 ∷ 4 ∷ 1 ∷ 0 ∷ 3 ∷ 3 ∷ []
 
 abbrev pub listed : List Call
 listed =
@@ -33,7 +33,16 @@ listed =
 abbrev pub next-day : List ℕ
 next-day = 0 ∷ 1 ∷ 2 ∷ 1 ∷ 2 ∷ 2 ∷ 1 ∷ 1 ∷ 1 ∷ 2 ∷ 0 ∷ 0 ∷ 3 ∷ 3 ∷ 0 ∷ []
 
+-- a day with a pause: the view between plays nobody
+abbrev pub with-pause : List ℕ
+with-pause =
+    0 ∷ 2 ∷ 2 ∷ 1 ∷ 5 ∷ 10 ∷ 2 ∷ 0 ∷ 0 ∷ 3 ∷ 1 ∷ 0 ∷ 6 ∷ 0 ∷ 0 ∷ 3 ∷ 1 ∷ 0 ∷ 7 ∷ 0 ∷ 0 ∷ 3 ∷ 1 ∷ 0 ∷ []
+
+abbrev pub pausing : List Call
+pausing = plan 2 2 ∷ campaign-of 5 10 ∷ start-day ∷ view 1 ∷ pause 0 ∷ view 1 ∷ resume 0 ∷ view 1 ∷ []
+
 abbrev pub Examples : Type 0
 Examples =
     Example blank listing listed 16 ×
-    Example (final blank listed) next-day (plan 1 2 ∷ campaign-of 2 2 ∷ campaign-of 1 1 ∷ start-day ∷ view 3 ∷ []) 2
+    Example (final blank listed) next-day (plan 1 2 ∷ campaign-of 2 2 ∷ campaign-of 1 1 ∷ start-day ∷ view 3 ∷ []) 2 ×
+    Example blank with-pause pausing 10

@@ -1,22 +1,24 @@
 -- Calls encoded as words, and what replaying them promises.
 use mathlib.Core.Path.{_≡_}
+use mathlib.Core.Bool.{true, false, cond}
 use mathlib.Core.List.{List, [], _∷_, _++_}
 use Prim.Native.Nat.{ℕ}
 use lib.ListN.{take, drop}
 use Rattle.day.specs.declared.Day.{Day}
 use Rattle.day.specs.Calls.{Call}
-use Rattle.day.specs.Calls.Call.{open-plan, add-campaign, start-day, show-view, ask-tally, close-day}
+use Rattle.day.specs.Calls.Call.{open-plan, add-campaign, start-day, show-view, ask-tally, close-day, mark-campaign}
 use Rattle.demands.specs.Transcript.{transcript, final}
 use Rattle.floor.specs.History.{Starts, day-takings, history}
 use Rattle.floor.specs.Floor.{Floor}
 use Rattle.floor.specs.Noon.{Noon-floor}
 use Rattle.replay.specs.declared.Replayed.{Replayed}
 
--- the call that three words encode: kinds 0 to 5 stand for the six calls in this order, and any other kind is no call
+-- the call that three words encode: kinds 0 to 7 stand for the calls in this order, the last two for
+-- pausing and resuming, and any other kind is no call
 unfoldable pub call-in : (kind a b : ℕ) → List Call
 call-in kind a b = take 1 (drop kind (
     open-plan (record { depth = a; width = b }) ∷ add-campaign (record { price = a; budget = b }) ∷ start-day ∷
-    show-view (record { set = a }) ∷ ask-tally a ∷ close-day ∷ []))
+    show-view (record { set = a }) ∷ ask-tally a ∷ close-day ∷ mark-campaign true a ∷ mark-campaign false a ∷ []))
 
 -- three words a call; one or two words left at the end are no call
 unfoldable pub decode : List ℕ → List Call
@@ -33,6 +35,7 @@ words-of start-day = 2 ∷ 0 ∷ 0 ∷ []
 words-of (show-view w) = 3 ∷ w .set ∷ 0 ∷ []
 words-of (ask-tally i) = 4 ∷ i ∷ 0 ∷ []
 words-of close-day = 5 ∷ 0 ∷ 0 ∷ []
+words-of (mark-campaign b i) = cond b 6 7 ∷ i ∷ 0 ∷ []
 
 abbrev pub encode : List Call → List ℕ
 encode [] = []

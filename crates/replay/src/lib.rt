@@ -105,7 +105,7 @@ fn keep(outcome: Outcome, paid: u64) -> Replayed
     }
 }
 
-// One call, or none where the kind is none of the six.
+// One call, or none where the kind is none of the eight.
 fn step(day: Day, paid: u64, kind: u64, a: u64, b: u64) -> Replayed
     requires { ⌜ paid ≤ max-price * day .accepted ⌝ }
     ensures { λ r. ⌜ Runs day paid (call-in kind a b) r ⌝ }
@@ -123,6 +123,8 @@ fn step(day: Day, paid: u64, kind: u64, a: u64, b: u64) -> Replayed
         3 => view(day, paid, View { set: a }),
         4 => keep(day.tally(a), paid),
         5 => keep(day.close(), paid),
+        6 => keep(day.pause(a), paid),
+        7 => keep(day.resume(a), paid),
         _ => Replayed {
             day: day,
             paid: paid,

@@ -12,10 +12,10 @@ use Rattle.campaigns.specs.Contracts.{Room, Weights}
 use Rattle.day.specs.declared.Day.{Day}
 use Rattle.day.specs.declared.Outcome.{Outcome}
 use Rattle.day.specs.declared.Step.{Step}
-use Rattle.day.specs.Day.{state-of, no-terms}
+use Rattle.day.specs.Day.{head-of, state-of, empty-plan, no-terms}
 use Rattle.day.specs.Day.{sound}
-use Rattle.day.specs.Calls.{Call, with-campaign, shown, result, questions, refused, call}
-use Rattle.day.specs.Calls.Call.{open-plan, add-campaign, start-day, show-view, ask-tally, close-day}
+use Rattle.day.specs.Calls.{Call, with-campaign, head-joined, head-shown, shown, result, questions, refused, call}
+use Rattle.day.specs.Calls.Call.{open-plan, add-campaign, start-day, show-view, ask-tally, close-day, mark-campaign}
 use Rattle.day.specs.InPlace.{outcome-of}
 use Rattle.day.specs.Contracts.{refusing, Kept, Ready}
 use Rattle.day.proofs.State.{sound-facts, holding-room}
@@ -30,12 +30,13 @@ call-room : (s : Day) (c : Call) → Room (s .terms) (s .counts) → Room (call 
 call-room s c h = call-elim (λ (o : Outcome). Room (o .day .terms) (o .day .counts)) s c (λ q. h) (go c)
   where
     go : (c : Call) → Yes (questions s c) → Room (result s c .day .terms) (result s c .day .counts)
-    go (open-plan pl) y = holding-room Filling pl 0 0 (λ i. fresh no-terms)
-    go (add-campaign t) y = holding-room Filling (s .plan) (s .count + 1) (s .accepted) (with-campaign s t)
+    go (open-plan pl) y = holding-room (head-of (empty-plan Filling pl)) (λ i. fresh no-terms)
+    go (add-campaign t) y = holding-room (head-joined s) (with-campaign s t)
     go start-day y = h
-    go (show-view w) y = holding-room Running (s .plan) (s .count) (s .accepted + 1) (shown s w)
+    go (show-view w) y = holding-room (head-shown s) (shown s w)
     go (ask-tally i) y = h
     go close-day y = h
+    go (mark-campaign b i) y = h
 
 -- only an opening changes the plan
 abbrev pub Keeps-plan : Call → Type 0
@@ -45,6 +46,7 @@ Keeps-plan start-day = Unit {0}
 Keeps-plan (show-view w) = Unit {0}
 Keeps-plan (ask-tally i) = Unit {0}
 Keeps-plan close-day = Unit {0}
+Keeps-plan (mark-campaign b i) = Unit {0}
 
 pub same-plan : (s : Day) (c : Call) → Keeps-plan c → call s c .day .plan ≡ s .plan
 same-plan s c k = call-elim (λ (o : Outcome). o .day .plan ≡ s .plan) s c (λ q. refl) (go c k)
@@ -56,6 +58,7 @@ same-plan s c k = call-elim (λ (o : Outcome). o .day .plan ≡ s .plan) s c (λ
     go (show-view w) k y = refl
     go (ask-tally i) k y = refl
     go close-day k y = refl
+    go (mark-campaign b i) k y = refl
 
 -- so its weights stay
 pub same-weights : (s : Day) (c : Call) (w : List ℕ) {o : Outcome} → Keeps-plan c → o ≡ call s c → Weights (s .plan) w

@@ -198,6 +198,7 @@ fn fed_of(moved: Moved, terms: [u32; 128], counts: [u16; 256], pending: [u8; LIN
         plan: plan,
         count: head.count,
         accepted: head.accepted,
+        paused: head.paused,
         terms: terms,
         counts: counts,
     };

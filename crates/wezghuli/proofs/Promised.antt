@@ -17,7 +17,7 @@ use Rattle.day.specs.Day.{state-of, sound}
 use Rattle.questions.specs.Questions.{Question, question}
 use Rattle.day.specs.Calls.{Call, call, number, answered, result, view-answer, offers, player, questions}
 use Rattle.questions.specs.Questions.{first-failed}
-use Rattle.day.specs.Calls.Call.{open-plan, add-campaign, start-day, show-view, ask-tally, close-day}
+use Rattle.day.specs.Calls.Call.{open-plan, add-campaign, start-day, show-view, ask-tally, close-day, mark-campaign}
 use Rattle.day.specs.Day as states
 use Rattle.noon.specs.Noon as noon
 use Rattle.lines.specs.declared.Record.{Record}
@@ -115,6 +115,7 @@ accepted-number s start-day = refl
 accepted-number s (show-view w) = told-number (offers s w) (player s w)
 accepted-number s (ask-tally i) = refl
 accepted-number s close-day = refl
+accepted-number s (mark-campaign b i) = refl
 
 -- questions with numbers below 100, and the first of them that fails
 data Low : List Question → Type 0 where
@@ -139,6 +140,7 @@ low s (show-view w) =
     (then 13 (omega arith) (then 14 (omega arith) none))))
 low s (ask-tally i) = then 1 (omega arith) (then 15 (omega arith) none)
 low s close-day = then 1 (omega arith) (then 11 (omega arith) none)
+low s (mark-campaign b i) = then 1 (omega arith) (then 11 (omega arith) (then 15 (omega arith) none))
 
 answer-small : (q : ℕ) (s : Day) (o : Outcome) → q < 100 → number (o .answer) ≡ 0 →
     number (answered q s o .answer) < 100

@@ -1,4 +1,4 @@
-// The blank state and the six operations, on a state in lent memory.
+// The blank state and the eight operations, on a state in lent memory.
 use campaigns::Plan;
 use campaigns::Terms;
 use campaigns::View;
@@ -12,7 +12,8 @@ use encoding::number_of;
 ghost use mathlib.Core.Path.{_≡_};
 ghost use Rattle.day.specs.Day.{blank};
 ghost use Rattle.day.specs.Calls.{number};
-ghost use Rattle.day.specs.Calls.Call.{start-day, ask-tally, close-day};
+ghost use Rattle.day.specs.Calls.Call.{start-day, ask-tally, close-day, mark-campaign};
+ghost use mathlib.Core.Bool.{true, false};
 ghost use Rattle.day.specs.Day.{head-of};
 ghost use Rattle.encoding.specs.Encoding.{head-words, answer-after};
 ghost use Rattle.wezghuli.specs.Library.{opening, adding, showing, memory, after, status};
@@ -20,7 +21,7 @@ ghost use Rattle.wezghuli.specs.Library.{opening, adding, showing, memor
 // The blank state: Closed, depth 1, width 1, no campaigns.
 #[no_mangle]
 pub extern "C" fn wezghuli_blank<'a>(
-    head: &'a mut [u64; 6],
+    head: &'a mut [u64; 7],
     terms: &'a mut [u32; 128],
     counts: &'a mut [u16; 256],
 )
@@ -34,7 +35,7 @@ pub extern "C" fn wezghuli_blank<'a>(
 }
 
 // The head and the answer of a step, written; its status. A refusal leaves the answer as it was.
-fn store<'a>(step: Step, head: &'a mut [u64; 6], answer: &'a mut [u64; 5]) -> u64
+fn store<'a>(step: Step, head: &'a mut [u64; 7], answer: &'a mut [u64; 5]) -> u64
     ensures { λ r. ⌜ (r ≡ number (step .answer)) × (now (head .exit) ≡ head-words (step .head))
         × (now (answer .exit) ≡ answer-after (step .answer) (now (answer .entry))) ⌝ }
 {
@@ -49,7 +50,7 @@ fn store<'a>(step: Step, head: &'a mut [u64; 6], answer: &'a mut [u64; 5]) -> u6
 // Opens a plan, with no campaigns, in Filling.
 #[no_mangle]
 pub extern "C" fn wezghuli_open<'a>(
-    head: &'a mut [u64; 6],
+    head: &'a mut [u64; 7],
     terms: &'a mut [u32; 128],
     counts: &'a mut [u16; 256],
     depth: u64,
@@ -76,7 +77,7 @@ pub extern "C" fn wezghuli_open<'a>(
 // Adds a campaign, with zero counts.
 #[no_mangle]
 pub extern "C" fn wezghuli_add<'a>(
-    head: &'a mut [u64; 6],
+    head: &'a mut [u64; 7],
     terms: &'a mut [u32; 128],
     counts: &'a mut [u16; 256],
     price: u64,
@@ -103,7 +104,7 @@ pub extern "C" fn wezghuli_add<'a>(
 // Starts the day: no campaign is added from now on.
 #[no_mangle]
 pub extern "C" fn wezghuli_start<'a>(
-    head: &'a mut [u64; 6],
+    head: &'a mut [u64; 7],
     terms: &'a mut [u32; 128],
     counts: &'a mut [u16; 256],
     answer: &'a mut [u64; 5],
@@ -124,7 +125,7 @@ pub extern "C" fn wezghuli_start<'a>(
 // Shows a view, bit i of the set naming campaign i: who plays, and what is paid.
 #[no_mangle]
 pub extern "C" fn wezghuli_view<'a>(
-    head: &'a mut [u64; 6],
+    head: &'a mut [u64; 7],
     terms: &'a mut [u32; 128],
     counts: &'a mut [u16; 256],
     set: u64,
@@ -146,7 +147,7 @@ pub extern "C" fn wezghuli_view<'a>(
 // The four counts of a campaign; the state stays.
 #[no_mangle]
 pub extern "C" fn wezghuli_tally<'a>(
-    head: &'a mut [u64; 6],
+    head: &'a mut [u64; 7],
     terms: &'a mut [u32; 128],
     counts: &'a mut [u16; 256],
     campaign: u64,
@@ -168,7 +169,7 @@ pub extern "C" fn wezghuli_tally<'a>(
 // Closes the day with its takings, total claim and full.
 #[no_mangle]
 pub extern "C" fn wezghuli_close<'a>(
-    head: &'a mut [u64; 6],
+    head: &'a mut [u64; 7],
     terms: &'a mut [u32; 128],
     counts: &'a mut [u16; 256],
     answer: &'a mut [u64; 5],
@@ -183,5 +184,49 @@ pub extern "C" fn wezghuli_close<'a>(
         return STATUS_NO_HEAD;
     }
     let step = day::in_place::close(head_of(head), terms, counts);
+    store(step, head, answer)
+}
+
+// Pauses a campaign: it is as one that no view names, until it is resumed.
+#[no_mangle]
+pub extern "C" fn wezghuli_pause<'a>(
+    head: &'a mut [u64; 7],
+    terms: &'a mut [u32; 128],
+    counts: &'a mut [u16; 256],
+    campaign: u64,
+    answer: &'a mut [u64; 5],
+) -> u64
+    ensures { λ r. ⌜ r ≡ status (mark-campaign true campaign)
+        (memory (now (head .entry)) (now (terms .entry)) (now (counts .entry)) (now (answer .entry))) ⌝ }
+    ensures { λ _. ⌜ memory (now (head .exit)) (now (terms .exit)) (now (counts .exit)) (now (answer .exit))
+        ≡ after (mark-campaign true campaign)
+        (memory (now (head .entry)) (now (terms .entry)) (now (counts .entry)) (now (answer .entry))) ⌝ }
+{
+    if !is_head(head) {
+        return STATUS_NO_HEAD;
+    }
+    let step = day::in_place::pause(head_of(head), campaign, terms, counts);
+    store(step, head, answer)
+}
+
+// Resumes a campaign.
+#[no_mangle]
+pub extern "C" fn wezghuli_resume<'a>(
+    head: &'a mut [u64; 7],
+    terms: &'a mut [u32; 128],
+    counts: &'a mut [u16; 256],
+    campaign: u64,
+    answer: &'a mut [u64; 5],
+) -> u64
+    ensures { λ r. ⌜ r ≡ status (mark-campaign false campaign)
+        (memory (now (head .entry)) (now (terms .entry)) (now (counts .entry)) (now (answer .entry))) ⌝ }
+    ensures { λ _. ⌜ memory (now (head .exit)) (now (terms .exit)) (now (counts .exit)) (now (answer .exit))
+        ≡ after (mark-campaign false campaign)
+        (memory (now (head .entry)) (now (terms .entry)) (now (counts .entry)) (now (answer .entry))) ⌝ }
+{
+    if !is_head(head) {
+        return STATUS_NO_HEAD;
+    }
+    let step = day::in_place::resume(head_of(head), campaign, terms, counts);
     store(step, head, answer)
 }

@@ -11,7 +11,7 @@ ghost use Rattle.wezghuli.specs.Library.{noon-status, figures-after};
 // Full, the total claim and the floor's figure; the state stays, and a refusal leaves the figures as they were.
 #[no_mangle]
 pub extern "C" fn wezghuli_noon<'a>(
-    head: &'a [u64; 6],
+    head: &'a [u64; 7],
     terms: &'a [u32; 128],
     counts: &'a [u16; 256],
     figures: &'a mut [u64; 3],

@@ -12,7 +12,7 @@ ghost use Rattle.wezghuli.specs.Search.{search-status, Search-leaves, ch
 // An allotment of the views with the greatest takings, with a figure for each campaign and for each view.
 #[no_mangle]
 pub extern "C" fn wezghuli_search<'a>(
-    head: &'a [u64; 6],
+    head: &'a [u64; 7],
     terms: &'a [u32; 128],
     counts: &'a [u16; 256],
     views: &'a [u64],
@@ -46,7 +46,7 @@ pub extern "C" fn wezghuli_search<'a>(
 // Is this an allotment with figures that fit it, and so one with the greatest takings?
 #[no_mangle]
 pub extern "C" fn wezghuli_check<'a>(
-    head: &'a [u64; 6],
+    head: &'a [u64; 7],
     terms: &'a [u32; 128],
     counts: &'a [u16; 256],
     views: &'a [u64],

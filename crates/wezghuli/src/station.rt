@@ -10,7 +10,7 @@ ghost use Rattle.wezghuli.specs.Library.{page-lent, page-status, page-af
 // Prints the page at the front of out, and its length; a refusal leaves both as they were.
 #[no_mangle]
 pub extern "C" fn wezghuli_page<'a>(
-    head: &'a [u64; 6],
+    head: &'a [u64; 7],
     terms: &'a [u32; 128],
     counts: &'a [u16; 256],
     out: &'a mut [u8],

@@ -17,7 +17,7 @@ ghost use Rattle.encoding.specs.Encoding.{head-words, stream-words};
 ghost use Rattle.wezghuli.specs.Library.{lent, stream-status, status-in, feed-after, finish-after};
 
 // What the lent memory is not, or that it is a state and a stream with room for the longest answer.
-fn status(head: &[u64; 6], words: &[u64; 3], room: usize) -> u64
+fn status(head: &[u64; 7], words: &[u64; 3], room: usize) -> u64
     ensures { λ r. ⌜ r ≡ stream-status (now (head .entry)) (now (words .entry)) room ⌝ }
 {
     if !is_head(head) {
@@ -33,7 +33,7 @@ fn status(head: &[u64; 6], words: &[u64; 3], room: usize) -> u64
 }
 
 // What a stream has become, written.
-fn store(moved: Moved, head: &mut [u64; 6], words: &mut [u64; 3])
+fn store(moved: Moved, head: &mut [u64; 7], words: &mut [u64; 3])
     ensures { λ _. ⌜ (now (head .exit) ≡ head-words (moved .head))
         × (now (words .exit) ≡ stream-words (moved .kept) (moved .consumed) (moved .written)) ⌝ }
 {
@@ -50,7 +50,7 @@ fn store(moved: Moved, head: &mut [u64; 6], words: &mut [u64; 3])
 // longest answer, and the rest is kept.
 #[no_mangle]
 pub extern "C" fn wezghuli_feed<'a>(
-    head: &mut [u64; 6],
+    head: &mut [u64; 7],
     terms: &'a mut [u32; 128],
     counts: &'a mut [u16; 256],
     pending: &mut [u8; 201],
@@ -77,7 +77,7 @@ pub extern "C" fn wezghuli_feed<'a>(
 // The end of input: a last line without byte 10 counts if it has bytes.
 #[no_mangle]
 pub extern "C" fn wezghuli_finish<'a>(
-    head: &mut [u64; 6],
+    head: &mut [u64; 7],
     terms: &'a mut [u32; 128],
     counts: &'a mut [u16; 256],
     pending: &mut [u8; 201],

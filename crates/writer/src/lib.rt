@@ -52,6 +52,8 @@ fn size_of(r: Record) -> Size
             .slot(b'N', turns)
             .slot(b'N', plays)
             .slot(b'C', campaign),
+        Record::Pause(campaign) => Size::fixed(9).slot(b'C', campaign),
+        Record::Resume(campaign) => Size::fixed(10).slot(b'C', campaign),
     }
 }
 
@@ -150,6 +152,8 @@ fn put_record(r: Record, out: &mut [u8], to: usize) -> usize
             age,
             named,
         } => put_tally(out, to, campaign, plays, turns, age, named),
+        Record::Pause(campaign) => put_one(out, to, b"(pause ", b'C', campaign),
+        Record::Resume(campaign) => put_one(out, to, b"(resume ", b'C', campaign),
     }
 }
 

@@ -87,6 +87,27 @@ fn some_view(random: &mut Random, width: u64, count: u64) -> u64 {
     (0..names).fold(0, |set, _| set | 1 << random.below(count))
 }
 
+/// Pauses or resumes a random campaign now and then; `paused` follows.
+fn meddle(random: &mut Random, day: Day, paused: &mut u64) -> Day {
+    let n = random.below(day.count);
+    match random.below(10) {
+        0 => {
+            *paused |= 1 << n;
+            ok(day.pause(n))
+        }
+        1 | 2 => {
+            *paused &= !(1 << n);
+            ok(day.resume(n))
+        }
+        _ => day,
+    }
+}
+
+/// A random view of at most `width` unpaused campaigns and any paused ones.
+fn mixed_view(random: &mut Random, day: &Day, paused: u64) -> u64 {
+    some_view(random, day.width, day.count) | paused & random.next()
+}
+
 #[test]
 fn answers_follow_the_paper() {
     let mut random = Random(41);
@@ -95,11 +116,13 @@ fn answers_follow_the_paper() {
         let (depth, campaigns) = plan(&mut random, width);
         let mut paper = Paper::new(depth, width, &campaigns);
         let mut day = running(depth, width, &campaigns);
+        let mut paused = 0;
         for _ in 0..random.within(1, 400) {
-            let set = some_view(&mut random, width, campaigns.len() as u64);
+            day = meddle(&mut random, day, &mut paused);
+            let set = mixed_view(&mut random, &day, paused);
             let (next, answer) = day.view(set);
             day = next;
-            let expected = match paper.view(set) {
+            let expected = match paper.view(set & !paused) {
                 Some(i) => play(i as u64, campaigns[i].0),
                 None => Answer::Nobody,
             };
@@ -127,30 +150,41 @@ fn best_allotment(views: &[u64], prices: &[u64], plays_left: &mut [u64]) -> u64 
     best
 }
 
-/// A small day's views, its takings and whether all its campaigns were fed.
-fn check_floor(random: &mut Random) -> bool {
-    let (depth, width) = (random.within(1, 3), random.within(1, 3));
-    let count = random.within(1, 3);
-    let plan: Vec<(u64, u64)> = (0..count)
+/// A plan of one to three campaigns that buy one or two plays each.
+fn small_plan(random: &mut Random) -> Vec<(u64, u64)> {
+    (0..random.within(1, 3))
         .map(|_| {
             let price = random.within(1, 9);
             (price, price * random.within(1, 2))
         })
-        .collect();
-    let mut day = running(depth, width, &plan);
-    let mut takings = 0;
-    let length = random.within(1, 8);
-    let views: Vec<u64> = (0..length)
-        .map(|_| some_view(random, width, count))
-        .collect();
-    for &view in &views {
-        let (next, answer) = day.view(view);
+        .collect()
+}
+
+/// Some views, pauses and resumes: the views as their sets of unpaused names,
+/// and the sum paid.
+fn small_day(random: &mut Random, mut day: Day) -> (Vec<u64>, u64) {
+    let (mut views, mut takings, mut paused) = (Vec::new(), 0, 0);
+    for _ in 0..random.within(1, 8) {
+        day = meddle(random, day, &mut paused);
+        let set = mixed_view(random, &day, paused);
+        views.push(set & !paused);
+        let (next, answer) = day.view(set);
         day = next;
         if let Answer::Play { paid, .. } = answer {
             takings += paid;
         }
     }
     assert_eq!(day.ledger().unwrap().takings, takings);
+    assert_eq!(day.views, views.len() as u64);
+    (views, takings)
+}
+
+/// Holds a small day against its floor; whether the floor was above 0. A
+/// campaign is used and counted only on views that found it unpaused.
+fn check_floor(random: &mut Random) -> bool {
+    let (depth, width) = (random.within(1, 3), random.within(1, 3));
+    let plan = small_plan(random);
+    let (views, takings) = small_day(random, running(depth, width, &plan));
     let named = |i: usize| views.iter().filter(|&v| v >> i & 1 == 1).count() as u64;
     let is_fed = |i: usize| named(i) >= depth * (plan[i].1 / plan[i].0);
     let prices: Vec<u64> = plan.iter().map(|&(price, _)| price).collect();
@@ -187,8 +221,8 @@ fn input(random: &mut Random, day: &Day) -> Record {
     let kind = match day.phase {
         Phase::Closed(_) if fitting => 0,
         Phase::Filling if fitting => random.pick(&[1, 1, 1, 1, 2]),
-        Phase::Running if fitting && random.below(60) > 0 => 3,
-        _ => random.below(6),
+        Phase::Running if fitting && random.below(60) > 0 => random.pick(&[3, 3, 3, 5, 6, 6]),
+        _ => random.below(8),
     };
     match kind {
         0 => Record::Plan {
@@ -202,6 +236,8 @@ fn input(random: &mut Random, day: &Day) -> Record {
         2 => Record::Start,
         3 => Record::View(some_view(random, day.width, day.count + 1)),
         4 => Record::Close,
+        5 => Record::Pause(random.below(day.count + 2).min(63)),
+        6 => Record::Resume(random.below(day.count + 2).min(63)),
         _ => Record::Output(Answer::Ok),
     }
 }
@@ -213,6 +249,8 @@ fn perform(day: Day, record: Record) -> (Day, Answer) {
         Record::Campaign { price, budget } => day.add(price, budget),
         Record::Start => day.start(),
         Record::View(set) => day.view(set),
+        Record::Pause(n) => day.pause(n),
+        Record::Resume(n) => day.resume(n),
         Record::Close => day.close(),
         Record::Output(_) => (day, Answer::Refused(17)),
     }
@@ -263,10 +301,13 @@ fn views_keep_their_rules() {
         let width = random.within(1, 16);
         let (depth, campaigns) = plan(&mut random, width);
         let mut day = running(depth, width, &campaigns);
+        let mut paused = 0;
         for _ in 0..100 {
-            let set = some_view(&mut random, width, day.count);
+            day = meddle(&mut random, day, &mut paused);
+            assert_eq!(day.paused, paused);
+            let set = mixed_view(&mut random, &day, paused);
             let (next, answer) = day.clone().view(set);
-            check_counts(&day, &next, set, answer);
+            check_counts(&day, &next, set & !paused, answer);
             day = next;
         }
         let (closed, _) = day.close();
@@ -277,6 +318,7 @@ fn views_keep_their_rules() {
 /// Rules 2 to 4, campaign by campaign.
 fn check_counts(before: &Day, after: &Day, set: u64, answer: Answer) {
     assert_eq!(after.views, before.views + 1);
+    assert_eq!(after.paused, before.paused);
     for (i, (old, new)) in before.campaigns.iter().zip(&after.campaigns).enumerate() {
         let mut expected = *old;
         let is_named = set >> i & 1 == 1;

@@ -111,6 +111,70 @@ fn view_of_nobody_is_counted_and_changes_nothing_else() {
 }
 
 #[test]
+fn paused_campaign_is_treated_as_not_named() {
+    let day = ok(running(2, 2, &[(5, 10), (3, 6)]).pause(0));
+    let (day, answer) = day.view(0b11);
+    assert_eq!(answer, play(1, 3));
+    assert_eq!(day.campaigns[0], entry(5, 10, [0, 0, 0, 0]));
+    assert_eq!(day.campaigns[1], entry(3, 6, [1, 1, 0, 1]));
+    let (day, answer) = day.view(0b01);
+    assert_eq!(answer, Answer::Nobody);
+    assert_eq!(day.campaigns[0], entry(5, 10, [0, 0, 0, 0]));
+    assert_eq!(day.views, 2);
+    let (day, answer) = ok(day.resume(0)).view(0b11);
+    assert_eq!(answer, play(0, 5));
+    assert_eq!(day.campaigns[0], entry(5, 10, [1, 1, 0, 1]));
+    assert_eq!(day.campaigns[1], entry(3, 6, [1, 1, 1, 2]));
+}
+
+#[test]
+fn a_pause_keeps_the_age() {
+    let (day, _) = running(3, 2, &[(5, 10), (3, 6)]).view(0b11);
+    assert_eq!(day.campaigns[1].age, 1);
+    let (day, _) = ok(day.pause(1)).view(0b11);
+    assert_eq!(day.campaigns[1], entry(3, 6, [0, 0, 1, 1]));
+    let (day, _) = ok(day.resume(1)).view(0b10);
+    assert_eq!(day.campaigns[1], entry(3, 6, [1, 1, 0, 2]));
+}
+
+#[test]
+fn marks_are_set_and_cleared_also_twice() {
+    let day = running(2, 2, &[(1, 1); 64]);
+    assert_eq!(day.paused, 0);
+    for n in [0, 1, 31, 32, 63] {
+        let once = ok(day.clone().pause(n));
+        assert_eq!(once.paused, 1 << n);
+        assert_eq!(ok(once.clone().pause(n)), once);
+        let cleared = ok(once.resume(n));
+        assert_eq!(cleared, day);
+        assert_eq!(ok(cleared.resume(n)), day);
+    }
+    let all = (0..64).fold(day, |day, n| ok(day.pause(n)));
+    assert_eq!(all.paused, u64::MAX);
+    // All are named and paused: accepted and counted, whatever the width.
+    let (after, answer) = all.clone().view(u64::MAX);
+    assert_eq!((answer, after.views), (Answer::Nobody, 1));
+    assert_eq!(after.campaigns, all.campaigns);
+}
+
+#[test]
+fn marks_stay_at_closing_and_end_at_opening() {
+    let day = ok(running(2, 2, &[(5, 10), (3, 6)]).pause(1));
+    let (closed, _) = day.close();
+    assert_eq!(closed.paused, 0b10);
+    assert!(closed.is_sound());
+    assert_eq!(ok(closed.open(2, 2)), filling(2, 2, &[]));
+}
+
+#[test]
+fn spent_campaigns_can_be_paused() {
+    let (day, _) = running(2, 2, &[(5, 5)]).view(1);
+    let (day, answer) = ok(day.pause(0)).view(1);
+    assert_eq!(answer, Answer::Nobody);
+    assert_eq!(day.campaigns[0].named, 1);
+}
+
+#[test]
 fn equal_scores_go_to_the_lower_number() {
     let (day, answer) = running(2, 2, &[(4, 8), (4, 8)]).view(0b11);
     assert_eq!(answer, play(0, 4));
@@ -169,6 +233,7 @@ fn blank_state() {
     assert!(day.is_sound());
     assert_eq!(day.phase, Phase::Closed(0));
     assert_eq!((day.depth, day.width, day.count, day.views), (1, 1, 0, 0));
+    assert_eq!(day.paused, 0);
     assert!(day.campaigns.iter().all(|c| *c == entry(0, 0, [0; 4])));
 }
 

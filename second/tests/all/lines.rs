@@ -1,4 +1,4 @@
-//! The eleven forms, read and written.
+//! The thirteen forms, read and written.
 
 use crate::common::{play, Random};
 use second::lines::{append, read, write, MAX_LINE};
@@ -55,7 +55,7 @@ fn no_form(text: impl AsRef<[u8]>) {
 }
 
 #[test]
-fn forms() {
+fn input_forms() {
     pair("(plan (depth 2) (width 2))", plan(2, 2));
     pair("(plan (depth 0) (width 4294967295))", plan(0, U32));
     pair("(plan (depth 4294967296) (width 0))", plan(U32 + 1, 0));
@@ -80,7 +80,15 @@ fn forms() {
     pair("(view 0)", Record::View(1));
     pair("(view 0 1)", Record::View(0b11));
     pair("(view 9 10 63)", Record::View(1 << 9 | 1 << 10 | 1 << 63));
+    pair("(pause 0)", Record::Pause(0));
+    pair("(pause 63)", Record::Pause(63));
+    pair("(resume 0)", Record::Resume(0));
+    pair("(resume 63)", Record::Resume(63));
     pair("(close)", Record::Close);
+}
+
+#[test]
+fn output_forms() {
     pair("(ok)", Record::Output(Answer::Ok));
     pair("(play 0 (paid 5))", Record::Output(play(0, 5)));
     pair("(play 63 (paid 4294967295))", Record::Output(play(63, U32)));
@@ -143,6 +151,16 @@ fn numbers_one_beyond() {
     no_form("(view 4294967295)");
     no_form("(view 999999999999)");
     no_form("(view 18446744073709551616)");
+    for number in [
+        "64",
+        "100",
+        "4294967295",
+        "999999999999",
+        "18446744073709551616",
+    ] {
+        no_form(format!("(pause {number})"));
+        no_form(format!("(resume {number})"));
+    }
     no_form("(play 64 (paid 1))");
     no_form("(play 0 (paid 4294967296))");
     no_form("(refused 0)");
@@ -200,6 +218,8 @@ fn numerals() {
     ] {
         no_form(format!("(plan (depth {numeral}) (width 1))"));
         no_form(format!("(view {numeral})"));
+        no_form(format!("(pause {numeral})"));
+        no_form(format!("(resume {numeral})"));
         no_form(format!("(refused {numeral})"));
     }
     no_form("(view 0 01)");
@@ -220,6 +240,9 @@ fn spaces() {
     no_form("(plan(depth 2) (width 2))");
     no_form("(plan (depth 2) (width 2) )");
     no_form("(plan (depth2) (width 2))");
+    no_form("(pause  0)");
+    no_form("(pause 0 )");
+    no_form("(pause0)");
     no_form("(view  0)");
     no_form("(view 0  1)");
     no_form("(view 0 )");
@@ -242,6 +265,13 @@ fn words() {
     no_form("(star)");
     no_form("(stop)");
     no_form("(views 0)");
+    no_form("(pause)");
+    no_form("(resume)");
+    no_form("(pause 0 1)");
+    no_form("(resume 0 1)");
+    no_form("(pause (campaign 0))");
+    no_form("(Pause 0)");
+    no_form("(paused 0)");
     no_form("(closed)");
     no_form("(close 0)");
     no_form("(close (takings 0) (claim 0) (full 0))");
@@ -302,6 +332,7 @@ fn out_of_range() -> Vec<Record> {
     }
     for big in [U32 + 1, TWELVE, u64::MAX] {
         records.extend([Record::Output(play(0, big)), Record::Output(play(big, 0))]);
+        records.extend([Record::Pause(big), Record::Resume(big)]);
         records.push(tally(big, [0; 4]));
         records.extend(
             (0..4).map(|i| tally(0, std::array::from_fn(|j| if i == j { big } else { 0 }))),
@@ -309,6 +340,7 @@ fn out_of_range() -> Vec<Record> {
         records.push(Record::Output(Answer::Refused(big)));
     }
     records.extend([Record::Output(play(64, 0)), tally(64, [0; 4])]);
+    records.extend([Record::Pause(64), Record::Resume(64)]);
     records.extend([0, 19].map(|n| Record::Output(Answer::Refused(n))));
     records
 }
@@ -354,7 +386,7 @@ fn writing_to_every_buffer_length() {
 
 /// A random record with all numbers in range.
 fn record(random: &mut Random) -> Record {
-    match random.below(11) {
+    match random.below(13) {
         0 => plan(random.edged(TWELVE), random.edged(TWELVE)),
         1 => campaign(random.edged(TWELVE), random.edged(TWELVE)),
         2 => Record::Start,
@@ -369,6 +401,8 @@ fn record(random: &mut Random) -> Record {
             random.edged(u64::MAX),
             random.edged(u64::MAX),
         ),
+        10 => Record::Pause(random.below(64)),
+        11 => Record::Resume(random.below(64)),
         _ => tally(random.below(64), std::array::from_fn(|_| random.edged(U32))),
     }
 }

@@ -1,8 +1,8 @@
 //! The station's page.
 
-use crate::common::{entry, filling, running, Random, LISTING};
+use crate::common::{entry, filling, ok, play, running, Random, LISTING};
 use second::page::{write, LINE, MAX_PAGE};
-use second::{Day, Phase};
+use second::{Answer, Day, Phase};
 use std::io::Write;
 use std::process::{Command, Stdio};
 
@@ -133,19 +133,122 @@ fn every_buffer_length() {
     }
 }
 
+/// A day with views before and during pauses: campaign 0 plays and is then
+/// paused for two views that name it, campaign 2 is paused all along.
+fn with_pauses() -> Day {
+    let day = running(2, 2, &[(5, 10), (3, 6), (100, 100)]);
+    let (day, answer) = ok(day.pause(2)).view(0b011);
+    assert_eq!(answer, play(0, 5));
+    let (day, answer) = ok(day.pause(0)).view(0b111);
+    assert_eq!(answer, play(1, 3));
+    let (day, answer) = ok(day.pause(0)).view(0b101);
+    assert_eq!(answer, Answer::Nobody);
+    assert_eq!((day.paused, day.views), (0b101, 3));
+    day
+}
+
+/// Named counts the views that found the campaign unpaused.
+const PAUSED_PAGE: &str = concat!(
+    "  0     1       0.05          0.05     1\n",
+    "  1     1       0.03          0.03     2\n",
+    "  2     0       1.00          0.00     0\n",
+    "total                         0.08      \n",
+);
+
+#[test]
+fn paused_campaigns_keep_their_lines_and_marks_do_not_show() {
+    let running = with_pauses();
+    let (closed, _) = running.clone().close();
+    assert_eq!(closed.phase, Phase::Closed(8));
+    assert_eq!(page(&running), PAUSED_PAGE);
+    assert_eq!(page(&closed), PAUSED_PAGE);
+    // No set of marks moves a byte of the page, in either phase.
+    for paused in 0..8 {
+        for day in [&running, &closed] {
+            let marked = Day {
+                paused,
+                ..day.clone()
+            };
+            assert_eq!(page(&marked), PAUSED_PAGE, "{paused:b}");
+        }
+    }
+}
+
+#[test]
+fn page_after_a_resume() {
+    let day = ok(with_pauses().resume(0));
+    assert_eq!(page(&day), PAUSED_PAGE);
+    let (day, answer) = day.view(0b101);
+    assert_eq!(answer, play(0, 5));
+    let expected = PAUSED_PAGE
+        .replace(
+            "0     1       0.05          0.05     1",
+            "0     2       0.05          0.10     2",
+        )
+        .replace("0.08", "0.13");
+    assert_eq!(page(&day), expected);
+}
+
+#[test]
+fn page_of_a_full_plan_all_paused() {
+    let day = running(8, 16, &[(1, 31_250_000); 64]);
+    let text = page(&day);
+    let paused = (0..64).fold(day, |day, n| ok(day.pause(n)));
+    assert_eq!(paused.paused, u64::MAX);
+    assert_eq!(page(&paused), text);
+    // A view of all of them is accepted and names none.
+    let (viewed, answer) = paused.view(u64::MAX);
+    assert_eq!((answer, viewed.views), (Answer::Nobody, 1));
+    assert_eq!(page(&viewed), text);
+    assert_eq!(text.len(), MAX_PAGE);
+}
+
+/// The page gives 1 for any buffer, which keeps its bytes.
+#[track_caller]
+fn refused_first(day: &Day) {
+    for length in [0, LINE - 1, LINE, 122, 123, 4_000] {
+        let mut buffer = vec![7; length];
+        assert_eq!(write(day, &mut buffer), Err(1), "{:b}", day.paused);
+        assert!(buffer.iter().all(|&b| b == 7));
+    }
+}
+
 #[test]
 fn unsound_states_are_refused_first() {
     let mut states = [listed(), listed(), listed()];
     states[0].phase = Phase::Closed(17);
     states[1].count = u64::MAX;
     states[2].campaigns[0].plays = u64::MAX;
-    for day in states {
-        for length in [0, 122, 123, 4_000] {
-            let mut buffer = vec![7; length];
-            assert_eq!(write(&day, &mut buffer), Err(1));
-            assert!(buffer.iter().all(|&b| b == 7));
-        }
+    states.iter().for_each(refused_first);
+}
+
+/// The marks and nothing else decide: without them the state has its page,
+/// and with them it is refused.
+#[track_caller]
+fn refused_for_its_marks(mut day: Day, marks: &[u64]) {
+    page(&day);
+    for &paused in marks {
+        day.paused = paused;
+        refused_first(&day);
     }
+}
+
+#[test]
+fn unsound_marks_are_refused_first() {
+    // In Filling any mark, of a campaign in the plan or past the last.
+    let marks = [0b01, 0b10, 0b11, 0b100, 1 << 63, u64::MAX];
+    refused_for_its_marks(filling(2, 2, &[(5, 10), (3, 6)]), &marks);
+    let full = filling(8, 16, &[(1, 31_250_000); 64]);
+    refused_for_its_marks(full, &[1, 1 << 63, u64::MAX]);
+    // Later a mark past the last, alone or beside marks of the plan.
+    let beyond = [0b100, 0b111, 1 << 31, 1 << 32, 1 << 63, u64::MAX];
+    refused_for_its_marks(running(2, 2, &[(5, 10), (3, 6)]), &beyond);
+    refused_for_its_marks(listed(), &beyond);
+    for day in [Day::blank(), filling(2, 2, &[]), running(2, 2, &[])] {
+        refused_for_its_marks(day, &[1, 2, 1 << 63, u64::MAX]);
+    }
+    let most = running(8, 16, &[(1, 1); 63]);
+    refused_for_its_marks(most, &[1 << 63, u64::MAX]);
 }
 
 /// Number, plays, price, paid and named of each campaign, then the takings.
@@ -181,8 +284,9 @@ fn figures(day: &Day) -> Figures {
     ((0..day.count as usize).map(row).collect(), takings)
 }
 
-/// A random day of up to 64 campaigns.
-fn some_day(random: &mut Random) -> Day {
+/// A random day of up to 64 campaigns, some of them paused for a while, and how
+/// many views found each campaign named and unpaused.
+fn some_day(random: &mut Random) -> (Day, [u64; 64]) {
     let count = random.pick(&[1, 2, 9, 10, 11, 64]);
     let dearest = random.pick(&[1, 20, 300, 500_000]);
     let campaigns: Vec<(u64, u64)> = (0..count)
@@ -192,20 +296,32 @@ fn some_day(random: &mut Random) -> Day {
         })
         .collect();
     let mut day = running(8, 16, &campaigns);
+    let (mut paused, mut named) = ([false; 64], [0; 64]);
     for _ in 0..random.below(300) {
+        let (n, mark) = (random.below(count), random.below(2) == 0);
+        day = ok(if mark { day.pause(n) } else { day.resume(n) });
+        paused[n as usize] = mark;
         let set = (0..16).fold(0, |set, _| set | 1 << random.below(count));
         day = day.view(set).0;
+        for i in (0..64).filter(|&i| set >> i & 1 == 1 && !paused[i]) {
+            named[i] += 1;
+        }
     }
-    day
+    (day, named)
 }
 
 #[test]
 fn figures_are_read_back() {
     let mut random = Random(51);
+    let mut with_marks = 0;
     for _ in 0..2_000 {
-        let day = some_day(&mut random);
-        assert_eq!(read_back(&page(&day)), figures(&day));
+        let (day, named) = some_day(&mut random);
+        let (rows, takings) = read_back(&page(&day));
+        assert!(rows.iter().zip(named).all(|(row, named)| row[4] == named));
+        assert_eq!((rows, takings), figures(&day));
+        with_marks += u64::from(day.paused != 0);
     }
+    assert!(with_marks > 1_000, "{with_marks}");
 }
 
 #[test]
@@ -219,4 +335,19 @@ fn program_prints_the_page_at_the_end() {
     let next = format!("{LISTING}(plan (depth 1) (width 1))\n(campaign (price 250) (budget 250))");
     let expected = format!("  0     0       2.50          0.00     0\n{BLANK_PAGE}");
     assert_eq!(printed(next.as_bytes()), expected);
+}
+
+#[test]
+fn program_prints_the_page_of_paused_campaigns() {
+    let day = "(plan (depth 2) (width 2))\n(campaign (price 5) (budget 10))\n\
+        (campaign (price 3) (budget 6))\n(campaign (price 100) (budget 100))\n(start)\n\
+        (pause 2)\n(view 0 1)\n(pause 0)\n(view 0 1 2)\n(pause 0)\n(pause 3)\n(view 0 2)\n";
+    assert_eq!(printed(day.as_bytes()), PAUSED_PAGE);
+    for end in [
+        "(close)",
+        "(resume 0)\n(resume 2)",
+        "(pause 1)\n(close)\n(resume 0)",
+    ] {
+        assert_eq!(printed(format!("{day}{end}\n").as_bytes()), PAUSED_PAGE);
+    }
 }

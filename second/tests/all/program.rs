@@ -34,6 +34,13 @@ fn check(input: impl AsRef<[u8]>, expected: impl AsRef<[u8]>) {
     }
 }
 
+/// Each line with its answers.
+#[track_caller]
+fn dialogue(exchanges: &[(&str, &str)]) {
+    let (lines, answers): (Vec<&str>, Vec<&str>) = exchanges.iter().copied().unzip();
+    check(lines.join("\n"), answers.join("\n") + "\n");
+}
+
 #[test]
 fn listing() {
     check(LISTING, LISTING_ANSWERS);
@@ -116,58 +123,36 @@ fn line_ends_of_other_systems() {
 
 #[test]
 fn every_refusal_a_line_can_get() {
-    let input = "\
-(plan (depth 0) (width 1))
-(plan (depth 1) (width 0))
-(plan (depth 9) (width 16))
-(start)
-(close)
-(plan (depth 2) (width 2))
-(plan (depth 2) (width 2))
-(campaign (price 0) (budget 1))
-(campaign (price 2) (budget 1))
-(campaign (price 1) (budget 2000000000))
-(campaign (price 1) (budget 1))
-(view 0)
-(start)
-(view 1)
-(view)
-(campaign (price 1) (budget 1))
-(close)
-(plan (depth 1) (width 1))
-(campaign (price 1) (budget 1))
-(campaign (price 1) (budget 1))
-(start)
-(view 0 1)
-(view 64)
-";
-    let expected = "\
-(refused 3)
-(refused 4)
-(refused 5)
-(refused 6)
-(refused 11)
-(ok)
-(refused 2)
-(refused 8)
-(refused 9)
-(ok)
-(refused 10)
-(refused 11)
-(ok)
-(refused 13)
-(nobody)
-(refused 6)
-(closed (takings 0) (claim 0) (full 0))
-(tally 0 (plays 0) (turns 0) (age 0) (named 0))
-(ok)
-(ok)
-(ok)
-(ok)
-(refused 14)
-(refused 17)
-";
-    check(input, expected);
+    dialogue(&[
+        ("(plan (depth 0) (width 1))", "(refused 3)"),
+        ("(plan (depth 1) (width 0))", "(refused 4)"),
+        ("(plan (depth 9) (width 16))", "(refused 5)"),
+        ("(start)", "(refused 6)"),
+        ("(close)", "(refused 11)"),
+        ("(plan (depth 2) (width 2))", "(ok)"),
+        ("(plan (depth 2) (width 2))", "(refused 2)"),
+        ("(campaign (price 0) (budget 1))", "(refused 8)"),
+        ("(campaign (price 2) (budget 1))", "(refused 9)"),
+        ("(campaign (price 1) (budget 2000000000))", "(ok)"),
+        ("(campaign (price 1) (budget 1))", "(refused 10)"),
+        ("(view 0)", "(refused 11)"),
+        ("(start)", "(ok)"),
+        ("(pause 1)", "(refused 15)"),
+        ("(view 1)", "(refused 13)"),
+        ("(view)", "(nobody)"),
+        ("(campaign (price 1) (budget 1))", "(refused 6)"),
+        (
+            "(close)",
+            "(closed (takings 0) (claim 0) (full 0))\n\
+            (tally 0 (plays 0) (turns 0) (age 0) (named 0))",
+        ),
+        ("(plan (depth 1) (width 1))", "(ok)"),
+        ("(campaign (price 1) (budget 1))", "(ok)"),
+        ("(campaign (price 1) (budget 1))", "(ok)"),
+        ("(start)", "(ok)"),
+        ("(view 0 1)", "(refused 14)"),
+        ("(view 64)", "(refused 17)"),
+    ]);
 }
 
 #[test]
@@ -177,6 +162,40 @@ fn view_of_nobody() {
     check(input, expected);
     check("(view)\n", refusals(&[11]));
     check("(view )\n", refusals(&[17]));
+}
+
+#[test]
+fn pausing_and_resuming() {
+    dialogue(&[
+        ("(pause 0)", "(refused 11)"),
+        ("(resume 0)", "(refused 11)"),
+        ("(plan (depth 2) (width 1))", "(ok)"),
+        ("(campaign (price 5) (budget 10))", "(ok)"),
+        ("(campaign (price 3) (budget 6))", "(ok)"),
+        ("(pause 0)", "(refused 11)"),
+        ("(start)", "(ok)"),
+        ("(view 0 1)", "(refused 14)"),
+        ("(pause 0)", "(ok)"),
+        ("(view 0 1)", "(play 1 (paid 3))"),
+        ("(pause 0)", "(ok)"),
+        ("(view 0)", "(nobody)"),
+        ("(view 0 2)", "(refused 13)"),
+        ("(pause 2)", "(refused 15)"),
+        ("(resume 2)", "(refused 15)"),
+        ("(pause 64)", "(refused 17)"),
+        ("(resume 64)", "(refused 17)"),
+        ("(resume 0)", "(ok)"),
+        ("(resume 0)", "(ok)"),
+        ("(view 0)", "(play 0 (paid 5))"),
+        (
+            "(close)",
+            "(closed (takings 8) (claim 8) (full 8))\n\
+            (tally 0 (plays 1) (turns 1) (age 0) (named 1))\n\
+            (tally 1 (plays 1) (turns 1) (age 0) (named 1))",
+        ),
+        ("(pause 0)", "(refused 11)"),
+        ("(resume 0)", "(refused 11)"),
+    ]);
 }
 
 #[test]

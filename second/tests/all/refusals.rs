@@ -11,6 +11,8 @@ enum Call {
     Add(u64, u64),
     Start,
     View(u64),
+    Pause(u64),
+    Resume(u64),
     Tally(u64),
     Close,
 }
@@ -21,6 +23,8 @@ fn call(day: Day, call: Call) -> (Day, Answer) {
         Call::Add(price, budget) => day.add(price, budget),
         Call::Start => day.start(),
         Call::View(set) => day.view(set),
+        Call::Pause(n) => day.pause(n),
+        Call::Resume(n) => day.resume(n),
         Call::Tally(n) => day.tally(n),
         Call::Close => day.close(),
     }
@@ -33,11 +37,13 @@ fn refused(day: &Day, c: Call, number: u64) {
     assert_eq!(same, *day, "{c:?}");
 }
 
-const GOOD_CALLS: [Call; 6] = [
+const GOOD_CALLS: [Call; 8] = [
     Call::Open(2, 2),
     Call::Add(5, 10),
     Call::Start,
     Call::View(1),
+    Call::Pause(0),
+    Call::Resume(0),
     Call::Tally(0),
     Call::Close,
 ];
@@ -54,6 +60,8 @@ fn unsound_states_give_1_to_every_operation() {
         refused(&day, Call::Open(0, 0), 1);
         refused(&day, Call::Add(0, 0), 1);
         refused(&day, Call::View(0), 1);
+        refused(&day, Call::Pause(64), 1);
+        refused(&day, Call::Resume(64), 1);
         refused(&day, Call::Tally(64), 1);
     }
 }
@@ -115,6 +123,60 @@ fn views_and_closing_outside_running() {
         refused(&day, Call::View(u64::MAX), 11);
         refused(&day, Call::Close, 11);
     }
+}
+
+#[test]
+fn pausing_and_resuming_outside_running() {
+    let (paused, _) = running(2, 2, &[(5, 10)]).pause(0);
+    let (closed, _) = paused.close();
+    for day in [Day::blank(), filling(2, 2, &[(5, 10)]), closed] {
+        for n in [0, 1, 63, 64, u64::MAX] {
+            refused(&day, Call::Pause(n), 11);
+            refused(&day, Call::Resume(n), 11);
+        }
+    }
+}
+
+#[test]
+fn pausing_and_resuming_outside_the_plan() {
+    let (paused, _) = running(2, 2, &[(5, 10)]).pause(0);
+    for day in [running(2, 2, &[(5, 10)]), paused] {
+        for n in [1, 63, 64, 65, 128, 1 << 32, u64::MAX] {
+            refused(&day, Call::Pause(n), 15);
+            refused(&day, Call::Resume(n), 15);
+        }
+    }
+    let full = running(2, 2, &[(1, 1); 64]);
+    refused(&full, Call::Pause(64), 15);
+    refused(&full, Call::Resume(64), 15);
+    refused(&running(2, 2, &[]), Call::Pause(0), 15);
+    assert_eq!(full.pause(63).1, Answer::Ok);
+}
+
+#[test]
+fn views_of_paused_names() {
+    let day = running(2, 1, &[(5, 10), (3, 6), (2, 2)]);
+    let (day, _) = day.pause(1);
+    // Question 13 still sees paused names; question 14 does not.
+    refused(&day, Call::View(0b1010), 13);
+    refused(&day, Call::View(0b101), 14);
+    refused(&day, Call::View(0b111), 14);
+    assert_eq!(day.clone().view(0b011).1, play(0, 5));
+    assert_eq!(day.clone().view(0b010).1, Answer::Nobody);
+    let (day, _) = day.resume(1);
+    refused(&day, Call::View(0b011), 14);
+}
+
+#[test]
+fn pauses_do_not_lift_the_other_questions() {
+    let mut day = running(1, 1, &[(1, 3)]);
+    day.views = 4_096;
+    let (day, answer) = day.pause(0);
+    assert_eq!(answer, Answer::Ok);
+    refused(&day, Call::View(1), 12);
+    refused(&day, Call::View(0), 12);
+    let (day, _) = day.close();
+    refused(&day, Call::View(1), 11);
 }
 
 #[test]

@@ -33,6 +33,8 @@ fn unsound(day: Day) {
         day.clone().add(1, 1),
         day.clone().start(),
         day.clone().view(1),
+        day.clone().pause(0),
+        day.clone().resume(0),
         day.clone().tally(0),
         day.clone().close(),
     ];
@@ -154,6 +156,37 @@ fn entries_past_the_last() {
 }
 
 #[test]
+fn marks() {
+    for paused in 0..4 {
+        sound(changed(base(), |d| d.paused = paused));
+        sound(changed(base(), |d| {
+            (d.paused, d.phase) = (paused, Phase::Closed(15))
+        }));
+    }
+    for place in [2, 3, 31, 32, 63] {
+        unsound(changed(base(), |d| d.paused = 1 << place));
+        unsound(changed(base(), |d| d.paused = 0b11 | 1 << place));
+    }
+    for place in [0, 1, 63] {
+        unsound(changed(Day::blank(), |d| d.paused = 1 << place));
+        unsound(changed(running(2, 2, &[]), |d| d.paused = 1 << place));
+    }
+    sound(changed(running(2, 2, &[(1, 1); 64]), |d| {
+        d.paused = u64::MAX
+    }));
+}
+
+#[test]
+fn filling_has_no_marks() {
+    let day = filling(2, 2, &[(5, 10), (5, 10)]);
+    for paused in [0b01, 0b10, 0b11, 0b100, 1 << 63] {
+        unsound(changed(day.clone(), |d| d.paused = paused));
+    }
+    let full = filling(2, 2, &[(1, 1); 64]);
+    unsound(changed(full, |d| d.paused = 1 << 63));
+}
+
+#[test]
 fn age() {
     unsound(changed(base(), |d| d.campaigns[1].age = 2));
     // In width 1 an age claims nothing, so only its own rule can fail.
@@ -262,7 +295,7 @@ fn closed_holds_the_takings() {
     unsound(changed(Day::blank(), |d| d.phase = Phase::Closed(1)));
 }
 
-/// One field of a state, of campaign `place` for the last six.
+/// One field of a state, of campaign `place` for six of them.
 fn field(day: &mut Day, which: u64, place: usize) -> &mut u64 {
     let c = &mut day.campaigns[place];
     match which {
@@ -275,19 +308,31 @@ fn field(day: &mut Day, which: u64, place: usize) -> &mut u64 {
         6 => &mut c.plays,
         7 => &mut c.turns,
         8 => &mut c.age,
-        _ => &mut c.named,
+        9 => &mut c.named,
+        _ => &mut day.paused,
     }
 }
 
 #[test]
 fn huge_numbers_are_never_sound() {
-    for which in 0..10 {
+    for which in 0..11 {
         for place in [0, 1, 2, 63] {
             for value in [1 << 33, 10u64.pow(18), 1 << 63, u64::MAX] {
                 unsound(changed(base(), |d| *field(d, which, place) = value));
             }
         }
     }
+}
+
+/// The rules for one campaign.
+fn campaign_by_the_rules(d: &Day, c: &Campaign) -> bool {
+    (1..=1_000_000).contains(&c.price)
+        && (c.price..=2_000_000_000).contains(&c.budget)
+        && c.age < d.depth
+        && c.plays <= c.budget / c.price
+        && c.plays <= c.turns
+        && c.turns <= c.named
+        && c.named <= d.views
 }
 
 /// The rules once more, each in wide numbers and without short cuts.
@@ -299,16 +344,11 @@ fn sound_by_the_rules(d: &Day) -> bool {
     if power(d.width, d.depth) > 4_294_967_296 || d.count > 64 || d.views > 4_096 {
         return false;
     }
+    if (d.count..64).any(|i| d.paused >> i & 1 == 1) {
+        return false;
+    }
     let (planned, rest) = d.campaigns.split_at(d.count as usize);
-    let each = planned.iter().all(|c| {
-        (1..=1_000_000).contains(&c.price)
-            && (c.price..=2_000_000_000).contains(&c.budget)
-            && c.age < d.depth
-            && c.plays <= c.budget / c.price
-            && c.plays <= c.turns
-            && c.turns <= c.named
-            && c.named <= d.views
-    });
+    let each = planned.iter().all(|c| campaign_by_the_rules(d, c));
     let budgets: u128 = planned.iter().map(|c| u128::from(c.budget)).sum();
     let zero = Campaign::default();
     if !each || budgets > 2_000_000_000 || rest.iter().any(|c| *c != zero) {
@@ -318,7 +358,7 @@ fn sound_by_the_rules(d: &Day) -> bool {
     let takings: u128 = planned.iter().map(|c| wide(c.price) * wide(c.plays)).sum();
     let counts = |c: &Campaign| c.plays + c.turns + c.age + c.named;
     let phase = match d.phase {
-        Phase::Filling => d.views + planned.iter().map(counts).sum::<u64>() == 0,
+        Phase::Filling => d.paused == 0 && d.views + planned.iter().map(counts).sum::<u64>() == 0,
         Phase::Running => true,
         Phase::Closed(held) => wide(held) == takings,
     };
@@ -337,6 +377,8 @@ fn made_up(random: &mut Random) -> Day {
     let mut day = running(depth, width, &[]);
     day.count = random.below(4);
     day.views = random.below(5);
+    let marks = random.below(1 << day.count);
+    day.paused = random.pick(&[0, marks]);
     for place in 0..day.count as usize {
         let price = random.within(1, 3);
         let plays = random.below(3).min(day.views);
@@ -350,7 +392,7 @@ fn made_up(random: &mut Random) -> Day {
     if random.below(2) == 0 {
         let place = random.below(5) as usize;
         let value = random.edged(u64::MAX);
-        let which = random.below(10);
+        let which = random.below(11);
         *field(&mut day, which, place) = random.pick(&[value, 0, 1, 2, 3, 5]);
     }
     day
@@ -383,6 +425,8 @@ fn operations_on_made_up_sound_states_leave_sound_states() {
             day.clone().add(1, 2),
             day.clone().start(),
             day.clone().view(set),
+            day.clone().pause(n),
+            day.clone().resume(n),
             day.clone().tally(n),
             day.clone().close(),
         ];

@@ -24,8 +24,11 @@ element-copy-out-t6-2 c = search needs
 element-copy-out-t9-2 : tie.Need-element-copy-out-t9-2
 element-copy-out-t9-2 c = search needs
 
+element-copy-out-t20 : tie.Need-element-copy-out-t20
+element-copy-out-t20 c = search needs
+
 returns : tie.Need-returns
-returns c = rw (c .before .before .before .before .phase-of .ensures)
+returns c = rw (c .before .before .before .before .before .phase-of .ensures)
 
 pub head-of-spec : {M : Type 1} → statement M
 head-of-spec =
@@ -38,4 +41,5 @@ head-of-spec =
     element-copy-out-t9
     element-copy-out-t6-2
     element-copy-out-t9-2
+    element-copy-out-t20
     returns)

@@ -1,5 +1,6 @@
--- `record_of` meets its contract: each arm's number picks its form out of `forms`; the last arm's is 10, being none of
+-- `record_of` meets its contract: each arm's number picks its form out of `forms`; the last arm's is 12, being none of
 -- those before.
+use mathlib.Core.Path.{_≡_}
 use lib.ListN.{getD}
 use native.Mathlib.Omega.{arith}
 use lib.Seq.{getD-drop}
@@ -9,10 +10,6 @@ use Rattle.encoding.proofs.Forms.{next, last}
 use borrow.Author.Needs.{needs}
 use Rattle.encoding.proofs.record_of.Statement.{statement}
 use Rattle.encoding.proofs.record_of.Tie as tie
-
--- the start, seen from the last arm
-abbrev start : tie.After-t21 → tie.Start
-start c = c .before .before .before .before .before .before .before
 
 element-copy-out-form : tie.Need-element-copy-out-form
 element-copy-out-form c = search needs
@@ -75,15 +72,27 @@ returns-10 c = simp (c .match .keys10, getD-drop)
 returns-11 : tie.Need-returns-11
 unfolding record-of forms made
 returns-11 c =
-    let s = start c in
+    let s = c .before .before .before .before .before .before .before in
+    let e : getD (s .args .words .now) 0 0 ≡ 10 = c .before .before .match .keys11 in
+    simp (e, getD-drop)
+
+returns-12 : tie.Need-returns-12
+unfolding record-of forms made
+returns-12 c = simp (c .match .keys12, getD-drop)
+
+returns-13 : tie.Need-returns-13
+unfolding record-of forms made
+returns-13 c =
+    let s = c .before .before .before .before .before in
     let f = getD (s .args .words .now) 0 0 in
-    let r = c .before .before .match .rest in
-    let one = next f 0 (omega arith) (r .0 .0 .0 .0 .0 .0 .0 .0 .0 .1) in
-    let three = next f 2 (next f 1 one (r .0 .0 .0 .0 .0 .0 .0 .0 .1)) (r .0 .0 .0 .0 .0 .0 .0 .1) in
-    let five = next f 4 (next f 3 three (r .0 .0 .0 .0 .0 .0 .1)) (r .0 .0 .0 .0 .0 .1) in
-    let seven = next f 6 (next f 5 five (r .0 .0 .0 .0 .1)) (r .0 .0 .0 .1) in
-    let ten = next f 9 (next f 8 (next f 7 seven (r .0 .0 .1)) (r .0 .1)) (r .1) in
-    simp (last f (s .pre) ten, getD-drop)
+    let r = c .match .rest in
+    let low = r .0 .0 .0 .0 .0 .0 in
+    let two = next f 1 (next f 0 (omega arith) (low .0 .0 .0 .0 .0 .1)) (low .0 .0 .0 .0 .1) in
+    let four = next f 3 (next f 2 two (low .0 .0 .0 .1)) (low .0 .0 .1) in
+    let six = next f 5 (next f 4 four (low .0 .1)) (low .1) in
+    let eight = next f 7 (next f 6 six (r .0 .0 .0 .0 .0 .1)) (r .0 .0 .0 .0 .1) in
+    let ten = next f 9 (next f 8 eight (r .0 .0 .0 .1)) (r .0 .0 .1) in
+    simp (last f (s .pre) (next f 11 (next f 10 ten (r .0 .1)) (r .1)), getD-drop)
 
 pub record-of-spec : {M : Type 1} → statement M
 record-of-spec =
@@ -105,4 +114,6 @@ record-of-spec =
     returns-8
     returns-9
     returns-10
-    returns-11)
+    returns-11
+    returns-12
+    returns-13)

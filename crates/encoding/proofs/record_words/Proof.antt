@@ -38,6 +38,12 @@ enum-known-r-6 c = search needs
 enum-known-r-7 : tie.Need-enum-known-r-7
 enum-known-r-7 c = search needs
 
+enum-known-r-8 : tie.Need-enum-known-r-8
+enum-known-r-8 c = search needs
+
+enum-known-r-9 : tie.Need-enum-known-r-9
+enum-known-r-9 c = search needs
+
 returns : tie.Need-returns
 unfolding record-words padded numbers
 returns c = rw (c .before .r .given .1)
@@ -82,6 +88,14 @@ returns-11 : tie.Need-returns-11
 unfolding record-words padded numbers
 returns-11 c = rw (c .before .r7 .given .1)
 
+returns-12 : tie.Need-returns-12
+unfolding record-words padded numbers
+returns-12 c = rw (c .before .r8 .given .1)
+
+returns-13 : tie.Need-returns-13
+unfolding record-words padded numbers
+returns-13 c = rw (c .before .r9 .given .1)
+
 pub record-words-spec : {M : Type 1} → statement M
 record-words-spec =
     tie.close
@@ -97,6 +111,8 @@ record-words-spec =
     enum-known-r-5
     enum-known-r-6
     enum-known-r-7
+    enum-known-r-8
+    enum-known-r-9
     returns
     returns-2
     returns-3
@@ -107,4 +123,6 @@ record-words-spec =
     returns-8
     returns-9
     returns-10
-    returns-11)
+    returns-11
+    returns-12
+    returns-13)

@@ -1,4 +1,4 @@
--- A line that is not too long: the bytes at 1, 4 and 6 leave one form (`leaves`; each arm by `first` or `other`), and
+-- A line that is not too long: the bytes at 1, 3, 4 and 6 leave one form (`leaves`; each arm by `first` or `other`), and
 -- its code holds the line to that form (`reads`); `answers` joins the two.
 use mathlib.Core.Path.{_≡_, refl, ap, sym, _∙_}
 use mathlib.Core.Bool.{Bool, cond}
@@ -10,7 +10,7 @@ use lib.ListN.{length, getD}
 use borrow.Author.Tests.{lt-ltb, ne-eqb}
 use Rattle.lines.specs.declared.Record.{Record}
 use Rattle.lines.specs.declared.Record.the-variants.{Plan, Campaign, Start, View, Close, Done, Play, Nobody}
-use Rattle.lines.specs.declared.Record.the-variants.{Refused, Closed, Tally}
+use Rattle.lines.specs.declared.Record.the-variants.{Refused, Closed, Tally, Pause, Resume}
 use Rattle.lines.specs.declared.Reading.{Reading}
 use Rattle.lines.specs.declared.Reading.the-variants.{Refusal}
 use Rattle.lines.specs.Limits.{max-line}
@@ -30,9 +30,9 @@ answers l f h p q =
     q ∙ ap (λ (x : Record). held-or (Refusal 17) x l) (sym p) ∙ sym (first-chosen l) ∙ sym (reading-short l h)
 
 -- the form is known from the byte at 1, or then from another
-first : (l : List ℕ) {r b : ℕ} → r ≡ getD l 1 0 → r ≡ b → chosen l ≡ leaves b (getD l 4 0) (getD l 6 0)
+first : (l : List ℕ) {r b : ℕ} → r ≡ getD l 1 0 → r ≡ b → chosen l ≡ leaves b (getD l 3 0) (getD l 4 0) (getD l 6 0)
 unfolding chosen
-first l p q = ap (λ (x : ℕ). leaves x (getD l 4 0) (getD l 6 0)) (sym p ∙ q)
+first l p q = ap (λ (x : ℕ). leaves x (getD l 3 0) (getD l 4 0) (getD l 6 0)) (sym p ∙ q)
 
 -- a byte that is not the one asked for leaves the other form
 other : {b r : ℕ} (k : ℕ) (f g : Record) → r ≡ b → (r ≡ k → ⊥) → cond (eqb b k) f g ≡ g
@@ -60,10 +60,21 @@ plan c =
     let l = start .args .s .now in
     answers l (Plan 0 0) (omega arith) (
     first l (arm .before .byte .ensures) (arm .match .keys2)
-    ∙ ap (λ (d : ℕ). leaves 112 d (getD l 6 0)) (sym (fourth .byte2 .ensures) ∙ c .before .match2 .keys1)
+    ∙ ap (λ (d : ℕ). leaves 112 (getD l 3 0) d (getD l 6 0)) (sym (fourth .byte2 .ensures) ∙ c .before .match2 .keys1)
     ) (c .read-plan .ensures)
 
-play : tie.Need-returns-4
+pause : tie.Need-returns-4
+pause c =
+    let fourth = c .before .before in
+    let arm = fourth .before in
+    let start = arm .before .before .before .before in
+    let l = start .args .s .now in
+    answers l (Pause 0) (omega arith) (
+    first l (arm .before .byte .ensures) (arm .match .keys2)
+    ∙ ap (λ (d : ℕ). leaves 112 (getD l 3 0) d (getD l 6 0)) (sym (fourth .byte2 .ensures) ∙ c .before .match2 .keys2)
+    ) (c .read-pause .ensures)
+
+play : tie.Need-returns-5
 play c =
     let fourth = c .before .before in
     let arm = fourth .before in
@@ -71,10 +82,12 @@ play c =
     let l = start .args .s .now in
     answers l (Play 0 0) (omega arith) (
     first l (arm .before .byte .ensures) (arm .match .keys2)
-    ∙ other 110 (Plan 0 0) (Play 0 0) (fourth .byte2 .ensures) (c .before .match2 .rest .1)
+    ∙ other 110 (Plan 0 0) (cond (eqb (getD l 4 0) 115) (Pause 0) (Play 0 0)) (fourth .byte2 .ensures)
+    (c .before .match2 .rest .0 .1)
+    ∙ other 115 (Pause 0) (Play 0 0) (fourth .byte2 .ensures) (c .before .match2 .rest .1)
     ) (c .read-play .ensures)
 
-close : tie.Need-returns-5
+close : tie.Need-returns-6
 unfolding template made
 close c =
     let sixth = c .before .before .before in
@@ -83,10 +96,10 @@ close c =
     let l = start .args .s .now in
     answers l Close (omega arith) (
     first l (arm .before .byte .ensures) (arm .match .keys3)
-    ∙ ap (leaves 99 (getD l 4 0)) (sym (sixth .byte3 .ensures) ∙ c .before .before .match3 .keys1)
+    ∙ ap (leaves 99 (getD l 3 0) (getD l 4 0)) (sym (sixth .byte3 .ensures) ∙ c .before .before .match3 .keys1)
     ) (reads Close (last-word refl) (c .ended2 .ensures))
 
-closed : tie.Need-returns-6
+closed : tie.Need-returns-7
 closed c =
     let sixth = c .before .before in
     let arm = sixth .before in
@@ -94,10 +107,10 @@ closed c =
     let l = start .args .s .now in
     answers l (Closed 0 0 0) (omega arith) (
     first l (arm .before .byte .ensures) (arm .match .keys3)
-    ∙ ap (leaves 99 (getD l 4 0)) (sym (sixth .byte3 .ensures) ∙ c .before .match3 .keys2)
+    ∙ ap (leaves 99 (getD l 3 0) (getD l 4 0)) (sym (sixth .byte3 .ensures) ∙ c .before .match3 .keys2)
     ) (c .read-closed .ensures)
 
-campaign : tie.Need-returns-7
+campaign : tie.Need-returns-8
 campaign c =
     let sixth = c .before .before in
     let arm = sixth .before in
@@ -111,7 +124,7 @@ campaign c =
     ∙ other 100 (Closed 0 0 0) (Campaign 0 0) (sixth .byte3 .ensures) (none .1)
     ) (c .read-campaign .ensures)
 
-start : tie.Need-returns-8
+start : tie.Need-returns-9
 unfolding template made
 start c =
     let arm = c .before .before in
@@ -120,7 +133,7 @@ start c =
     answers l Start (omega arith) (first l (arm .before .byte .ensures) (arm .match .keys4))
     (reads Start (last-word refl) (c .ended3 .ensures))
 
-ok : tie.Need-returns-9
+ok : tie.Need-returns-10
 unfolding template made
 ok c =
     let arm = c .before .before in
@@ -129,7 +142,7 @@ ok c =
     answers l Done (omega arith) (first l (arm .before .byte .ensures) (arm .match .keys5))
     (reads Done (last-word refl) (c .ended4 .ensures))
 
-nobody : tie.Need-returns-10
+nobody : tie.Need-returns-11
 unfolding template made
 nobody c =
     let arm = c .before .before in
@@ -138,20 +151,32 @@ nobody c =
     answers l Nobody (omega arith) (first l (arm .before .byte .ensures) (arm .match .keys6))
     (reads Nobody (last-word refl) (c .ended5 .ensures))
 
-refused : tie.Need-returns-11
-unfolding template made
-refused c =
-    let number = c .before .before in
-    let arm = number .before .before in
+resume : tie.Need-returns-12
+resume c =
+    let third = c .before .before in
+    let arm = third .before in
     let start = arm .before .before .before .before in
     let l = start .args .s .now in
-    answers l (Refused 0) (omega arith) (first l (arm .before .byte .ensures) (arm .match .keys7))
-    (reads (Refused 0) (field refl (number .field2 .ensures) (last-word refl)) (c .ended6 .ensures))
+    answers l (Resume 0) (omega arith) (
+    first l (arm .before .byte .ensures) (arm .match .keys7)
+    ∙ ap (λ (x : ℕ). leaves 114 x (getD l 4 0) (getD l 6 0)) (sym (third .byte4 .ensures) ∙ c .before .match4 .keys1)
+    ) (c .read-resume .ensures)
+
+refused : tie.Need-returns-13
+refused c =
+    let third = c .before .before in
+    let arm = third .before in
+    let start = arm .before .before .before .before in
+    let l = start .args .s .now in
+    answers l (Refused 0) (omega arith) (
+    first l (arm .before .byte .ensures) (arm .match .keys7)
+    ∙ other 115 (Resume 0) (Refused 0) (third .byte4 .ensures) (c .before .match4 .rest .1)
+    ) (c .read-refused .ensures)
 
 -- no other byte at 1 was found
-last : (b d e : ℕ) → (b ≡ 118 → ⊥) → (b ≡ 112 → ⊥) → (b ≡ 99 → ⊥) → (b ≡ 115 → ⊥) → (b ≡ 111 → ⊥) → (b ≡ 110 → ⊥)
-    → (b ≡ 114 → ⊥) → leaves b d e ≡ Tally 0 0 0 0 0
-last b d e v p c s o n r =
+last : (b t d e : ℕ) → (b ≡ 118 → ⊥) → (b ≡ 112 → ⊥) → (b ≡ 99 → ⊥) → (b ≡ 115 → ⊥) → (b ≡ 111 → ⊥) → (b ≡ 110 → ⊥)
+    → (b ≡ 114 → ⊥) → leaves b t d e ≡ Tally 0 0 0 0 0
+last b t d e v p c s o n r =
     simp (
       ne-eqb b 118 v,
       ne-eqb b 112 p,
@@ -162,7 +187,7 @@ last b d e v p c s o n r =
       ne-eqb b 114 r,
     )
 
-tally : tie.Need-returns-12
+tally : tie.Need-returns-14
 tally c =
     let arm = c .before in
     let start = arm .before .before .before .before in
@@ -172,7 +197,7 @@ tally c =
     let few = none .0 .0 .0 in
     answers l (Tally 0 0 0 0 0) (omega arith) (
     first l (b .ensures) refl
-    ∙ last (b .result) (getD l 4 0) (getD l 6 0) (few .0 .0 .0 .1) (few .0 .0 .1) (few .0 .1) (few .1)
+    ∙ last (b .result) (getD l 3 0) (getD l 4 0) (getD l 6 0) (few .0 .0 .0 .1) (few .0 .0 .1) (few .0 .1) (few .1)
     (none .0 .0 .1) (none .0 .1) (none .1)
     ) (c .read-tally .ensures)
 
@@ -189,6 +214,7 @@ read-line-spec =
     (λ c κs. tt)
     (λ c κs. omega arith)
     (λ c κs. omega arith)
+    (λ c κs. omega arith)
     (λ c κs. tt)
     (λ c. refl)
     (λ c κs. omega arith)
@@ -200,13 +226,13 @@ read-line-spec =
     (λ c κs. omega arith)
     (λ c. refl)
     (λ c κs. omega arith)
-    (λ c. refl)
+    (λ c κs. tt)
     (λ c κs. omega arith)
-    (λ c. refl)
     (λ c κs. omega arith)
     (λ c κs. omega arith)
     view
     plan
+    pause
     play
     close
     closed
@@ -214,5 +240,6 @@ read-line-spec =
     start
     ok
     nobody
+    resume
     refused
     tally)

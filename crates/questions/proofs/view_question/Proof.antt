@@ -1,11 +1,11 @@
 -- Questions 11 to 14 in turn: each test is its question, and where it is answered yes the next one is asked.
 use mathlib.Core.Bool.{true}
-use mathlib.Core.Path.{_≡_, sym, subst, _∙_}
+use mathlib.Core.Path.{_≡_, ap, sym, subst, _∙_}
 use Prim.Native.Nat.{ℕ, _<_, _≤_}
 use lib.Dec.{ltb}
 use borrow.Author.Needs.{needs}
 use borrow.Author.Tests.{not-true, not-false, lt-ltb, le-ltb, lt-leb, le-leb}
-use Rattle.sets.specs.Set.{size, within}
+use Rattle.sets.specs.Set.{size, within, without}
 use Rattle.campaigns.specs.Limits.{max-views}
 use Rattle.campaigns.specs.Phase.{is-running}
 use Rattle.questions.specs.Questions.{first-failed, width-holds}
@@ -22,7 +22,7 @@ views c =
     let at-start = c .before .before .before .before in
     lt-ltb (at-start .args .head .accepted) max-views (c .if2 .left)
 
-inside : (c : tie.Else3) → let a = c .before .before .before .before .before .before .args in
+inside : (c : tie.Else3) → let a = c .before .before .before .before .before .before .before .args in
     within (a .head .count) (a .view .set) ≡ true
 inside c = sym (c .before .within .ensures) ∙ not-false (c .before .within .result) (c .if3 .left)
 
@@ -39,13 +39,16 @@ returns-2 c =
     let running = c .before .before in
     rw (runs running, le-ltb (running .before .before .args .head .accepted) max-views (c .if2 .taken))
 
+without-requires : tie.Need-without-requires
+without-requires c κs = search needs
+
 within-requires : tie.Need-within-requires
 within-requires c κs = search needs
 
 returns-3 : tie.Need-returns-3
 unfolding first-failed
 returns-3 c =
-    let few = c .before .before in
+    let few = c .before .before .before in
     let running = few .before .before in
     let outside = sym (c .before .within .ensures) ∙ not-true (c .before .within .result) (c .if3 .taken) in
     rw (runs running, views few, outside)
@@ -57,21 +60,25 @@ returns-4 : tie.Need-returns-4
 unfolding first-failed width-holds
 returns-4 c =
     let known = c .before .before .before in
-    let few = known .before .before in
+    let few = known .before .before .before in
     let running = few .before .before in
     let a = running .before .before .args in
-    let named = subst (λ (x : ℕ). a .head .plan .width < x) (c .before .before .count .ensures) (c .if4 .taken) in
-    rw (runs running, views few, inside known, lt-leb (size (a .view .set)) (a .head .plan .width) named)
+    let found = without (a .view .set) (a .head .paused) in
+    let size-is = c .before .before .count .ensures ∙ ap size (known .before .before .without .ensures) in
+    let named = subst (λ (x : ℕ). a .head .plan .width < x) size-is (c .if4 .taken) in
+    rw (runs running, views few, inside known, lt-leb (size found) (a .head .plan .width) named)
 
 returns-5 : tie.Need-returns-5
 unfolding first-failed width-holds
 returns-5 c =
     let known = c .before .before .before in
-    let few = known .before .before in
+    let few = known .before .before .before in
     let running = few .before .before in
     let a = running .before .before .args in
-    let named = subst (λ (x : ℕ). x ≤ a .head .plan .width) (c .before .before .count .ensures) (c .if4 .left) in
-    rw (runs running, views few, inside known, le-leb (size (a .view .set)) (a .head .plan .width) named)
+    let found = without (a .view .set) (a .head .paused) in
+    let size-is = c .before .before .count .ensures ∙ ap size (known .before .before .without .ensures) in
+    let named = subst (λ (x : ℕ). x ≤ a .head .plan .width) size-is (c .if4 .left) in
+    rw (runs running, views few, inside known, le-leb (size found) (a .head .plan .width) named)
 
 pub view-question-spec : {M : Type 1} → statement M
 view-question-spec =
@@ -80,6 +87,7 @@ view-question-spec =
     running-requires
     returns
     returns-2
+    without-requires
     within-requires
     returns-3
     count-requires

@@ -1,9 +1,9 @@
--- Each kind is its call; a kind past the six is none.
+-- Each kind is its call; a kind past the eight is none.
 use mathlib.Core.Path.{refl}
-use native.Mathlib.Omega.{arith}
-use Rattle.day.specs.Calls.Call.{add-campaign, start-day, ask-tally, close-day}
+use mathlib.Core.Bool.{true, false}
+use Rattle.day.specs.Calls.Call.{add-campaign, start-day, ask-tally, close-day, mark-campaign}
 use Rattle.replay.specs.Replay.{call-in}
-use Rattle.replay.proofs.Steps.{unpaid, no-call, no-calls}
+use Rattle.replay.proofs.Steps.{unpaid, past-eight, no-call, no-calls}
 use borrow.Author.Needs.{needs}
 use Rattle.replay.proofs.step.Statement.{statement}
 use Rattle.replay.proofs.step.Tie as tie
@@ -37,6 +37,18 @@ close-requires c κs = search needs
 
 keep-requires-4 : tie.Need-keep-requires-4
 keep-requires-4 c κs = search needs
+
+pause-requires : tie.Need-pause-requires
+pause-requires c κs = search needs
+
+keep-requires-5 : tie.Need-keep-requires-5
+keep-requires-5 c κs = search needs
+
+resume-requires : tie.Need-resume-requires
+resume-requires c κs = search needs
+
+keep-requires-6 : tie.Need-keep-requires-6
+keep-requires-6 c κs = search needs
 
 returns : tie.Need-returns
 unfolding call-in
@@ -80,9 +92,32 @@ returns-6 c =
     (unpaid (a .day) (a .paid) (close-day) (c .before .close .result) (c .before .close .ensures) (λ h x. refl)))
 
 returns-7 : tie.Need-returns-7
+unfolding call-in
 returns-7 c =
+    let a = c .before .before .before .args in
+    rw (c .before .before .match .keys7)
+    (rw (c .keep5 .ensures)
+    (unpaid (a .day) (a .paid) (mark-campaign true (a .a)) (c .before .pause .result) (c .before .pause .ensures)
+    (λ h x. refl)))
+
+returns-8 : tie.Need-returns-8
+unfolding call-in
+returns-8 c =
+    let a = c .before .before .before .args in
+    rw (c .before .before .match .keys8)
+    (rw (c .keep6 .ensures)
+    (unpaid (a .day) (a .paid) (mark-campaign false (a .a)) (c .before .resume .result) (c .before .resume .ensures)
+    (λ h x. refl)))
+
+returns-9 : tie.Need-returns-9
+returns-9 c =
     let a = c .before .args in
-    rw (no-call (a .kind) (a .a) (a .b) (omega arith)) (no-calls (a .day) (a .paid))
+    let none = c .match .rest in
+    let few = none .0 .0 .0 .0 in
+    rw (no-call (a .kind) (a .a) (a .b)
+    (past-eight (a .kind) (few .0 .0 .0 .1) (few .0 .0 .1) (few .0 .1) (few .1) (none .0 .0 .0 .1) (none .0 .0 .1)
+    (none .0 .1) (none .1)))
+    (no-calls (a .day) (a .paid))
 
 pub step-spec : {M : Type 1} → statement M
 step-spec =
@@ -98,10 +133,16 @@ step-spec =
     keep-requires-3
     close-requires
     keep-requires-4
+    pause-requires
+    keep-requires-5
+    resume-requires
+    keep-requires-6
     returns
     returns-2
     returns-3
     returns-4
     returns-5
     returns-6
-    returns-7)
+    returns-7
+    returns-8
+    returns-9)

@@ -7,7 +7,7 @@ use native.Mathlib.Omega.{arith}
 use Rattle.buffer.specs.Buffer.{Put}
 use Rattle.lines.specs.Form.{template, numbers, piece, numbers-after, filled}
 use Rattle.lines.specs.declared.Record.{Record}
-use Rattle.lines.specs.declared.Record.the-variants.{Start, View, Close, Done, Nobody, Refused}
+use Rattle.lines.specs.declared.Record.the-variants.{Start, View, Close, Done, Nobody, Refused, Pause, Resume}
 use Rattle.writer.specs.Writing.{line}
 use Rattle.writer.specs.Contracts.{line-length}
 use Rattle.writer.proofs.Lines.{puts-line}
@@ -61,6 +61,14 @@ put-record-spec =
     (λ c κs. let arm = c .before .before in room (arm .r6 .given .1) (arm .before .before .before .pre))
     (λ c. c .match .keys11)
     (λ c κs. let arm = c .before .before in room (arm .r7 .given .1) (arm .before .before .before .pre))
+    (λ c. c .match .keys12)
+    (λ c. refl)
+    (λ c κs. let arm = c .before .before .before in
+    room (arm .r8 .given .1) (arm .before .before .before .pre))
+    (λ c. c .match .keys13)
+    (λ c. refl)
+    (λ c κs. let arm = c .before .before .before in
+    room (arm .r9 .given .1) (arm .before .before .before .pre))
     (λ c. omega arith)
     (λ c.
     let put = c .before .before in
@@ -115,4 +123,14 @@ put-record-spec =
     (λ c.
     let put = c .before .before in
     let arm = put .before .before .before in
-    puts (arm .r7 .given .1) (put .put-tally .ensures)))
+    puts (arm .r7 .given .1) (put .put-tally .ensures))
+    (λ c. omega arith)
+    (λ c.
+    let put = c .before .before in
+    let arm = put .before .before .before .before in
+    puts (arm .r8 .given .1) (puts-line (Pause _) (put .put-one3 .ensures)))
+    (λ c. omega arith)
+    (λ c.
+    let put = c .before .before in
+    let arm = put .before .before .before .before in
+    puts (arm .r9 .given .1) (puts-line (Resume _) (put .put-one4 .ensures))))

@@ -74,6 +74,12 @@ size-of-spec =
     (λ c κs. omega arith)
     (λ c κs. omega arith)
     (λ c κs. omega arith)
+    (λ c. c .match .keys12)
+    (λ c κs. tt)
+    (λ c κs. omega arith)
+    (λ c. c .match .keys13)
+    (λ c κs. tt)
+    (λ c κs. omega arith)
     (λ c.
     let fixed = c .before .before in
     let arm = fixed .before .before in
@@ -115,4 +121,12 @@ size-of-spec =
     let two = with-slot output-slot _ (c .before .before .before .slot13 .ensures) one in
     let three = with-slot output-slot _ (c .before .before .slot14 .ensures) two in
     let four = with-slot output-slot _ (c .before .slot15 .ensures) three in
-    sized (arm .r7 .given .1) (with-slot campaign-slot _ (c .slot16 .ensures) four)))
+    sized (arm .r7 .given .1) (with-slot campaign-slot _ (c .slot16 .ensures) four))
+    (λ c.
+    let fixed = c .before in
+    let arm = fixed .before .before in
+    sized (arm .r8 .given .1) (with-slot campaign-slot _ (c .slot17 .ensures) (fixed .fixed12 .ensures)))
+    (λ c.
+    let fixed = c .before in
+    let arm = fixed .before .before in
+    sized (arm .r9 .given .1) (with-slot campaign-slot _ (c .slot18 .ensures) (fixed .fixed13 .ensures))))

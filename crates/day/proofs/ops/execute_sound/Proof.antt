@@ -1,4 +1,4 @@
--- Each of the six arms is its operation, whose contract is the call that is asked for.
+-- Each of the eight arms is its operation, whose contract is the call that is asked for.
 use borrow.Author.Needs.{needs}
 use Rattle.day.proofs.ops.execute_sound.Statement.{statement}
 use Rattle.day.proofs.ops.execute_sound.Tie as tie
@@ -39,6 +39,18 @@ enum-told-2 c = search needs
 close-sound-requires : tie.Need-close-sound-requires
 close-sound-requires c κs = search needs
 
+enum-known-ask-5 : tie.Need-enum-known-ask-5
+enum-known-ask-5 c = search needs
+
+mark-sound-requires : tie.Need-mark-sound-requires
+mark-sound-requires c κs = search needs
+
+enum-known-ask-6 : tie.Need-enum-known-ask-6
+enum-known-ask-6 c = search needs
+
+mark-sound-requires-2 : tie.Need-mark-sound-requires-2
+mark-sound-requires-2 c κs = search needs
+
 returns : tie.Need-returns
 returns c = rw (c .before .before .before .before .ask .given .1) (c .open-sound .ensures)
 
@@ -57,6 +69,12 @@ returns-5 c = rw (c .before .before .before .before .ask4 .given .1) (c .tally-s
 returns-6 : tie.Need-returns-6
 returns-6 c = rw (c .before .before .before .enum-told2 .given .1) (c .close-sound .ensures)
 
+returns-7 : tie.Need-returns-7
+returns-7 c = rw (c .before .before .before .before .ask5 .given .1) (c .mark-sound .ensures)
+
+returns-8 : tie.Need-returns-8
+returns-8 c = rw (c .before .before .before .before .ask6 .given .1) (c .mark-sound2 .ensures)
+
 pub execute-sound-spec : {M : Type 1} → statement M
 execute-sound-spec =
     tie.close
@@ -73,9 +91,15 @@ execute-sound-spec =
     tally-sound-requires
     enum-told-2
     close-sound-requires
+    enum-known-ask-5
+    mark-sound-requires
+    enum-known-ask-6
+    mark-sound-requires-2
     returns
     returns-2
     returns-3
     returns-4
     returns-5
-    returns-6)
+    returns-6
+    returns-7
+    returns-8)

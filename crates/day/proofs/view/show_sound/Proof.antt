@@ -1,15 +1,19 @@
 -- Questions 11 to 14; where all are answered yes, the named campaigns of the sound state are what `play` asks for, and
 -- its candidate and counts are the outcome of the view.
-use mathlib.Core.Path.{_≡_, _∙_}
+use mathlib.Core.Path.{_≡_, sym, subst, _∙_}
+use mathlib.Core.List.{List}
+use Prim.Native.Nat.{ℕ}
 use native.Mathlib.Omega.{arith}
 use borrow.Author.Needs.{needs}
 use borrow.Author.Tests.{ltb-true}
 use Rattle.campaigns.specs.Limits.{max-views}
-use Rattle.choice.specs.Contracts.{Ready}
+use Rattle.choice.specs.declared.Candidate.{Candidate}
+use Rattle.choice.specs.Candidates.{candidate-of, after-view}
+use Rattle.choice.specs.Contracts.{Counts, Ready}
 use Rattle.day.specs.declared.Day.{Day}
 use Rattle.day.specs.Day.{campaign, state-of}
 use Rattle.questions.specs.Questions.{first-failed}
-use Rattle.day.specs.Calls.{questions}
+use Rattle.day.specs.Calls.{questions, found}
 use Rattle.day.specs.Calls.Call.{show-view}
 use Rattle.day.proofs.State.{sound-facts}
 use Rattle.day.proofs.Questions.{Yes, asked-yes}
@@ -34,7 +38,7 @@ yes c =
     (c .if1 .left)
 
 ready : (c : tie.Else1)
-    → Ready (c .before .before .args .head .plan) (c .before .before .args .view) (campaign (state (c .before .before)))
+    → let s = c .before .before in Ready (s .args .head .plan) (found (state s) (s .args .view)) (campaign (state s))
 ready c =
     let s = c .before .before in
     let y = yes c in
@@ -53,27 +57,46 @@ returns c =
     steps-refused (a .head) (a .terms .now) (a .counts .now) (show-view (a .view)) (c .refused .result)
     (d .view-question .result) (c .refused .ensures) (asked d) (c .before .if1 .taken)
 
+without-requires : tie.Need-without-requires
+without-requires c κs = search needs
+
 play-requires : tie.Need-play-requires
 play-requires c κs =
-    let d = c .before .before in
-    let s = d .before .before in
-    (s .pre .0, (s .pre .1 .room, ready d))
+    let d = c .before .before .before in
+    let s = d .before .before in (
+      s .pre .0,
+      (
+        s .pre .1 .room,
+        subst (λ (x : ℕ). Ready (s .args .head .plan) (record { set = x }) (campaign (state s)))
+            (sym (c .before .without .ensures)) (ready d),
+      ),
+    )
 
 view-answer-requires : tie.Need-view-answer-requires
 view-answer-requires c κs = search needs
 
 add-t13 : tie.Need-add-t13
 add-t13 c =
-    let d = c .before .before .before .before .before in
+    let d = c .before .before .before .before .before .before in
     omega (arith, ltb-true (d .before .before .args .head .accepted) max-views (yes d .1 .1 .0))
+
+-- what the walk gave, of the view that was found
+abbrev Walked : tie.Start → Candidate → List ℕ → ℕ → Type 0
+Walked s b m x =
+    let f = campaign (state s) in
+    (b ≡ candidate-of (s .args .head .plan) (record { set = x }) f 64)
+    × Counts (after-view (s .args .head .plan) (record { set = x }) b f) (s .args .terms .now) m
 
 returns-2 : tie.Need-returns-2
 returns-2 c =
-    let d = c .before .before .before .before .before in
-    let a = d .before .before .args in
+    let found = c .before .before .before .before in
+    let d = found .before .before in
+    let s = d .before .before in
+    let a = s .args in
     let play = c .before .before .play in
-    accepted-shows (a .head) (a .terms .now) (a .counts .now) (a .view) (play .result) (yes d) (play .ensures .0) _
-    (c .before .view-answer .result) (play .ensures .1) (c .before .view-answer .ensures)
+    let walked = subst (Walked s (play .result) _) (found .without .ensures) (play .ensures) in
+    accepted-shows (a .head) (a .terms .now) (a .counts .now) (a .view) (play .result) (yes d) (walked .0) _
+    (c .before .view-answer .result) (walked .1) (c .before .view-answer .ensures)
 
 pub show-sound-spec : {M : Type 1} → statement M
 show-sound-spec =
@@ -82,6 +105,7 @@ show-sound-spec =
     view-question-requires
     refused-requires
     returns
+    without-requires
     play-requires
     view-answer-requires
     add-t13

@@ -1,18 +1,20 @@
 -- An input record runs its operation and is what the record asks for; an output record is refused with 17. Only an
 -- opening changes the plan, so that otherwise the list keeps the weights of the plan.
 use mathlib.Core.Path.{_≡_, refl, ap, sym, subst, _∙_}
+use mathlib.Core.Bool.{Bool, true, false}
 use Prim.Native.Nat.{ℕ}
 use Rattle.day.specs.declared.Day.{Day}
 use Rattle.day.specs.declared.Step.{Step}
 use Rattle.day.specs.Day.{state-of}
 use Rattle.lines.specs.declared.Record.{Record}
 use Rattle.day.specs.declared.Outcome.{Outcome}
-use Rattle.day.specs.Calls.Call.{add-campaign, start-day, show-view, close-day}
+use Rattle.day.specs.Calls.Call.{add-campaign, start-day, show-view, close-day, mark-campaign}
+use Rattle.day.specs.Calls.{call}
 use Rattle.day.specs.InPlace.{outcome-of}
 use Rattle.day.specs.Contracts.{refusing}
 use Rattle.campaigns.specs.Contracts.{Weights}
 use Rattle.reply.specs.Reply.{request, executed}
-use Rattle.reply.specs.Reply.Request.{fails}
+use Rattle.reply.specs.Reply.Request.{makes, fails}
 use Rattle.reply.proofs.Kept.{same-weights, refused-weights}
 use borrow.Author.Needs.{needs}
 use Rattle.reply.proofs.line.execute.Statement.{statement}
@@ -91,6 +93,18 @@ enum-told-8 c = search needs
 refused-requires-6 : tie.Need-refused-requires-6
 refused-requires-6 c κs = search needs
 
+enum-known-input-4 : tie.Need-enum-known-input-4
+enum-known-input-4 c = search needs
+
+mark-sound-requires : tie.Need-mark-sound-requires
+mark-sound-requires c κs = search needs
+
+enum-known-input-5 : tie.Need-enum-known-input-5
+enum-known-input-5 c = search needs
+
+mark-sound-requires-2 : tie.Need-mark-sound-requires-2
+mark-sound-requires-2 c κs = search needs
+
 -- a record that is no call is refused, and the weights stay
 no-call : (s : tie.Start) {t : Record} (q : ℕ) (r : Step) → s .args .input ≡ t → request t ≡ fails q → r
     ≡ refusing (s .args .head) q
@@ -165,6 +179,27 @@ returns-11 : tie.Need-returns-11
 returns-11 c = no-call (c .before .before .before) 17 (c .refused6 .result) (c .before .enum-told8 .given .1) refl
     (c .refused6 .ensures)
 
+-- a marking keeps the plan
+marking : (s : tie.Start) {t : Record} (b : Bool) (i : ℕ) (r : Step) → s .args .input ≡ t
+    → request t ≡ makes (mark-campaign b i)
+    → outcome-of r (s .args .terms .now) (s .args .counts .now) ≡ call (state s) (mark-campaign b i)
+    → (outcome-of r (s .args .terms .now) (s .args .counts .now) ≡ executed (state s) (request (s .args .input)))
+    × Weights (r .head .plan) (s .args .list .now)
+marking s {t} b i r e f p = (
+  made (state s) e (p ∙ ap (executed (state s)) (sym f)),
+  same-weights (state s) (mark-campaign b i) (s .args .list .now) tt p (s .pre .0),
+)
+
+returns-12 : tie.Need-returns-12
+returns-12 c =
+    let arm = c .before .before .before .before in
+    marking (arm .before .before) true _ (c .mark-sound .result) (arm .input4 .given .1) refl (c .mark-sound .ensures)
+
+returns-13 : tie.Need-returns-13
+returns-13 c =
+    let arm = c .before .before .before .before in
+    marking (arm .before .before) false _ (c .mark-sound2 .result) (arm .input5 .given .1) refl (c .mark-sound2 .ensures)
+
 pub execute-spec : {M : Type 1} → statement M
 execute-spec =
     tie.close
@@ -191,6 +226,10 @@ execute-spec =
     refused-requires-5
     enum-told-8
     refused-requires-6
+    enum-known-input-4
+    mark-sound-requires
+    enum-known-input-5
+    mark-sound-requires-2
     returns
     returns-2
     returns-3
@@ -201,4 +240,6 @@ execute-spec =
     returns-8
     returns-9
     returns-10
-    returns-11)
+    returns-11
+    returns-12
+    returns-13)

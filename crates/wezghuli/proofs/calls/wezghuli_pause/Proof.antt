@@ -1,0 +1,47 @@
+-- `wezghuli_pause` meets its contract: words that are no head leave everything as it was, and else the call's outcome
+-- is stored.
+use mathlib.Core.Path.{sym, _∙_}
+use mathlib.Core.Bool.{true}
+use borrow.Author.Needs.{needs}
+use borrow.Author.Tests.{not-true, not-false}
+use Rattle.day.specs.Calls.Call.{mark-campaign}
+use Rattle.wezghuli.specs.Library.{memory}
+use Rattle.wezghuli.proofs.Stored.{misused, called}
+use Rattle.wezghuli.proofs.calls.wezghuli_pause.Statement.{statement}
+use Rattle.wezghuli.proofs.calls.wezghuli_pause.Tie as tie
+
+is-head-requires : tie.Need-is-head-requires
+is-head-requires c κs = search needs
+
+returns : tie.Need-returns
+returns c =
+    let a = c .before .before .before .args in
+    misused (mark-campaign true (a .campaign)) (memory (a .head .now) (a .terms .now) (a .counts .now) (a .answer .now))
+    (sym (c .before .is-head .ensures) ∙ not-true (c .before .is-head .result) (c .if1 .taken))
+
+head-of-requires : tie.Need-head-of-requires
+head-of-requires c κs = search needs
+
+pause-requires : tie.Need-pause-requires
+pause-requires c κs = search needs
+
+store-requires : tie.Need-store-requires
+store-requires c κs = search needs
+
+returns-2 : tie.Need-returns-2
+returns-2 c =
+    let step = c .before .before .before in
+    let head = step .before .before .before in
+    let test = head .before .before in
+    let a = test .before .before .before .args in
+    called (mark-campaign true (a .campaign)) (a .head .now) (a .terms .now) (a .counts .now) (a .answer .now)
+    (sym (test .before .is-head .ensures) ∙ not-false (test .before .is-head .result) (test .if1 .left))
+    (head .head-of .result) (head .head-of .ensures)
+    (step .pause .result) (step .pause .last .1 .1 .0) (step .pause .last .1 .1 .1 .0)
+    (c .store .last .1 .0) (c .store .last .1 .1 .0) (c .store .result)
+    (step .pause .ensures) (c .store .ensures)
+
+pub wezghuli-pause-spec : {M : Type 1} → statement M
+wezghuli-pause-spec =
+    tie.close
+    (tie.spec is-head-requires returns head-of-requires pause-requires store-requires returns-2)
