@@ -2,6 +2,7 @@
 
 mod common;
 mod days;
+mod greatest;
 mod limits;
 mod lines;
 mod page;
