@@ -1,9 +1,11 @@
 //! What a day could have earned: an allotment of known views with the greatest
 //! takings, and cents figures which show that no allotment takes more.
 //!
-//! The views are placed one after another, each along the chain of moves that
-//! loses least. Nobody stands beside the campaigns as one more place, with
-//! price 0 and room for every view. Between two placings these hold:
+//! The search is a minimum-cost flow by least-loss chains. The views are placed
+//! one after another in their order, each along the chain of moves that loses
+//! least; campaigns are not served in any order of their own. Nobody stands
+//! beside the campaigns as one more place, with price 0 and room for every
+//! view. Between two placings these hold:
 //!
 //! - a view's figure and the figure of a place open to it sum to at least the
 //!   place's price, and to exactly that for the place that holds the view;
@@ -11,6 +13,24 @@
 //!
 //! At the end the figures, each campaign's taken as often as it has whole
 //! plays, therefore sum to the takings.
+//!
+//! ```
+//! use second::greatest::{accepts, greatest, NOBODY};
+//! use second::Day;
+//!
+//! // One play at 5 and one at 3; only the first view names both.
+//! let (day, _) = Day::blank().open(1, 2);
+//! let (day, _) = day.add(5, 5);
+//! let (day, _) = day.add(3, 3);
+//! let views = [0b11, 0b01, 0b00];
+//! let (mut allotment, mut of_campaigns, mut of_views) = ([0; 3], [0; 2], [0; 3]);
+//! let found = greatest(&day, &views, &mut allotment, &mut of_campaigns, &mut of_views);
+//! assert_eq!(found, Ok(8));
+//! assert_eq!(allotment, [1, 0, NOBODY]);
+//! assert_eq!(accepts(&day, &views, &allotment, &of_campaigns, &of_views), Ok(true));
+//! // What takes less is not accepted.
+//! assert_eq!(accepts(&day, &views, &[0, 64, 64], &of_campaigns, &of_views), Ok(false));
+//! ```
 
 use crate::day::{ask, members, Day, MAX_CAMPAIGNS};
 use crate::refusal;
@@ -30,7 +50,12 @@ const UNREACHED: u64 = u64::MAX;
 /// Each view is its set of unpaused names; the phase, counts and marks of the
 /// state do not matter. The front of the lent entries receives the campaign's
 /// number or [`NOBODY`] for each view, a figure for each campaign and a figure
-/// for each view. A refusal leaves all entries as they were.
+/// for each view. Entries beyond keep their values.
+///
+/// A refusal leaves all entries as they were and gives the number of the first
+/// question that fails: 1 if the state is not sound, 19 if there are more than
+/// [`MAX_KNOWN_VIEWS`] views, 13 if one names a campaign outside the plan, and
+/// 18 if fewer entries are lent than there are views or campaigns.
 pub fn greatest(
     day: &Day,
     views: &[u64],
@@ -39,7 +64,7 @@ pub fn greatest(
     view_figures: &mut [u64],
 ) -> Result<u64, u64> {
     let lent = [allotment.len(), campaign_figures.len(), view_figures.len()];
-    check(day, views, lent)?;
+    questions(day, views, lent)?;
     let mut search = Search::new(day, views);
     (0..views.len()).for_each(|view| search.place(view));
     for (entry, holder) in allotment.iter_mut().zip(&search.holders) {
@@ -53,8 +78,9 @@ pub fn greatest(
 
 /// Whether an allotment and two lists of figures are such as [`greatest`] may
 /// give: an allotment of the views, figures that sum to at least the price
-/// wherever a view names a campaign, and together to the allotment's takings.
-/// No allotment then takes more. Entries past the last are not looked at.
+/// wherever a view names a campaign, and together, each campaign's × its whole
+/// plays, to the allotment's takings. No allotment then takes more. Entries past
+/// the last are not looked at. The same questions are asked in the same order.
 pub fn accepts(
     day: &Day,
     views: &[u64],
@@ -63,7 +89,7 @@ pub fn accepts(
     view_figures: &[u64],
 ) -> Result<bool, u64> {
     let lent = [allotment.len(), campaign_figures.len(), view_figures.len()];
-    check(day, views, lent)?;
+    questions(day, views, lent)?;
     let allotment = &allotment[..views.len()];
     let campaign_figures = &campaign_figures[..day.count as usize];
     let view_figures = &view_figures[..views.len()];
@@ -74,7 +100,7 @@ pub fn accepts(
 
 /// Questions 1, 19, 13 and 18; the lent lengths are those of the allotment, the
 /// campaign figures and the view figures.
-fn check(day: &Day, views: &[u64], lent: [usize; 3]) -> Result<(), u64> {
+fn questions(day: &Day, views: &[u64], lent: [usize; 3]) -> Result<(), u64> {
     ask(day.is_sound(), refusal::UNSOUND)?;
     ask(views.len() <= MAX_KNOWN_VIEWS, refusal::MANY_VIEWS)?;
     let known = views.iter().all(|&set| day.beyond(set) == 0);

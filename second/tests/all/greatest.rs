@@ -1,10 +1,8 @@
-//! What a day could have earned: the search, its check, and the program.
+//! What a day could have earned: the search and its check.
 
-use crate::common::{best_allotment, filling, ok, running, Random, LISTING};
+use crate::common::{best_allotment, filling, ok, running, Random};
 use second::greatest::{accepts, greatest, MAX_KNOWN_VIEWS, NOBODY};
 use second::{Answer, Day, Phase};
-use std::io::Write;
-use std::process::{Command, Stdio};
 
 /// An allotment with the figures of campaigns and views.
 #[derive(Clone, Debug, PartialEq, Eq)]
@@ -193,10 +191,16 @@ fn the_plan_comes_in_any_phase_with_any_counts() {
 }
 
 #[test]
-fn whole_count_of_the_state_does_not_matter() {
+fn whatever_count_the_state_holds() {
+    let lent = Triple::lent(300, 64, 9);
     let mut day = running(1, 1, &[(1, 3)]);
-    day.views = 4_096;
-    assert_eq!(found(&day, &[1; 256]).0, 3);
+    for views in [0, 1, 255, 256, 257, 4_096] {
+        day.views = views;
+        assert_eq!(found(&day, &[1; 256]).0, 3);
+        assert_eq!(found(&day, &[]).0, 0);
+        refused(&day, &[1; 257], &lent, 19);
+        refused(&day, &[1; 4_096], &lent, 19);
+    }
 }
 
 /// Both calls are refused with this number and leave all entries.
@@ -226,6 +230,21 @@ fn questions_in_their_order() {
     refused(&day, &[0b11; 256], &short, 18);
     assert_eq!(Triple::lent(256, 2, 9).find(&day, &[0b11; 256]), Ok(16));
     assert_eq!(MAX_KNOWN_VIEWS, 256);
+}
+
+#[test]
+fn unsound_marks_get_1() {
+    let lent = Triple::lent(300, 64, 9);
+    let mut day = filling(1, 1, &[(5, 10), (3, 6)]);
+    day.paused = 0b01;
+    refused(&day, &[0b11], &lent, 1);
+    day = ok(filling(1, 1, &[(5, 10), (3, 6)]).start());
+    day.paused = 0b100;
+    refused(&day, &[0b11], &lent, 1);
+    refused(&day, &[0b100; 257], &lent, 1);
+    // A mark in the plan is sound and lends the views no new names.
+    day.paused = 0b11;
+    assert_eq!(found(&day, &[0b11, 0b01]).0, 10);
 }
 
 #[test]
@@ -339,30 +358,187 @@ fn check_turns_away_spoilt_triples() {
     assert!(still_fit > 1_000, "{still_fit}");
 }
 
-#[test]
-fn check_adds_without_overflow() {
-    let top = u64::MAX;
-    let day = filling(1, 1, &[(2, 4), (1, 1 << 30)]);
-    let accepted = |allotment: [u64; 2], campaigns: [u64; 2], views: [u64; 2]| {
-        let (allotment, campaigns, views) = (allotment.into(), campaigns.into(), views.into());
+/// A plan and views that triples made by hand are held against.
+struct Bench {
+    day: Day,
+    views: Vec<u64>,
+}
+
+impl Bench {
+    fn new(plan: &[(u64, u64)], views: &[u64]) -> Bench {
+        Bench {
+            day: filling(1, 1, plan),
+            views: views.to_vec(),
+        }
+    }
+
+    /// The check's word on an allotment with figures of campaigns and views;
+    /// the words of the request say the same.
+    #[track_caller]
+    fn judge(&self, allotment: &[u64], campaigns: &[u64], views: &[u64]) -> bool {
         let triple = Triple {
-            allotment,
-            campaigns,
-            views,
+            allotment: allotment.to_vec(),
+            campaigns: campaigns.to_vec(),
+            views: views.to_vec(),
         };
-        triple.check(&day, &[0b01, 0b01]).unwrap()
-    };
-    assert!(accepted([0, 0], [2, 0], [0, 0]));
-    assert!(accepted([0, 0], [0, 0], [2, 2]));
-    assert!(accepted([0, 0], [1, 0], [1, 1]));
+        let answer = triple.check(&self.day, &self.views).unwrap();
+        assert_eq!(answer, fits(&self.day, &self.views, &triple));
+        answer
+    }
+
+    #[track_caller]
+    fn taken(&self, allotment: &[u64], campaigns: &[u64], views: &[u64]) {
+        assert!(self.judge(allotment, campaigns, views));
+    }
+
+    #[track_caller]
+    fn turned_away(&self, allotment: &[u64], campaigns: &[u64], views: &[u64]) {
+        assert!(!self.judge(allotment, campaigns, views));
+    }
+}
+
+/// The greatest is 8: the first view goes to campaign 1, the second to 0.
+fn two_at_5_and_3() -> Bench {
+    Bench::new(&[(5, 5), (3, 3)], &[0b11, 0b01])
+}
+
+#[test]
+fn allotments_that_are_not_the_greatest() {
+    let bench = two_at_5_and_3();
+    bench.taken(&[1, 0], &[5, 3], &[0, 0]);
+    bench.taken(&[1, 0], &[2, 0], &[3, 3]);
+    for less in [[0, 64], [64, 0], [1, 64], [64, 64]] {
+        // Figures that reach every price sum to more than it takes.
+        bench.turned_away(&less, &[5, 3], &[0, 0]);
+        bench.turned_away(&less, &[2, 0], &[3, 3]);
+    }
+    // Figures that sum to what it takes leave a price unreached.
+    bench.turned_away(&[0, 64], &[5, 0], &[0, 0]);
+    bench.turned_away(&[64, 0], &[2, 0], &[0, 3]);
+    bench.turned_away(&[1, 64], &[0, 3], &[0, 0]);
+    bench.turned_away(&[64, 64], &[0, 0], &[0, 0]);
+    // The greatest, but with figures that sum to a cent more.
+    bench.turned_away(&[1, 0], &[6, 3], &[0, 0]);
+    bench.turned_away(&[1, 0], &[5, 3], &[0, 1]);
+    bench.turned_away(&[1, 0], &[5, 3], &[1, 0]);
+}
+
+#[test]
+fn figures_count_as_often_as_whole_plays() {
+    // Two whole plays and one view: a figure of the campaign counts twice.
+    let bench = Bench::new(&[(2, 5)], &[1]);
+    bench.taken(&[0], &[0], &[2]);
+    bench.turned_away(&[0], &[2], &[0]);
+    bench.turned_away(&[0], &[1], &[1]);
+    bench.turned_away(&[0], &[1], &[0]);
+    // Unnamed campaigns and views of nobody have no price to reach, but count.
+    let bench = Bench::new(&[(2, 2), (9, 9)], &[0b01, 0]);
+    bench.taken(&[0, 64], &[2, 0], &[0, 0]);
+    bench.turned_away(&[0, 64], &[2, 1], &[0, 0]);
+    bench.turned_away(&[0, 64], &[2, 0], &[0, 1]);
+    let bench = Bench::new(&[], &[0]);
+    bench.taken(&[64], &[], &[0]);
+    bench.turned_away(&[64], &[], &[1]);
+}
+
+#[test]
+fn entries_not_named() {
+    // Equal prices and enough plays: only the naming is amiss.
+    let bench = Bench::new(&[(2, 4), (2, 4)], &[0b10, 0]);
+    bench.taken(&[1, 64], &[0, 0], &[2, 0]);
+    bench.turned_away(&[0, 64], &[0, 0], &[2, 0]);
+    bench.turned_away(&[64, 1], &[0, 0], &[2, 0]);
+    bench.turned_away(&[64, 0], &[0, 0], &[2, 0]);
+    // Outside the plan, and 1 modulo 64, 2^8, 2^16, 2^32 and so on.
+    for entry in [2, 63, 65, 129, 257, 65_537, (1 << 32) + 1, (1 << 63) + 1] {
+        bench.turned_away(&[entry, 64], &[0, 0], &[2, 0]);
+    }
+    // Nobody is 64 alone.
+    let bench = Bench::new(&[(2, 4)], &[0, 1]);
+    bench.taken(&[64, 0], &[0], &[0, 2]);
+    for entry in [65, 128, 320, 65_600, (1 << 32) + 64, u64::MAX] {
+        bench.turned_away(&[entry, 0], &[0], &[0, 2]);
+    }
+}
+
+#[test]
+fn one_play_too_many() {
+    // In all of these each price is reached and the sums agree.
+    let bench = Bench::new(&[(2, 3)], &[1, 1]);
+    bench.taken(&[0, 64], &[2], &[0, 0]);
+    bench.turned_away(&[0, 0], &[0], &[2, 2]);
+    let bench = Bench::new(&[(2, 5)], &[1, 1, 1]);
+    bench.taken(&[0, 64, 0], &[2], &[0, 0, 0]);
+    bench.turned_away(&[0, 0, 0], &[0], &[2, 2, 2]);
+    let bench = Bench::new(&[(1, 1); 64], &[1 << 63, 1 << 63]);
+    let mut figures = [0; 64];
+    bench.turned_away(&[63, 63], &figures, &[1, 1]);
+    figures[63] = 1;
+    bench.taken(&[63, 64], &figures, &[0, 0]);
+    // 256 plays are not none.
+    for whole in [1, 255] {
+        let bench = Bench::new(&[(1, whole)], &[1; 256]);
+        bench.turned_away(&[0; 256], &[0], &[1; 256]);
+    }
+    Bench::new(&[(1, 256)], &[1; 256]).taken(&[0; 256], &[0], &[1; 256]);
+}
+
+#[test]
+fn figures_a_cent_too_small() {
+    // In all of these the figures sum to the greatest takings.
+    let bench = two_at_5_and_3();
+    bench.taken(&[1, 0], &[4, 2], &[1, 1]);
+    bench.turned_away(&[1, 0], &[4, 3], &[1, 0]);
+    bench.turned_away(&[1, 0], &[5, 2], &[0, 1]);
+    bench.turned_away(&[1, 0], &[3, 2], &[2, 1]);
+    bench.turned_away(&[1, 0], &[4, 1], &[1, 2]);
+    // Reached by the pairs that the allotment uses, not by the first view's
+    // with campaign 0.
+    bench.taken(&[1, 0], &[2, 0], &[3, 3]);
+    bench.turned_away(&[1, 0], &[1, 0], &[3, 4]);
+    bench.turned_away(&[1, 0], &[0, 0], &[3, 5]);
+    // The last view and the last campaign.
+    let mut figures = [0; 64];
+    let bench = Bench::new(&[(7, 7); 64], &[u64::MAX; 64]);
+    let all: Vec<u64> = (0..64).collect();
+    bench.taken(&all, &figures, &[7; 64]);
+    let mut short = [7; 64];
+    (short[0], short[63]) = (8, 6);
+    bench.turned_away(&all, &figures, &short);
+    figures = [7; 64];
+    bench.taken(&all, &figures, &[0; 64]);
+    (figures[0], figures[63]) = (8, 6);
+    bench.turned_away(&all, &figures, &[0; 64]);
+}
+
+#[test]
+fn sums_that_would_wrap() {
+    let top = u64::MAX;
+    let bench = Bench::new(&[(2, 4), (1, 1 << 30)], &[0b01, 0b01]);
+    let give = [0, 0];
+    bench.taken(&give, &[2, 0], &[0, 0]);
+    bench.taken(&give, &[0, 0], &[2, 2]);
+    bench.taken(&give, &[1, 0], &[1, 1]);
     // Modulo 2^64 each of these sums is 4 and each price is reached.
-    assert!(!accepted([0, 0], [2 + (1 << 63), 0], [0, 0]));
-    assert!(!accepted([0, 0], [0, 0], [top - 1, 6]));
-    assert!(!accepted([0, 0], [top, 0], [3, 3]));
-    assert!(!accepted([0, 0], [2, 1 << 34], [0, 0]));
+    bench.turned_away(&give, &[2 + (1 << 63), 0], &[0, 0]);
+    bench.turned_away(&give, &[0, 0], &[top - 1, 6]);
+    bench.turned_away(&give, &[0, 0], &[2 + (1 << 63), 2 + (1 << 63)]);
+    bench.turned_away(&give, &[top, 0], &[3, 3]);
+    bench.turned_away(&give, &[2, 1 << 34], &[0, 0]);
+    bench.turned_away(&give, &[1 << 63, 1 << 63], &[2, 2]);
+    bench.turned_away(&give, &[top, 1 << 34], &[3, 3]);
+    // Modulo 2^32 too.
+    bench.turned_away(&give, &[2 + (1 << 31), 0], &[0, 0]);
+    bench.turned_away(&give, &[0, 0], &[(1 << 32) - 2, 6]);
+    bench.turned_away(&give, &[2, 4], &[0, 0]);
+    // Nothing is given, and modulo 2^64 the figures sum to nothing.
+    bench.turned_away(&[64, 64], &[1 << 63, 0], &[0, 0]);
+    bench.turned_away(&[64, 64], &[0, 0], &[1 << 63, 1 << 63]);
     // The greatest figures there are.
-    assert!(!accepted([0, 0], [top, 0], [top, top]));
-    assert!(!accepted([64, 64], [top, top], [top, top]));
+    bench.turned_away(&give, &[top, 0], &[top, top]);
+    bench.turned_away(&[64, 64], &[top, top], &[top, top]);
+    let most = Bench::new(&[(1, 2_000_000_000)], &[1; 256]);
+    most.turned_away(&[0; 256], &[top], &[top; 256]);
 }
 
 /// What is left of an allotment's takings without campaigns that fall short.
@@ -426,60 +602,4 @@ fn takings_keep_their_floor_against_the_greatest() {
         telling += u64::from(foreseen > 0);
     }
     assert!(telling > 1_000, "{telling}");
-}
-
-/// What the program prints for an input.
-fn printed(input: &[u8]) -> String {
-    let mut command = Command::new(env!("CARGO_BIN_EXE_second_greatest"));
-    command.stdin(Stdio::piped()).stdout(Stdio::piped());
-    let mut child = command.spawn().unwrap();
-    child.stdin.take().unwrap().write_all(input).unwrap();
-    let output = child.wait_with_output().unwrap();
-    assert!(output.status.success());
-    String::from_utf8(output.stdout).unwrap()
-}
-
-const TWO: &str = "(plan (depth 1) (width 2))\n(campaign (price 3) (budget 3))\n\
-    (campaign (price 2) (budget 2))\n(start)\n";
-
-#[test]
-fn program_prints_both_takings() {
-    assert_eq!(printed(LISTING.as_bytes()), "takings 16 greatest 16\n");
-    assert_eq!(printed(b""), "takings 0 greatest 0\n");
-    assert_eq!(printed(TWO.as_bytes()), "takings 0 greatest 0\n");
-    // The first view goes to the dearer, which the second alone names.
-    let missed = format!("{TWO}(view 0 1)\n(view 0)");
-    assert_eq!(printed(missed.as_bytes()), "takings 3 greatest 5\n");
-    // Refused views and refused openings leave the list as it is.
-    let noise = format!(
-        "{missed}\n(view 1 2)\n(plan (depth 1) (width 1))\n(view 1 0)\n\n(close)\n(view 1)\n"
-    );
-    assert_eq!(printed(noise.as_bytes()), "takings 3 greatest 5\n");
-    // An accepted opening begins another day.
-    let next = format!("{missed}\n(close)\n{LISTING}");
-    assert_eq!(printed(next.as_bytes()), "takings 16 greatest 16\n");
-    let opened = format!("{missed}\n(close)\n(plan (depth 1) (width 1))\n");
-    assert_eq!(printed(opened.as_bytes()), "takings 0 greatest 0\n");
-}
-
-#[test]
-fn program_leaves_paused_names_out() {
-    let input = format!("{TWO}(pause 1)\n(view 0 1)\n(view 1)\n(resume 1)\n(view 0)\n");
-    assert_eq!(printed(input.as_bytes()), "takings 3 greatest 3\n");
-    let input = format!("{input}(view 1)\n(pause 0)\n");
-    assert_eq!(printed(input.as_bytes()), "takings 5 greatest 5\n");
-}
-
-#[test]
-fn program_takes_256_views() {
-    let most = format!("{TWO}{}", "(view 0)\n".repeat(256));
-    assert_eq!(printed(most.as_bytes()), "takings 3 greatest 3\n");
-    assert_eq!(
-        printed(format!("{most}(view)\n").as_bytes()),
-        "refused 19\n"
-    );
-    assert_eq!(
-        printed(format!("{most}(view 2)\n").as_bytes()),
-        "takings 3 greatest 3\n"
-    );
 }

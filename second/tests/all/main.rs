@@ -7,5 +7,6 @@ mod limits;
 mod lines;
 mod page;
 mod program;
+mod recorded;
 mod refusals;
 mod soundness;
