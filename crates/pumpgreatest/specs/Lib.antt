@@ -1,0 +1,3 @@
+pub mod Wires
+pub mod Prints
+pub mod Contracts
