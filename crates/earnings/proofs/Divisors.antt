@@ -1,6 +1,6 @@
 -- The greatest common divisor, as it is defined and as Euclid's loop finds it: a turn keeps the common divisors, and at
 -- the end they are the divisors of one number. Divided by it, a ratio is in lowest terms.
-use mathlib.Core.Path.{_≡_, refl, ap, sym, _∙_, subst⁻¹, subst}
+use mathlib.Core.Path.{_≡_, refl, ap, subst⁻¹, subst}
 use mathlib.Core.Bool.{Bool, true, false, cond, _&&_}
 use Prim.Native.Nat.{ℕ, zero, suc, _+_, _*_, _/_, _%_, _∣_, _≤_, _<_}
 use native.Mathlib.Nat.{dvd-refl, dvd-zero, dvd-mod-iff, le-of-dvd, mod-eq-zero-of-dvd, dvd-of-mod-eq-zero, one-dvd}
@@ -9,7 +9,7 @@ use native.Mathlib.Omega.{arith}
 use lib.Dec.{eqb, leb}
 use borrow.Author.Tests.{eqb-true, eq-eqb, ne-eqb, leb-true, leb-false}
 use Rattle.finite.proofs.Tests.{both-left, both-right, both-join, never}
-use Rattle.earnings.specs.Ratio.{common-up-to, gcd, ratio-of, Lowest, In-lowest-terms}
+use Rattle.earnings.specs.Ratio.{common-up-to, gcd, In-lowest-terms}
 
 -- k divides both
 abbrev pub Common : (k a b : ℕ) → Type 0
@@ -102,7 +102,8 @@ module _ (t g : ℕ) (h : 0 < g) where
       go : (b : Bool) → leb k 1 ≡ b → k ≤ 1
       go true e = leb-true k 1 e
       go false e =
-          let over : d * k ∣ t = subst (λ (x : ℕ). d * k ∣ x) whole-over (mul-dvd-mul-left k d (dvd-of-mod-eq-zero k p)) in
+          let over : d * k ∣ t =
+          subst (λ (x : ℕ). d * k ∣ x) whole-over (mul-dvd-mul-left k d (dvd-of-mod-eq-zero k p)) in
           let under : d * k ∣ g =
           subst (λ (x : ℕ). d * k ∣ x) whole-under (mul-dvd-mul-left k d (dvd-of-mod-eq-zero k q)) in
           let u = up-to g t g in

@@ -10,12 +10,10 @@ use Rattle.audit.specs.declared.Audit.{Audit}
 use Rattle.audit.proofs.Audits.{audit-figures}
 use Rattle.day.specs.declared.Day.{Day}
 use Rattle.day.specs.Day.{head-of, campaign, total-takings, sound, audited}
-use Rattle.questions.specs.Questions.{first-failed}
 use Rattle.optimum.specs.declared.Optimum.{Optimum}
 use Rattle.optimum.specs.declared.Optimum.the-variants as optimum
-use Rattle.optimum.specs.Optimum.{questions, failed, most-of, found}
+use Rattle.optimum.specs.Optimum.{failed, most-of, found}
 use Rattle.optimum.proofs.Asked.{granted}
-use Rattle.earnings.specs.declared.Earnings.{Earnings}
 use Rattle.earnings.specs.declared.Earnings.the-variants.{Refused, Figures}
 use Rattle.earnings.specs.Earnings.{earnings-of, question-of, earned}
 

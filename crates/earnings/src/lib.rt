@@ -38,7 +38,15 @@ fn earned_at<'a>(
     let mut allotment: [u64; 256] = [0; 256];
     let mut surplus: [u64; 64] = [0; 64];
     let mut worth: [u64; 256] = [0; 256];
-    match search(head, terms, counts, views, &mut allotment, &mut surplus, &mut worth) {
+    match search(
+        head,
+        terms,
+        counts,
+        views,
+        &mut allotment,
+        &mut surplus,
+        &mut worth,
+    ) {
         Optimum::Refused(question) => Earnings::Refused(question),
         Optimum::Takings(greatest) => Earnings::Figures {
             takings: audit.takings,

@@ -1,10 +1,10 @@
--- What is told at the end of input. The entries have the day's own views, one more than the search takes at the least,
--- so that the search is handed all of them, or so many that it refuses. A day that was read is sound, and its views name
--- campaigns that it has: no other question fails.
-use mathlib.Core.Path.{_≡_, refl, sym, ap, ap₂, _∙_, subst, subst⁻¹}
-use mathlib.Core.Bool.{Bool, true, false, cond, _&&_}
+-- What is told at the end of input. There are more entries than the search takes views, so that it is handed all of the
+-- day's own, or so many that it refuses. A day that was read is sound, and its views name campaigns that it has: no
+-- other question fails.
+use mathlib.Core.Path.{_≡_, refl, sym, ap, ap₂, _∙_, subst⁻¹}
+use mathlib.Core.Bool.{Bool, true, false, cond}
 use mathlib.Core.List.{List, [], _∷_, _++_, map}
-use Prim.Native.Nat.{ℕ, zero, suc, _+_, _-_, _≤_, _<_}
+use Prim.Native.Nat.{ℕ, zero, suc, _-_, _≤_, _<_}
 use native.Mathlib.Omega.{arith}
 use lib.Dec.{leb}
 use lib.ListN.{length, take, drop, getD, length-take, length-drop, length-map}
@@ -13,27 +13,26 @@ use borrow.Author.Tests.{le-leb, lt-leb, leb-true, leb-false}
 use Rattle.finite.specs.Finite.{every}
 use Rattle.finite.proofs.Tests.{every-of}
 use Rattle.sets.specs.Set.{within}
-use Rattle.buffer.specs.Buffer.{over, Put}
+use Rattle.buffer.specs.Buffer.{Put}
 use Rattle.buffer.proofs.Over.{over-part, over-front}
 use Rattle.campaigns.specs.declared.View.{View}
 use Rattle.day.specs.declared.Day.{Day}
-use Rattle.day.specs.Day.{blank, total-takings, sound}
+use Rattle.day.specs.Day.{blank, total-takings}
 use Rattle.day.proofs.State.{sound-facts}
 use Rattle.questions.specs.Questions.{first-failed}
-use Rattle.demands.specs.Transcript.{Exchange, transcript, final}
+use Rattle.demands.specs.Transcript.{Exchange, final}
 use Rattle.floor.specs.History.{History, history}
 use Rattle.floor.specs.History.Starts.{from-blank}
 use Rattle.floor.specs.Floor.{no-view}
 use Rattle.floor.proofs.Reach.{Reached, reached}
 use Rattle.allotments.specs.Allotment.{at}
-use Rattle.optimum.specs.Optimum.{max-handed-in, questions, most-of}
+use Rattle.optimum.specs.Optimum.{max-handed-in, most-of}
 use Rattle.stream.specs.Chunking.{after-lines}
 use Rattle.programs.specs.Lines.{calls-of, day-of}
 use Rattle.programs.proofs.Lines.{lines-keep-the-demands}
 use Rattle.recording.specs.Recording.{own-views}
-use Rattle.earnings.specs.declared.Earnings.{Earnings}
 use Rattle.earnings.specs.declared.Earnings.the-variants.{Refused, Figures}
-use Rattle.earnings.specs.Earnings.{earnings-of, question-of, earned}
+use Rattle.earnings.specs.Earnings.{question-of, earned}
 use Rattle.pumpgreatest.specs.Prints.{answer, day-earnings}
 
 -- the bytes that were put, as they stand in the buffer

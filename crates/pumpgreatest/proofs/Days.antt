@@ -15,11 +15,10 @@ use Rattle.day.specs.Day.{blank}
 use Rattle.optimum.specs.Optimum.{max-handed-in}
 use Rattle.reply.specs.Session.{Session}
 use Rattle.stream.specs.declared.feed.Stream.{Stream}
-use Rattle.stream.specs.Stream.{finished, new-stream, session-of}
-use Rattle.stream.specs.Chunking.{after-lines, Split}
+use Rattle.stream.specs.Stream.{finished, new-stream}
+use Rattle.stream.specs.Chunking.{after-lines}
 use Rattle.stream.proofs.Chunking.{split}
-use Rattle.programs.specs.Lines.{day-of}
-use Rattle.recording.specs.Recording.{own-views, all-lines, noted, recorded, last-session, last-views}
+use Rattle.recording.specs.Recording.{all-lines, noted, last-views}
 use Rattle.recording.specs.Contracts.{Took}
 use Rattle.recording.proofs.Bytes.{took-none, took-more}
 use Rattle.recording.proofs.Views.{any-recording}
@@ -112,7 +111,8 @@ module _ {v : List ℕ} {k : Stream} {u : List ℕ} {w : Wire} {turns : ℕ} (a 
       let none : input ++ take (r .n) l ≡ input =
       ap (λ (i : ℕ). input ++ take i l) (eqb-true (r .n) 0 (sym (r .ended-is) ∙ e)) ∙ append-nil input in
       let earnings : earned-at-end (t .stream) x ≡ day-earnings (all-lines (split input)) =
-      ended-earnings input v (t .stream) x room (subst (λ (i : List ℕ). Took new-stream v i (t .stream) x) none more-took) in
+      ended-earnings input v (t .stream) x room
+      (subst (λ (i : List ℕ). Took new-stream v i (t .stream) x) none more-took) in
       record {
         blocks = a .blocks;
         none-empty = λ f. a .none-empty;

@@ -35,10 +35,10 @@ answer s views = cond (leb (length views) max-handed-in) (Figures (total-takings
 abbrev pub day-earnings : List (List ℕ) → Earnings
 day-earnings ls = answer (after-lines blank ls) (own-views (day-of ls))
 
--- A whole run: reads gave blocks, which are lines and a rest; a rest that has bytes is a last line. Unless a read failed
--- or 2^64 − 1 reads were made, the last read gave nothing, the earnings that were told are those of the day that the
--- lines record, and as many bytes were told as their line has; that they are its bytes is what `tell` requires. After a
--- read that failed nothing is told.
+-- A whole run: reads gave blocks, which are lines and a rest; a rest that has bytes is a last line. Unless a read
+-- failed or 2^64 − 1 reads were made, the last read gave nothing, the earnings that were told are those of the day that
+-- the lines record, and as many bytes were told as their line has; that they are its bytes is what `tell` requires.
+-- After a read that failed nothing is told.
 pub record Prints (r : Wire) : Type 0 where
   pub blocks : List (List ℕ)
   pub none-empty : r .failed ≡ false → None-empty blocks

@@ -1,6 +1,6 @@
 -- Standard input and output, as far as contracts reach: no contract can say what a read put into the block, or what a
--- write made of its bytes. A wire has the earnings that were told, and counts the reads, the bytes that they gave and the
--- bytes that were told, modulo 2^64; only `src/wire.rt` can make one.
+-- write made of its bytes. A wire has the earnings that were told, and counts the reads, the bytes that they gave and
+-- the bytes that were told, modulo 2^64; only `src/wire.rt` can make one.
 use mathlib.Core.Path.{_≡_}
 use mathlib.Core.Bool.{true, false}
 use mathlib.Core.List.{List}

@@ -1,6 +1,6 @@
-// A recorded day from standard input, and to standard output one line: what it took, the most that it could have earned,
-// and their ratio. A read or a write that fails is told on standard error; nothing is printed of a day that could not be
-// read to its end.
+// A recorded day from standard input, and to standard output one line: what it took, the most that it could have
+// earned, and their ratio. A read or a write that fails is told on standard error; nothing is printed of a day that
+// could not be read to its end.
 mod wire;
 
 ghost use mathlib.Core.Path.{_≡_};

@@ -9,7 +9,7 @@ use libc::STDIN_FILENO;
 use libc::STDOUT_FILENO;
 use std::num::wrapping_add_u64;
 
-// The earnings that were told, or refusal 0 before; how many reads were made, how many bytes they gave and how many were
+// The earnings that were told, refusal 0 before; how many reads were made, how many bytes they gave and how many were
 // told, each modulo 2^64; whether the last read gave nothing and whether it failed, and whether every write went
 // through.
 pub struct Wire {

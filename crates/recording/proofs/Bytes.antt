@@ -1,13 +1,13 @@
 -- Bytes taken one part after the other. Both what a session becomes and what is recorded compose (`took-more`); bytes
 -- without a byte 10 record nothing (`took-plain`), and a byte 10 records what the pending line shows (`took-end`).
-use mathlib.Core.Path.{_≡_, refl, sym, ap, ap₂, _∙_, subst}
+use mathlib.Core.Path.{_≡_, refl, sym, ap, ap₂, _∙_}
 use mathlib.Core.Bool.{Bool, true, false, cond}
 use mathlib.Core.List.{List, [], _∷_, _++_}
-use Prim.Native.Nat.{ℕ, suc, _+_, _≤_, _<_}
+use Prim.Native.Nat.{ℕ, suc, _≤_, _<_}
 use native.Mathlib.Omega.{arith}
 use lib.Dec.{eqb}
-use lib.ListN.{length, take, drop, getD, length-take}
-use lib.Seq.{take-length, take-suc, take-add}
+use lib.ListN.{length, take, length-take}
+use lib.Seq.{take-length, take-suc}
 use borrow.Author.Tests.{eqb-true}
 use Rattle.reply.specs.Session.{Session, reply-room, longer, ended, after-byte, fed, consumed-count, upto}
 use Rattle.reply.proofs.Sessions.{fed-append, byte-plain, byte-end, consumed-nil, consumed-line, upto-at}
@@ -100,8 +100,11 @@ module _ (k : Stream) (v d e : List ℕ) (r : Fed) (short : length (session-of k
   took-end w h f =
       let x = session-of k in
       let n : consumed-count (length d) x (10 ∷ []) ≡ 1 =
-      omega
-      (arith, consumed-line (length d) x (10 ∷ []) short room (omega arith), consumed-nil (length d) (ended (longer x []))) in
+      omega (
+        arith,
+        consumed-line (length d) x (10 ∷ []) short room (omega arith),
+        consumed-nil (length d) (ended (longer x [])),
+      ) in
       record {
         session-is = session-next f ∙ ap (λ (i : ℕ). silent (fed x (take i (10 ∷ [])))) n;
         views-are = h ∙ sym (recorded-end x v);

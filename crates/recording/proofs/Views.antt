@@ -1,13 +1,13 @@
--- The views that are kept are the day's own. The state counts the accepted views of its day, so that the entry behind
--- them is written by every line, and counts only where the state's number grows. By induction on the lines; the bytes of
--- an input record what its lines do.
+-- The views that are kept are the day's own. The state counts the accepted views of its day; the entry behind them is
+-- written by every line, and is one of them only where that number grows. By induction on the lines; the bytes of an
+-- input record what its lines do.
 use mathlib.Core.Path.{_≡_, refl, sym, ap, ap₂, _∙_, subst, subst⁻¹}
 use mathlib.Core.Bool.{Bool, true, false, cond}
 use mathlib.Core.List.{List, [], _∷_, _++_, map}
-use Prim.Native.Nat.{ℕ, zero, suc, min, _+_, _≤_, _<_}
+use Prim.Native.Nat.{ℕ, suc, min, _+_, _≤_, _<_}
 use native.Mathlib.Omega.{arith}
 use native.Mathlib.Numerals.{add-one}
-use lib.Dec.{eqb, leb, ltb}
+use lib.Dec.{leb, ltb}
 use lib.ListN.{length, take, set, length-append, length-set}
 use lib.Seq.{take-all, take-set-le, take-suc-set, take-append-le, set-out}
 use borrow.Author.Tests.{eq-eqb, ne-eqb, leb-true, leb-false, ltb-true, ltb-false}
@@ -15,7 +15,6 @@ use Rattle.sets.specs.Set.{without}
 use Rattle.lines.specs.declared.Reading.{Reading}
 use Rattle.lines.specs.Reading.{reading}
 use Rattle.campaigns.specs.declared.View.{View}
-use Rattle.campaigns.specs.declared.Phase.the-variants.{Filling, Running}
 use Rattle.day.specs.declared.Answer.{Answer}
 use Rattle.day.specs.declared.Answer.the-variants.{Refused}
 use Rattle.day.specs.declared.Day.{Day}
@@ -26,18 +25,18 @@ use Rattle.day.specs.Calls.Call.{open-plan, add-campaign, start-day, show-view,
 use Rattle.day.proofs.Questions.{call-elim}
 use Rattle.demands.specs.Transcript.{Exchange}
 use Rattle.demands.proofs.Refusals.{result-number}
-use Rattle.floor.specs.History.{History, opening, unpaused-in, with-call, entered, continued, history}
+use Rattle.floor.specs.History.{History, opening, unpaused-in, with-call, entered, continued}
 use Rattle.reply.specs.Reply.{Request, request-of, executed, outcome, next, reply}
 use Rattle.reply.specs.Reply.Request.{makes, fails}
-use Rattle.reply.specs.Session.{Session, longer, ended, after-byte, fed, upto}
+use Rattle.reply.specs.Session.{Session, longer, ended, fed}
 use Rattle.reply.proofs.Sessions.{cut-reading, cut-next, byte-end}
 use Rattle.batch.proofs.Rests.{rest-fed}
 use Rattle.stream.specs.Stream.{finished, session, session-of, new-stream, silent}
-use Rattle.stream.specs.Chunking.{joined, Plain, All-plain, after-lines, replies, Split}
+use Rattle.stream.specs.Chunking.{joined, Plain, All-plain, after-lines, Split}
 use Rattle.stream.proofs.Chunking.{fed-lines}
 use Rattle.programs.specs.Lines.{with-exchange, exchanges, day-of, with-rest}
-use Rattle.recording.specs.Recording.{own-views, all-lines, kept-views, shown-by-call, shown-in, noted, recorded}
-use Rattle.recording.specs.Recording.{last-session, last-views, Recorded, Any-recording}
+use Rattle.recording.specs.Recording.{own-views, all-lines, shown-by-call, shown-in, noted, recorded}
+use Rattle.recording.specs.Recording.{last-session, last-views, Any-recording}
 use Rattle.recording.proofs.Bytes.{recorded-append, recorded-plain}
 
 own-snoc : (vs : List View) (w : View)

@@ -49,8 +49,8 @@ abbrev pub shown-in : Request → ℕ
 shown-in (makes c) = shown-by-call c
 shown-in (fails q) = 0
 
--- the line l of the state s, of which it is not known yet whether it is accepted: what it shows, less the paused, stands
--- behind the views that were accepted
+-- the line l of the state s, before it is known whether it is accepted: what it shows, less the paused, stands behind
+-- the views that were accepted
 unfoldable pub noted : Day → (l views : List ℕ) → List ℕ
 noted s l views = set views (s .accepted) (without (shown-in (request-of (reading l))) (s .paused))
 

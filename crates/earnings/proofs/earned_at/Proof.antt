@@ -1,6 +1,5 @@
 -- One audit, for the takings, and the search, whose lent entries are enough for 256 views and 64 campaigns.
 use mathlib.Core.Path.{refl}
-use lib.ListN.{length-replicate}
 use borrow.Author.Needs.{needs}
 use Rattle.day.specs.Day.{state-of}
 use Rattle.earnings.proofs.Told.{refused-told, figures-told}

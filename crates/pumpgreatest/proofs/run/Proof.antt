@@ -33,6 +33,13 @@ loop-holds c =
 abbrev begin : tie.After-read-block Inv-loop μ-loop → tie.Start Inv-loop μ-loop
 begin c = c .before .before .before .before .before .before .before .before .before .before .before
 
+-- where the run stood before it
+reached-before : (c : tie.After-read-block Inv-loop μ-loop)
+    → Reached (begin c .args .views .now) (c .before .before .before .before .before .loop .stream)
+    (c .before .before .before .before .before .loop .views) (c .before .before .before .before .before .loop .wire)
+    (c .before .before .before .before .before .loop .turns)
+reached-before c = c .before .before .before .before .before .loop .inv .3
+
 -- the buffers and the entries after a read
 same-block : (c : tie.After-read-block Inv-loop μ-loop)
     → length (c .read-block .last .1 .1 .0) ≡ length (begin c .args .block .now)
@@ -53,7 +60,7 @@ failing c = c .before .before .before .before .before .before .before .before .b
 returns : tie.Need-returns Inv-loop μ-loop
 returns c =
     let r = failing c in
-    ran-failed (r .before .before .before .before .before .loop .inv .3) (r .read-block .ensures)
+    ran-failed (reached-before r) (r .read-block .ensures)
     (sym (c .before .failed .ensures) ∙ c .if1 .taken)
 
 -- the end of input
@@ -62,7 +69,7 @@ returns-2 c =
     let ending = c .before .before .before .before .before .before .before in
     let going = ending .before .before in
     let r = going .before .before .before .before .before .before .before .before .before .before in
-    ran-through (r .before .before .before .before .before .loop .inv .3) (r .read-block .ensures)
+    ran-through (reached-before r) (r .read-block .ensures)
     (sym (going .before .failed .ensures) ∙ going .if1 .left)
     (sym (ending .before .ended .ensures) ∙ ending .if2 .taken)
     (begin r .pre .1)
@@ -75,7 +82,7 @@ loop-again c =
       same-block r,
       same-views r,
       same-out r,
-      reached-more (r .before .before .before .before .before .loop .inv .3) (r .read-block .ensures) more (omega arith),
+      reached-more (reached-before r) (r .read-block .ensures) more (omega arith),
     )
 
 -- room for the longest answer, before a read and at the end of input
@@ -86,12 +93,15 @@ read-room c κs =
 
 finish-room : tie.Need-finish-requires Inv-loop μ-loop
 finish-room c κs =
-    let r = c .before .before .before .before .before .before .before .before .before .before .before .before .before .before in
+    let ending = c .before .before in
+    let r = ending .before .before .before .before .before .before .before .before .before .before .before .before in
     omega (arith, same-out r, begin r .pre .0)
 
 -- the turn that has read, of a run at the end of input
 abbrev at-end : tie.After-finish Inv-loop μ-loop → tie.After-read-block Inv-loop μ-loop
-at-end c = c .before .before .before .before .before .before .before .before .before .before .before .before .before .before .before
+at-end c =
+    let ending = c .before .before .before in
+    ending .before .before .before .before .before .before .before .before .before .before .before .before
 
 same-length-4 : tie.Need-same-length-4 Inv-loop μ-loop
 same-length-4 c = same-block (at-end (c .before .before .before .before))

@@ -1,6 +1,5 @@
 -- A line that is read shows what its record shows; any other shows none.
-use mathlib.Core.Path.{_≡_, refl, sym, ap, _∙_}
-use Prim.Native.Nat.{ℕ}
+use mathlib.Core.Path.{sym, ap, _∙_}
 use borrow.Author.Needs.{needs}
 use Rattle.lines.specs.declared.Reading.{Reading}
 use Rattle.reply.specs.Reply.{request-of}
@@ -11,7 +10,8 @@ use Rattle.recording.proofs.shown_by.Tie as tie
 returns : tie.Need-returns
 returns c =
     let r = c .before .before .before .before .read-line in
-    c .shown .ensures ∙ ap (λ (x : Reading). shown-in (request-of x)) (sym (c .before .before .input .given .1) ∙ r .ensures)
+    let told = sym (c .before .before .input .given .1) ∙ r .ensures in
+    c .shown .ensures ∙ ap (λ (x : Reading). shown-in (request-of x)) told
 
 returns-2 : tie.Need-returns-2
 returns-2 c =

@@ -1,8 +1,8 @@
 -- The block, line after line (`Going`), and the bytes of a line that does not end in it.
-use mathlib.Core.Path.{_≡_, refl, sym, ap, _∙_}
-use Prim.Native.Nat.{ℕ, _+_, _-_, _≤_, _<_}
+use mathlib.Core.Path.{_≡_, refl, _∙_}
+use Prim.Native.Nat.{_-_, _≤_, _<_}
 use native.Mathlib.Omega.{arith}
-use lib.ListN.{length, drop, length-drop}
+use lib.ListN.{length}
 use borrow.Author.Needs.{needs}
 use Rattle.recording.proofs.Bytes.{short-stream}
 use Rattle.recording.proofs.Blocks.{Going, going-begins, line-plain, going-line, going-ends}

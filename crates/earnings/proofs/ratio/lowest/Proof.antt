@@ -1,11 +1,8 @@
 -- Where nothing could be earned 1 to 1, else both divided by their greatest common divisor.
-use mathlib.Core.Path.{_≡_, refl, ap, _∙_}
-use mathlib.Core.Bool.{cond}
-use Prim.Native.Nat.{ℕ, _/_, _<_}
+use mathlib.Core.Path.{_≡_, ap, _∙_}
+use Prim.Native.Nat.{ℕ, _/_}
 use native.Mathlib.Omega.{arith}
-use lib.Dec.{eqb}
 use borrow.Author.Tests.{eq-eqb, ne-eqb}
-use Rattle.earnings.specs.declared.ratio.Ratio.{Ratio}
 use Rattle.earnings.specs.Ratio.{gcd, ratio-of}
 use Rattle.earnings.proofs.ratio.lowest.Statement.{statement}
 use Rattle.earnings.proofs.ratio.lowest.Tie as tie
