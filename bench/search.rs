@@ -164,6 +164,104 @@ impl Plain {
         closed
     }
 
+    /// The dearest of the campaigns of a set, the lowest such.
+    fn dearest(&self, unserved: u64) -> usize {
+        let mut best = unserved.trailing_zeros() as usize;
+        let mut left = unserved & (unserved - 1);
+        while left != 0 {
+            let i = left.trailing_zeros() as usize;
+            if self.prices[best] < self.prices[i] {
+                best = i;
+            }
+            left &= left - 1;
+        }
+        best
+    }
+
+    fn search(&self, found: &mut Triple) -> u64 {
+        let Triple { allotment, surplus, worth } = found;
+        unsafe {
+            wezghuli_search(
+                self.head.as_ptr(),
+                self.terms.as_ptr(),
+                self.counts.as_ptr(),
+                self.views.as_ptr(),
+                self.views.len(),
+                allotment.as_mut_ptr(),
+                allotment.len(),
+                surplus.as_mut_ptr(),
+                surplus.len(),
+                worth.as_mut_ptr(),
+                worth.len(),
+            )
+        }
+    }
+
+    fn check(&self, found: &Triple) -> u64 {
+        let Triple { allotment, surplus, worth } = found;
+        unsafe {
+            wezghuli_check(
+                self.head.as_ptr(),
+                self.terms.as_ptr(),
+                self.counts.as_ptr(),
+                self.views.as_ptr(),
+                self.views.len(),
+                allotment.as_ptr(),
+                allotment.len(),
+                surplus.as_ptr(),
+                surplus.len(),
+                worth.as_ptr(),
+                worth.len(),
+            )
+        }
+    }
+}
+
+impl Plain {
+    fn free_view(&self, to: &[u64], campaign: u64, from: usize) -> usize {
+        for j in from..self.views.len() {
+            if to[j] == 64 && (self.views[j] >> campaign) & 1 == 1 {
+                return j;
+            }
+        }
+        self.views.len()
+    }
+
+    /// One more view for a campaign, and the campaigns visited.
+    fn seek(&self, to: &mut [u64], campaign: u64, visited: u64, from: usize) -> (bool, u64) {
+        let free = self.free_view(to, campaign, from);
+        if free < self.views.len() {
+            to[free] = campaign;
+            return (true, visited);
+        }
+        let mut seen = visited | 1 << campaign;
+        for j in 0..self.views.len() {
+            if (self.views[j] >> campaign) & 1 == 1 && (seen >> to[j]) & 1 == 0 {
+                let (found, after) = self.seek(to, to[j], seen, from);
+                if found {
+                    to[j] = campaign;
+                    return (true, after);
+                }
+                seen = after;
+            }
+        }
+        (false, seen)
+    }
+
+    /// The campaigns closed after a campaign was served.
+    fn serve(&self, to: &mut [u64], campaign: usize, closed: u64, first: &mut usize) -> u64 {
+        for _ in 0..self.plays[campaign] {
+            while *first < self.views.len() && to[*first] != 64 {
+                *first += 1;
+            }
+            let (found, seen) = self.seek(to, campaign as u64, closed, *first);
+            if !found {
+                return seen;
+            }
+        }
+        closed
+    }
+
     fn dearest(&self, served: u64) -> Option<usize> {
         let mut best: Option<usize> = None;
         for i in 0..64 {
@@ -176,8 +274,9 @@ impl Plain {
 
     fn search(&self, found: &mut Triple) {
         found.allotment.fill(64);
-        let (mut level, mut first, mut closed, mut served) = ([0; 64], 0, 0u64, 0u64);
-        while let Some(campaign) = self.dearest(served) {
+        let (mut level, mut first, mut closed, mut unserved) = ([0; 64], 0, 0u64, u64::MAX);
+        while unserved != 0 {
+            let campaign = self.dearest(unserved);
             let next = self.serve(&mut found.allotment, campaign, closed, &mut first);
             let mut new = next & !closed;
             while new != 0 {
@@ -185,7 +284,7 @@ impl Plain {
                 new &= new - 1;
             }
             closed = next;
-            served |= 1 << campaign;
+            unserved &= !(1 << campaign);
         }
         for i in 0..64 {
             found.surplus[i] = u64::from(self.prices[i]) - level[i];
