@@ -129,34 +129,39 @@ impl Plain {
         self.views.len()
     }
 
-    /// One more view for a campaign, and the campaigns visited.
-    fn seek(&self, to: &mut [u64], campaign: u64, visited: u64, from: usize) -> (bool, u64) {
-        let free = self.free_view(to, campaign, from);
-        if free < self.views.len() {
-            to[free] = campaign;
-            return (true, visited);
+    /// One more view for a campaign: whether there is one, the campaigns visited, and those that no free view names.
+    fn seek(&self, to: &mut [u64], campaign: u64, visited: u64, from: usize, bare: u64) -> (bool, u64, u64) {
+        let (mut seen, mut bare) = (visited, bare);
+        if (bare >> campaign) & 1 == 0 {
+            let free = self.free_view(to, campaign, from);
+            if free < self.views.len() {
+                to[free] = campaign;
+                return (true, seen, bare);
+            }
+            bare |= 1 << campaign;
         }
-        let mut seen = visited | 1 << campaign;
+        seen |= 1 << campaign;
         for j in 0..self.views.len() {
             if (self.views[j] >> campaign) & 1 == 1 && (seen >> to[j]) & 1 == 0 {
-                let (found, after) = self.seek(to, to[j], seen, from);
+                let found;
+                (found, seen, bare) = self.seek(to, to[j], seen, from, bare);
                 if found {
                     to[j] = campaign;
-                    return (true, after);
+                    return (true, seen, bare);
                 }
-                seen = after;
             }
         }
-        (false, seen)
+        (false, seen, bare)
     }
 
     /// The campaigns closed after a campaign was served.
-    fn serve(&self, to: &mut [u64], campaign: usize, closed: u64, first: &mut usize) -> u64 {
+    fn serve(&self, to: &mut [u64], campaign: usize, closed: u64, first: &mut usize, bare: &mut u64) -> u64 {
         for _ in 0..self.plays[campaign] {
             while *first < self.views.len() && to[*first] != 64 {
                 *first += 1;
             }
-            let (found, seen) = self.seek(to, campaign as u64, closed, *first);
+            let (found, seen, after) = self.seek(to, campaign as u64, closed, *first, *bare);
+            *bare = after;
             if !found {
                 return seen;
             }
@@ -178,106 +183,13 @@ impl Plain {
         best
     }
 
-    fn search(&self, found: &mut Triple) -> u64 {
-        let Triple { allotment, surplus, worth } = found;
-        unsafe {
-            wezghuli_search(
-                self.head.as_ptr(),
-                self.terms.as_ptr(),
-                self.counts.as_ptr(),
-                self.views.as_ptr(),
-                self.views.len(),
-                allotment.as_mut_ptr(),
-                allotment.len(),
-                surplus.as_mut_ptr(),
-                surplus.len(),
-                worth.as_mut_ptr(),
-                worth.len(),
-            )
-        }
-    }
-
-    fn check(&self, found: &Triple) -> u64 {
-        let Triple { allotment, surplus, worth } = found;
-        unsafe {
-            wezghuli_check(
-                self.head.as_ptr(),
-                self.terms.as_ptr(),
-                self.counts.as_ptr(),
-                self.views.as_ptr(),
-                self.views.len(),
-                allotment.as_ptr(),
-                allotment.len(),
-                surplus.as_ptr(),
-                surplus.len(),
-                worth.as_ptr(),
-                worth.len(),
-            )
-        }
-    }
-}
-
-impl Plain {
-    fn free_view(&self, to: &[u64], campaign: u64, from: usize) -> usize {
-        for j in from..self.views.len() {
-            if to[j] == 64 && (self.views[j] >> campaign) & 1 == 1 {
-                return j;
-            }
-        }
-        self.views.len()
-    }
-
-    /// One more view for a campaign, and the campaigns visited.
-    fn seek(&self, to: &mut [u64], campaign: u64, visited: u64, from: usize) -> (bool, u64) {
-        let free = self.free_view(to, campaign, from);
-        if free < self.views.len() {
-            to[free] = campaign;
-            return (true, visited);
-        }
-        let mut seen = visited | 1 << campaign;
-        for j in 0..self.views.len() {
-            if (self.views[j] >> campaign) & 1 == 1 && (seen >> to[j]) & 1 == 0 {
-                let (found, after) = self.seek(to, to[j], seen, from);
-                if found {
-                    to[j] = campaign;
-                    return (true, after);
-                }
-                seen = after;
-            }
-        }
-        (false, seen)
-    }
-
-    /// The campaigns closed after a campaign was served.
-    fn serve(&self, to: &mut [u64], campaign: usize, closed: u64, first: &mut usize) -> u64 {
-        for _ in 0..self.plays[campaign] {
-            while *first < self.views.len() && to[*first] != 64 {
-                *first += 1;
-            }
-            let (found, seen) = self.seek(to, campaign as u64, closed, *first);
-            if !found {
-                return seen;
-            }
-        }
-        closed
-    }
-
-    fn dearest(&self, served: u64) -> Option<usize> {
-        let mut best: Option<usize> = None;
-        for i in 0..64 {
-            if (served >> i) & 1 == 0 && best.is_none_or(|b| self.prices[b] < self.prices[i]) {
-                best = Some(i);
-            }
-        }
-        best
-    }
-
     fn search(&self, found: &mut Triple) {
         found.allotment.fill(64);
-        let (mut level, mut first, mut closed, mut unserved) = ([0; 64], 0, 0u64, u64::MAX);
+        let (mut level, mut first, mut bare) = ([0; 64], 0, 0u64);
+        let (mut closed, mut unserved) = (0u64, u64::MAX);
         while unserved != 0 {
             let campaign = self.dearest(unserved);
-            let next = self.serve(&mut found.allotment, campaign, closed, &mut first);
+            let next = self.serve(&mut found.allotment, campaign, closed, &mut first, &mut bare);
             let mut new = next & !closed;
             while new != 0 {
                 level[new.trailing_zeros() as usize] = u64::from(self.prices[campaign]);

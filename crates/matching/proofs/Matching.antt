@@ -5,28 +5,30 @@ use mathlib.Core.List.{List}
 use Prim.Native.Nat.{ℕ, _≤_, _<_}
 use native.Mathlib.Omega.{arith}
 use lib.ListN.{length}
-use Rattle.sets.specs.Set.{size, including, without}
+use Rattle.finite.proofs.Tests.{never}
+use Rattle.sets.specs.Set.{member, size, including, without}
 use Rattle.sets.proofs.Algebra.{empty-member}
 use Rattle.allotments.specs.Allotment.{at}
-use Rattle.exchange.specs.Contracts.{Taken, Ready}
+use Rattle.exchange.specs.Contracts.{Taken, Bare, Ready}
 use Rattle.allotments.specs.Contracts.{Market}
 use Rattle.matching.specs.Contracts.{Served, Everyone, Dearest, Frozen, Unserved, Standing, Matched}
 use Rattle.exchange.proofs.Search.{taken-kept}
 use Rattle.matching.proofs.Choosing.{one-fewer}
 use Rattle.matching.proofs.Standing.{standing-first, standing-next}
 
-pub record Underway (n : ℕ) (prices wholes views to₀ to level : List ℕ) (first closed unserved : ℕ) : Type 0 where
+pub record Underway (n : ℕ) (prices wholes views to₀ to level : List ℕ) (first closed bare unserved : ℕ) : Type 0 where
   pub market : Market n views
   pub room : length views ≤ length to
   pub same : length to ≡ length to₀
   pub long : length level ≡ 64
   pub inside : first ≤ length views
   pub taken : Taken to first
+  pub none-free : Bare views to bare
   pub standing : Standing n prices wholes views to level closed unserved
   pub beyond : (j : ℕ) → length views ≤ j → at to j ≡ at to₀ j
 
 pub underway-start : (n : ℕ) (prices wholes views to level : List ℕ) (unserved : ℕ) → Unserved n views to level
-    → Everyone n unserved → Underway n prices wholes views to to level 0 0 unserved
+    → Everyone n unserved → Underway n prices wholes views to to level 0 0 0 unserved
 underway-start n prices wholes views to level unserved un all = record {
   market = un .market;
   room = un .room;
@@ -34,14 +36,15 @@ underway-start n prices wholes views to level unserved un all = record {
   long = un .long;
   inside = omega arith;
   taken = λ j l e. omega arith;
+  none-free = λ d l m. absurd (never (member 0 d) (empty-member d) m);
   standing = standing-first n prices wholes views to level 0 unserved (un .market) (un .free) (un .zeros) empty-member
       all;
   beyond = λ j b. refl;
 }
 
-module _ (n : ℕ) (prices wholes views to₀ to level : List ℕ) (first closed unserved c : ℕ) (u : Underway n prices wholes
-    views to₀ to level first closed unserved) (ch : Dearest prices unserved c) where
-  pub ready-chosen : (first' : ℕ) → (first' ≤ length views) × Taken to first' → Ready views to c closed first'
+module _ (n : ℕ) (prices wholes views to₀ to level : List ℕ) (first closed bare unserved c : ℕ)
+    (u : Underway n prices wholes views to₀ to level first closed bare unserved) (ch : Dearest prices unserved c) where
+  pub ready-chosen : (first' : ℕ) → (first' ≤ length views) × Taken to first' → Ready views to c closed first' bare
   ready-chosen first' h = record {
     room = u .room;
     entries = λ j k. ⊎-elim (λ e. omega arith) (λ h. omega (arith, u .market .few, h .0)) (u .standing .entries j k);
@@ -49,6 +52,7 @@ module _ (n : ℕ) (prices wholes views to₀ to level : List ℕ) (first closed
     fresh = u .standing .waiting c (ch .inside) (ch .waiting);
     inside = h .0;
     taken = h .1;
+    none-free = u .none-free;
   }
 
   pub fewer-left : (one unserved' : ℕ) → one ≡ including 0 c → unserved' ≡ without unserved one
@@ -56,14 +60,14 @@ module _ (n : ℕ) (prices wholes views to₀ to level : List ℕ) (first closed
   fewer-left one unserved' eo e = subst⁻¹ (λ (x : ℕ). size x < size unserved) (e ∙ ap (without unserved) eo)
       (one-fewer unserved c (ch .inside) (ch .waiting))
 
-  pub underway-turn : (to' level' : List ℕ) (first' closed' one unserved' plays price who : ℕ)
+  pub underway-turn : (to' level' : List ℕ) (first' closed' bare' one unserved' plays price who : ℕ)
       → (first' ≤ length views) × Taken to first' → plays ≡ at wholes c → price ≡ at prices c → who ≡ without closed'
       closed → one ≡ including 0 c → unserved' ≡ without unserved one
-      → length to' ≡ length to → Served views to to' c closed plays closed' → Frozen level level' who price
-      → Underway n prices wholes views to₀ to' level' first' closed' unserved'
-  underway-turn to' level' first' closed' one unserved' plays price who h ep eq ew eo es len sv fz =
-      let sv' : Served views to to' c closed (at wholes c) closed' = subst (λ (x : ℕ). Served views to to' c closed x
-      closed') ep sv in
+      → length to' ≡ length to → Served views to to' c closed plays closed' bare' → Frozen level level' who price
+      → Underway n prices wholes views to₀ to' level' first' closed' bare' unserved'
+  underway-turn to' level' first' closed' bare' one unserved' plays price who h ep eq ew eo es len sv fz =
+      let sv' : Served views to to' c closed (at wholes c) closed' bare' = subst (λ (x : ℕ). Served views to to' c
+      closed x closed' bare') ep sv in
       let fz' : Frozen level level' (without closed' closed) (at prices c) = subst (λ (x : ℕ). Frozen level level' x
       (at prices c)) ew (subst (λ (x : ℕ). Frozen level level' who x) eq fz) in
       record {
@@ -73,16 +77,18 @@ module _ (n : ℕ) (prices wholes views to₀ to level : List ℕ) (first closed
         long = fz .long ∙ u .long;
         inside = h .0;
         taken = taken-kept views to to' first' (h .0) (sv .gains .changed) (h .1);
+        none-free = sv .none-free;
         standing = subst⁻¹ (λ (x : ℕ). Standing n prices wholes views to' level' closed' x) (es ∙ ap (without unserved)
             eo)
-            (standing-next n prices wholes views to to' level level' closed closed' unserved c (u .market) (u .standing)
-            ch sv' fz');
+            (standing-next n prices wholes views to to' level level' closed closed' unserved c bare' (u .market)
+            (u .standing) ch sv' fz');
         beyond = λ j b. sv .gains .beyond j b ∙ u .beyond j b;
       }
 
-pub matched-end : (n : ℕ) (prices wholes views to₀ to level : List ℕ) (first closed unserved : ℕ) → Underway n prices
-    wholes views to₀ to level first closed unserved → unserved ≡ 0 → Matched n prices wholes views to₀ to level
-matched-end n prices wholes views to₀ to level first closed unserved u e = record {
+pub matched-end : (n : ℕ) (prices wholes views to₀ to level : List ℕ) (first closed bare unserved : ℕ) → Underway n
+    prices wholes views to₀ to level first closed bare unserved → unserved ≡ 0
+    → Matched n prices wholes views to₀ to level
+matched-end n prices wholes views to₀ to level first closed bare unserved u e = record {
   closed = closed;
   standing = subst (λ (x : ℕ). Standing n prices wholes views to level closed x) e (u .standing);
   beyond = u .beyond;

@@ -9,7 +9,7 @@ use lib.ListN.{length}
 use Rattle.sets.specs.Set.{member, including}
 use Rattle.sets.proofs.Algebra.{including-keeps}
 use Rattle.allotments.specs.Allotment.{at}
-use Rattle.exchange.specs.Contracts.{Taken, Ready, Gained}
+use Rattle.exchange.specs.Contracts.{Taken, Bare, Ready, Gained}
 use Rattle.matching.specs.Contracts.{Gains}
 use Rattle.exchange.proofs.Search.{taken-kept}
 
@@ -40,25 +40,28 @@ gains-one views to to' to'' c closed k g h = record {
 }
 
 -- a search may follow from a later place
-pub ready-from : (views to : List ℕ) (c closed first first' : ℕ) → Ready views to c closed first
-    → (first' ≤ length views) × Taken to first' → Ready views to c closed first'
-ready-from views to c closed first first' r h = record {
+pub ready-from : (views to : List ℕ) (c closed first bare first' : ℕ) → Ready views to c closed first bare
+    → (first' ≤ length views) × Taken to first' → Ready views to c closed first' bare
+ready-from views to c closed first bare first' r h = record {
   room = r .room;
   entries = r .entries;
   campaign = r .campaign;
   fresh = r .fresh;
   inside = h .0;
   taken = h .1;
+  none-free = r .none-free;
 }
 
 -- and after one that found a view: the entries stay campaigns or 64
-pub ready-after : (views to to' : List ℕ) (c closed first : ℕ) → Ready views to c closed first → length to' ≡ length
-    to → Gained views to to' c closed → Ready views to' c closed first
-ready-after views to to' c closed first r e g = record {
+pub ready-after : (views to to' : List ℕ) (c closed first bare bare' : ℕ) → Ready views to c closed first bare
+    → length to' ≡ length to → Gained views to to' c closed → Bare views to' bare'
+    → Ready views to' c closed first bare'
+ready-after views to to' c closed first bare bare' r e g b = record {
   room = omega (arith, r .room);
   entries = λ j l. ⊎-elim (λ q. omega (arith, r .entries j l)) (λ q. omega arith) (g .changed j l);
   campaign = r .campaign;
   fresh = r .fresh;
   inside = r .inside;
   taken = taken-kept views to to' first (r .inside) (g .changed) (r .taken);
+  none-free = b;
 }

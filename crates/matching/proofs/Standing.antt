@@ -42,10 +42,10 @@ old-level level level' closed closed' price f d l h =
     out false b h = refl
 
 -- one more campaign is served
-module _ (n : ℕ) (prices wholes views to to' level level' : List ℕ) (closed closed' unserved c : ℕ)
+module _ (n : ℕ) (prices wholes views to to' level level' : List ℕ) (closed closed' unserved c bare : ℕ)
     (mk : Market n views) (st : Standing n prices wholes views to level closed unserved)
     (ch : Dearest prices unserved c)
-    (sv : Served views to to' c closed (at wholes c) closed') (fz : Frozen level level' (without closed' closed)
+    (sv : Served views to to' c closed (at wholes c) closed' bare) (fz : Frozen level level' (without closed' closed)
     (at prices c)) where
   g : Gains views to to' c closed (sv .found)
   g = sv .gains

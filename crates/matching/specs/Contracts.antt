@@ -10,7 +10,7 @@ use lib.ListN.{length}
 use Rattle.sets.specs.Set.{member, without, including}
 use Rattle.allotments.specs.Allotment.{at, certified}
 use Rattle.allotments.specs.Contracts.{Market}
-use Rattle.exchange.specs.Contracts.{holds, Changed, Failed}
+use Rattle.exchange.specs.Contracts.{holds, Bare, Changed, Failed}
 
 -- k more views for c, and none fewer for the others; what a closed campaign held it still holds
 pub record Gains (views to to' : List ℕ) (c closed k : ℕ) : Type 0 where
@@ -21,11 +21,12 @@ pub record Gains (views to to' : List ℕ) (c closed k : ℕ) : Type 0 where
   pub beyond : (j : ℕ) → length views ≤ j → at to' j ≡ at to j
 
 -- all the plays found a view and none is newly closed, or fewer did and the last search failed
-pub record Served (views to to' : List ℕ) (c closed plays closed' : ℕ) : Type 0 where
+pub record Served (views to to' : List ℕ) (c closed plays closed' bare : ℕ) : Type 0 where
   pub found : ℕ
   pub gains : Gains views to to' c closed found
   pub most : found ≤ plays
   pub ended : ((found ≡ plays) × (closed' ≡ closed)) ⊎ Failed views to' to' c closed closed'
+  pub none-free : Bare views to' bare
 
 -- the campaigns of the plan, as a set
 abbrev pub Everyone : (n set : ℕ) → Type 0

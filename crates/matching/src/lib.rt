@@ -10,7 +10,13 @@ ghost use Rattle.exchange.specs.Contracts.{Ready};
 ghost use Rattle.matching.specs.Contracts.{Served, Everyone, Dearest, Frozen, Unserved, Matched};
 ghost use Rattle.matching.specs.Contracts.{campaign-figure, level-of, view-figure, Filled, Best-is};
 
-// As many views for the campaign as its plays, or until none is found: the campaigns closed after.
+// After a campaign is served: the campaigns closed, and those that no free view names.
+struct After {
+    closed: u64,
+    bare: u64,
+}
+
+// As many views for the campaign as its plays, or until none is found.
 fn serve(
     views: &[u64],
     allotment: &mut [u64],
@@ -18,23 +24,32 @@ fn serve(
     closed: u64,
     plays: u64,
     from: usize,
-) -> u64
-    requires { ⌜ Ready (now views) (now allotment) campaign closed from ⌝ }
+    bare: u64,
+) -> After
+    requires { ⌜ Ready (now views) (now allotment) campaign closed from bare ⌝ }
     ensures { λ r. ⌜ Served (now (views .entry)) (now (allotment .entry)) (now (allotment .exit)) campaign closed
-        plays r ⌝ }
+        plays (r .closed) (r .bare) ⌝ }
 {
     let n = views.len();
     let mut first = from;
+    let mut known = bare;
     let mut k = 0;
     while k < plays {
         first = exchange::first_open(n, allotment, first);
-        let r = exchange::seek(views, allotment, campaign, closed, first);
+        let r = exchange::seek(views, allotment, campaign, closed, first, known);
         if !r.found {
-            return r.visited;
+            return After {
+                closed: r.visited,
+                bare: r.bare,
+            };
         }
+        known = r.bare;
         k += 1;
     }
-    closed
+    After {
+        closed: closed,
+        bare: known,
+    }
 }
 
 // The campaigns of the plan, as a set.
@@ -111,6 +126,7 @@ fn match_all<'a>(
     let n = views.len();
     let mut first = 0;
     let mut closed = 0;
+    let mut bare = 0;
     let mut unserved = everyone(count);
     while unserved != 0 {
         let c = dearest(prices, unserved);
@@ -118,9 +134,10 @@ fn match_all<'a>(
         let price = wide32(prices[at]);
         let plays = wide32(wholes[at]);
         first = exchange::first_open(n, allotment, first);
-        let next = serve(views, allotment, c, closed, plays, first);
-        freeze(level, sets::without(next, closed), price);
-        closed = next;
+        let after = serve(views, allotment, c, closed, plays, first, bare);
+        freeze(level, sets::without(after.closed, closed), price);
+        closed = after.closed;
+        bare = after.bare;
         unserved = sets::without(unserved, sets::including(0, c));
     }
 }

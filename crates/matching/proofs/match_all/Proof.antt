@@ -8,11 +8,12 @@ use Rattle.matching.proofs.match_all.Statement.{statement}
 use Rattle.matching.proofs.match_all.Tie as tie
 
 abbrev Inv-loop : tie.InvT-loop
-Inv-loop count prices wholes views to₀ level₀ n first₀ closed₀ unserved₀ to level first closed unserved =
-    Underway count prices wholes views to₀ to level first closed unserved
+Inv-loop count prices wholes views to₀ level₀ n first₀ closed₀ bare₀ unserved₀ to level first closed bare unserved =
+    Underway count prices wholes views to₀ to level first closed bare unserved
 
 abbrev μ-loop : tie.MeasureT-loop
-μ-loop count prices wholes views to₀ level₀ n first₀ closed₀ unserved₀ to level first closed unserved = size unserved
+μ-loop count prices wholes views to₀ level₀ n first₀ closed₀ bare₀ unserved₀ to level first closed bare unserved =
+    size unserved
 
 everyone-requires : tie.Need-everyone-requires Inv-loop μ-loop
 everyone-requires c κs = c .before .before .pre .market .few
@@ -56,7 +57,7 @@ serve-requires c κs =
     let l = d .before .before .loop in
     let a = d .before .before .before .before .before .before .args in
     ready-chosen (a .count) (a .prices .now) (a .wholes .now) (a .views .now) (a .allotment .now) (l .allotment)
-    (l .level) (l .first) (l .closed) (l .unserved) (d .dearest .result) (l .inv) (d .dearest .ensures)
+    (l .level) (l .first) (l .closed) (l .bare) (l .unserved) (d .dearest .result) (l .inv) (d .dearest .ensures)
     (c .before .first-open .result) (c .before .first-open .ensures)
 
 without-requires : tie.Need-without-requires Inv-loop μ-loop
@@ -82,7 +83,7 @@ loop-less c =
     let l = d .before .before .loop in
     let a = d .before .before .before .before .before .before .args in
     fewer-left (a .count) (a .prices .now) (a .wholes .now) (a .views .now) (a .allotment .now) (l .allotment)
-    (l .level) (l .first) (l .closed) (l .unserved) (d .dearest .result) (l .inv) (d .dearest .ensures)
+    (l .level) (l .first) (l .closed) (l .bare) (l .unserved) (d .dearest .result) (l .inv) (d .dearest .ensures)
     (c .before .including .result) (c .without2 .result) (c .before .including .ensures) (c .without2 .ensures)
 
 loop-again : tie.Need-loop-again Inv-loop μ-loop
@@ -97,8 +98,9 @@ loop-again c =
     let plays = mid .before .before .before .before .wide322 in
     let price = mid .before .before .before .before .before .before .wide32 in
     underway-turn (a .count) (a .prices .now) (a .wholes .now) (a .views .now) (a .allotment .now) (l .allotment)
-    (l .level) (l .first) (l .closed) (l .unserved) (d .dearest .result) (l .inv) (d .dearest .ensures)
-    (v .last .1 .0) (f .last .0) (o .result) (v .result) (c .before .including .result) (c .without2 .result)
+    (l .level) (l .first) (l .closed) (l .bare) (l .unserved) (d .dearest .result) (l .inv) (d .dearest .ensures)
+    (v .last .1 .0) (f .last .0) (o .result) (v .result .closed) (v .result .bare) (c .before .including .result)
+    (c .without2 .result)
     (plays .result) (price .result) (c .before .before .before .without .result) (o .ensures) (plays .ensures .0)
     (price .ensures .0) (c .before .before .before .without .ensures) (c .before .including .ensures)
     (c .without2 .ensures) (v .kept .1 .0) (v .ensures) (f .ensures)
@@ -111,7 +113,7 @@ returns c =
     let a = c .before .before .before .before .before .args in
     let l = c .before .loop in
     matched-end (a .count) (a .prices .now) (a .wholes .now) (a .views .now) (a .allotment .now) (l .allotment)
-    (l .level) (l .first) (l .closed) (l .unserved) (l .inv) (c .loop-test .left)
+    (l .level) (l .first) (l .closed) (l .bare) (l .unserved) (l .inv) (c .loop-test .left)
 
 pub match-all-spec : {M : Type 1} → statement M
 match-all-spec =
