@@ -33,7 +33,8 @@ use Rattle.optimum.specs.Optimum as optimum
 use Rattle.optimum.specs.Optimum.{failed, most-of, checked}
 use Rattle.optimum.specs.declared.Verdict.the-variants as verdict
 use Rattle.optimum.proofs.Greatest.{accepted-is-best, search-accepted}
-use Rattle.hindsight.specs.Hindsight.{own-views, given-short, Takes-most, Against-greatest, Greatest-figure}
+use Rattle.floor.specs.History.{own-views}
+use Rattle.hindsight.specs.Hindsight.{given-short, Takes-most, Against-greatest, Greatest-figure}
 use Rattle.hindsight.specs.Hindsight.{Floor-against-greatest, Always-greatest, Floor-against-accepted}
 use Rattle.hindsight.specs.Hindsight.{Own-views-taken, Room, Floor-against-searched}
 

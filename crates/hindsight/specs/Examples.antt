@@ -15,7 +15,8 @@ use Rattle.floor.specs.Floor.{Covered}
 use Rattle.floor.specs.Short.{short-calls}
 use Rattle.optimum.specs.declared.Verdict.the-variants.{Accepted, Rejected}
 use Rattle.optimum.specs.Optimum.{most-of, checked}
-use Rattle.hindsight.specs.Hindsight.{own-views, given-short}
+use Rattle.floor.specs.History.{own-views}
+use Rattle.hindsight.specs.Hindsight.{given-short}
 
 abbrev pub day-of : List Call → History
 day-of cs = history (transcript blank cs)

@@ -2,7 +2,7 @@
 -- search or the check.
 use mathlib.Core.Path.{_≡_}
 use mathlib.Core.Bool.{cond}
-use mathlib.Core.List.{List, map}
+use mathlib.Core.List.{List}
 use Prim.Native.Nat.{ℕ, _+_, _-_, _*_, _≤_}
 use lib.ListN.{length}
 use Rattle.powers.specs.Power.{share}
@@ -11,16 +11,12 @@ use Rattle.day.specs.declared.Day.{Day}
 use Rattle.day.specs.Calls.{Call}
 use Rattle.demands.specs.Transcript.{transcript, final}
 use Rattle.allotments.specs.Allotment.{at}
-use Rattle.floor.specs.History.{Starts, History, day-takings, history}
+use Rattle.floor.specs.History.{Starts, History, day-takings, history, own-views}
 use Rattle.floor.specs.Floor.{price-of, falls-short, Allotted, takings-of, Covered}
 use Rattle.optimum.specs.declared.Optimum.{Optimum}
 use Rattle.optimum.specs.declared.Optimum.the-variants.{Takings}
 use Rattle.optimum.specs.declared.Verdict.the-variants.{Accepted}
 use Rattle.optimum.specs.Optimum.{max-handed-in, failed, most-of, Searched, checked}
-
--- the day's own views, each its set of names
-abbrev pub own-views : History → List ℕ
-own-views h = map (λ w. w .set) (h .views)
 
 -- what an allotment gives to campaigns that fall short
 abbrev pub given-short : History → (ℕ → ℕ) → ℕ

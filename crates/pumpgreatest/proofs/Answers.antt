@@ -30,7 +30,7 @@ use Rattle.optimum.specs.Optimum.{max-handed-in, most-of}
 use Rattle.stream.specs.Chunking.{after-lines}
 use Rattle.programs.specs.Lines.{calls-of, day-of}
 use Rattle.programs.proofs.Lines.{lines-keep-the-demands}
-use Rattle.recording.specs.Recording.{own-views}
+use Rattle.floor.specs.History.{own-views}
 use Rattle.earnings.specs.declared.Earnings.the-variants.{Refused, Figures}
 use Rattle.earnings.specs.Earnings.{question-of, earned}
 use Rattle.pumpgreatest.specs.Prints.{answer, day-earnings}

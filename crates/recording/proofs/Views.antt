@@ -35,7 +35,8 @@ use Rattle.stream.specs.Stream.{finished, session, session-of, new-stream, sile
 use Rattle.stream.specs.Chunking.{joined, Plain, All-plain, after-lines, Split}
 use Rattle.stream.proofs.Chunking.{fed-lines}
 use Rattle.programs.specs.Lines.{with-exchange, exchanges, day-of, with-rest}
-use Rattle.recording.specs.Recording.{own-views, all-lines, shown-by-call, shown-in, noted, recorded}
+use Rattle.floor.specs.History.{own-views}
+use Rattle.recording.specs.Recording.{all-lines, shown-by-call, shown-in, noted, recorded}
 use Rattle.recording.specs.Recording.{last-session, last-views, Any-recording}
 use Rattle.recording.proofs.Bytes.{recorded-append, recorded-plain}
 

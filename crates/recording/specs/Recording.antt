@@ -1,7 +1,7 @@
 -- The accepted views of a day, kept beside the session that its bytes are fed to.
 use mathlib.Core.Path.{_≡_}
 use mathlib.Core.Bool.{cond}
-use mathlib.Core.List.{List, [], _∷_, map}
+use mathlib.Core.List.{List, [], _∷_}
 use Prim.Native.Nat.{ℕ, min}
 use lib.Dec.{eqb}
 use lib.ListN.{length, take, set}
@@ -11,7 +11,7 @@ use Rattle.day.specs.declared.Day.{Day}
 use Rattle.day.specs.Day.{blank}
 use Rattle.day.specs.Calls.{Call}
 use Rattle.day.specs.Calls.Call.{open-plan, add-campaign, start-day, show-view, ask-tally, close-day, mark-campaign}
-use Rattle.floor.specs.History.{History}
+use Rattle.floor.specs.History.{own-views}
 use Rattle.reply.specs.Reply.{Request, request-of}
 use Rattle.reply.specs.Reply.Request.{makes, fails}
 use Rattle.reply.specs.Session.{Session, after-byte, fed}
@@ -20,10 +20,6 @@ use Rattle.stream.specs.Stream.{session-of, new-stream, silent, finished}
 use Rattle.programs.specs.Lines.{day-of, with-rest}
 
 -- The promise.
-
--- the day's own views, each its set of unpaused names, as the history has them
-abbrev pub own-views : History → List ℕ
-own-views h = map (λ w. w .set) (h .views)
 
 -- the lines of an input, the last of which may lack its byte 10
 abbrev pub all-lines : {input : List ℕ} → Split input → List (List ℕ)
