@@ -219,9 +219,9 @@ uint64_t wezghuli_page(const uint64_t head[7], const uint32_t terms[128], const 
 /* Finds an allotment of the views with the greatest takings that the plan of a state of any phase allows, and figures
  * that show it to be greatest. views are the accepted views in order, each its set of unpaused names. Written are
  * allotment[j], the campaign that view j goes to or 64 for nobody; surplus[i], the figure of campaign i; and worth[j],
- * that of view j, all in cents. Entries beyond the views and beyond the campaigns keep their values. The takings are
- * the sum of the prices of the campaigns in allotment. Which of several greatest allotments is found is free, and so
- * are its figures: wezghuli_check accepts whatever comes out.
+ * that of view j, all in cents. Entries beyond the views and beyond the campaigns keep their values. The greatest
+ * takings are those of allotment, which wezghuli_takings gives. Which of several greatest allotments is found is free,
+ * and so are its figures: wezghuli_check accepts whatever comes out.
  * Refused, with all three as they were: 1 the state is not sound, 19 there are more than 256 views, 13 one names a
  * campaign that is not in the plan, 18 allotment or worth has fewer entries than there are views, or surplus than
  * campaigns. */
@@ -238,6 +238,13 @@ uint64_t wezghuli_search(const uint64_t head[7], const uint32_t terms[128], cons
 uint64_t wezghuli_check(const uint64_t head[7], const uint32_t terms[128], const uint16_t counts[256],
     const uint64_t *views, size_t views_len, const uint64_t *allotment, size_t allotment_len,
     const uint64_t *surplus, size_t surplus_len, const uint64_t *worth, size_t worth_len);
+
+/* Writes to takings[0] what an allotment takes under the plan of a state of any phase: the sum of the prices of the
+ * campaigns that its entries name, where 64 and every other number that is no campaign's brings nothing. It asks for no
+ * views: lend as many entries as there were. Of the entries that wezghuli_search wrote these are the greatest takings.
+ * Refused, with takings as it was: 1 the state is not sound, 19 there are more than 256 entries. */
+uint64_t wezghuli_takings(const uint64_t head[7], const uint32_t terms[128], const uint16_t counts[256],
+    const uint64_t *allotment, size_t allotment_len, uint64_t takings[1]);
 
 #ifdef __cplusplus
 }

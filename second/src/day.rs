@@ -92,6 +92,11 @@ impl Campaign {
         named: 0,
     };
 
+    /// The plays that the budget buys. Asked of sound entries only.
+    pub(crate) fn whole_plays(&self) -> u64 {
+        self.budget / self.price
+    }
+
     /// Whether the budget buys one more play. Asked of sound entries only:
     /// plays < budget / price rounded down, said without the division.
     fn can_pay(&self) -> bool {
@@ -191,7 +196,7 @@ pub struct Day {
 pub(crate) type Outcome = Result<Answer, u64>;
 
 /// `Ok` if the question is answered "yes", else its number.
-fn ask(yes: bool, number: u64) -> Result<(), u64> {
+pub(crate) fn ask(yes: bool, number: u64) -> Result<(), u64> {
     if yes {
         Ok(())
     } else {
@@ -213,7 +218,7 @@ fn check_money(price: u64, budget: u64) -> Result<(), u64> {
 }
 
 /// The campaigns of a view, rising.
-fn members(mut set: u64) -> impl Iterator<Item = usize> {
+pub(crate) fn members(mut set: u64) -> impl Iterator<Item = usize> {
     std::iter::from_fn(move || {
         if set == 0 {
             return None;
@@ -311,13 +316,13 @@ impl Day {
     }
 
     /// The campaigns of the plan. The count is at most [`MAX_CAMPAIGNS`].
-    fn planned(&self) -> &[Campaign] {
+    pub(crate) fn planned(&self) -> &[Campaign] {
         &self.campaigns[..self.count as usize]
     }
 
     /// The marks of a set past the last campaign, moved down to bit 0. The count
     /// is at most [`MAX_CAMPAIGNS`].
-    fn beyond(&self, set: u64) -> u64 {
+    pub(crate) fn beyond(&self, set: u64) -> u64 {
         set.checked_shr(self.count as u32).unwrap_or(0)
     }
 

@@ -34,8 +34,11 @@ pub const NO_CAMPAIGN: u64 = 15;
 pub const LONG_LINE: u64 = 16;
 /// The line is not one of the forms, or a record has a number out of its range.
 pub const NOT_A_FORM: u64 = 17;
-/// The lent buffer is too short for the line or the page.
+/// The lent buffer is too short for the line or the page, or fewer entries are
+/// lent than there are views or campaigns.
 pub const SHORT_BUFFER: u64 = 18;
+/// Too many views are handed in for the greatest takings.
+pub const MANY_VIEWS: u64 = 19;
 
 /// The highest number there is.
-pub const HIGHEST: u64 = SHORT_BUFFER;
+pub const HIGHEST: u64 = MANY_VIEWS;

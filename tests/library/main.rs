@@ -29,11 +29,12 @@ const BY_BEHAVIOUR: [&str; 15] = [
 ];
 
 /// Programs in Rust that declare functions of the library.
-const RUST: [&str; 8] = [
+const RUST: [&str; 9] = [
     "examples/rust/day.rs",
     "tests/states/library.rs",
     "tests/lines/product.rs",
     "tests/page/product.rs",
+    "tests/search/product.rs",
     "bench/lines.rs",
     "bench/page.rs",
     "bench/search.rs",

@@ -620,9 +620,18 @@ static void forget(void)
         surplus[i] = 777;
 }
 
+static uint64_t allotted[1];
+
+static uint64_t takings_with(size_t entries)
+{
+    return wezghuli_takings(day.head, day.terms, day.counts, allotment, entries, allotted);
+}
+
 static void searches(void)
 {
     uint64_t paid = 0;
+
+    allotted[0] = 777;
 
     run_day();
     views_shown = 5;
@@ -633,11 +642,15 @@ static void searches(void)
     expect(search_with(0, 0, 0) == 13 && check_with(0, 0, 0) == 13 && untouched(0, 0), "13 before 18");
     views_shown = 257;
     expect(search_with(0, 0, 0) == 19 && check_with(0, 0, 0) == 19 && untouched(0, 0), "19 before 13");
+    expect(takings_with(257) == 19 && takings_with(256) == 0 && allotted[0] == 0, "19 of entries, and none that counts");
+    allotted[0] = 777;
     day.head[WEZGHULI_HEAD_DEPTH] = 0;
     expect(search_with(0, 0, 0) == 1 && check_with(0, 0, 0) == 1 && untouched(0, 0), "1 before 19");
+    expect(takings_with(257) == 1 && allotted[0] == 777, "1 leaves the takings");
     day.head[WEZGHULI_HEAD_PHASE] = 3;
     expect(search_with(0, 0, 0) == WEZGHULI_STATUS_NO_HEAD && check_with(0, 0, 0) == WEZGHULI_STATUS_NO_HEAD
         && untouched(0, 0), "no head");
+    expect(takings_with(257) == WEZGHULI_STATUS_NO_HEAD && allotted[0] == 777, "no head leaves the takings");
     run_day();
     views_shown = 5;
     shown[4] = 2;
@@ -645,14 +658,17 @@ static void searches(void)
     for (size_t j = 0; j < 5; j++)
         paid += allotment[j] < 64 ? day.terms[allotment[j]] : 0;
     expect(paid == 16, "all that two campaigns can pay");
+    expect(takings_with(5) == 0 && allotted[0] == 16, "and the takings say so");
     expect(check_with(5, 3, 5) == 0, "the check accepts it");
     surplus[0]++;
     expect(check_with(5, 3, 5) == WEZGHULI_STATUS_NO_FIT, "a figure too large");
     surplus[0] = UINT64_MAX;
     expect(check_with(5, 3, 5) == WEZGHULI_STATUS_NO_FIT, "a sum that would wrap");
     expect(search_with(5, 3, 5) == 0, "found again");
+    paid = allotment[0] < 64 ? day.terms[allotment[0]] : 0;
     allotment[0] = 65;
     expect(check_with(5, 3, 5) == WEZGHULI_STATUS_NO_FIT, "an entry that is nobody's");
+    expect(takings_with(5) == 0 && allotted[0] == 16 - paid, "which brings nothing");
     views_shown = 0;
     expect(search_with(0, 3, 0) == 0 && check_with(0, 3, 0) == 0, "no views");
 }
@@ -680,6 +696,9 @@ static void chained(void)
     search_with(259, 66, 259);
 }
 
+static void checks(void) { check_with(259, 66, 259); }
+static void sums(void) { takings_with(63); }
+
 static void longest_chain(void)
 {
     size_t bytes;
@@ -695,6 +714,8 @@ static void longest_chain(void)
     bytes = taken(chained);
     printf("stack of %-10s %5zu bytes of %d\n", "search", bytes, SEARCH_LIMIT);
     expect(bytes <= SEARCH_LIMIT, "search");
+    measure("check", checks);
+    measure("takings", sums);
 }
 
 /* The stacks of the operations, in a day of 64 campaigns. */

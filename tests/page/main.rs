@@ -6,6 +6,7 @@ mod days;
 mod library;
 #[path = "../states/model.rs"]
 mod model;
+mod outputs;
 mod product;
 #[path = "../states/random.rs"]
 mod random;
@@ -14,8 +15,7 @@ mod states;
 
 use random::Random;
 use second::day::{Day, Phase, MAX_BUDGET, MAX_PRICE, MAX_VIEWS};
-use std::io::Write;
-use std::process::{exit, Command, Stdio};
+use std::process::exit;
 
 /// Pages of files of the corpus, worked out from the documents. The last day of `pauses` has 4,096 views of a campaign
 /// that is paused.
@@ -47,52 +47,11 @@ fn fail(passed: u64, what: &str) -> ! {
     exit(1)
 }
 
-/// What a program prints for an input; it has to end well and say nothing on standard error.
-fn printed(program: &str, input: &[u8]) -> Result<Vec<u8>, String> {
-    let mut child = Command::new(program)
-        .stdin(Stdio::piped())
-        .stdout(Stdio::piped())
-        .stderr(Stdio::piped())
-        .spawn()
-        .map_err(|e| format!("{program}: {e}"))?;
-    let mut pipe = child.stdin.take().expect("a pipe");
-    pipe.write_all(input).map_err(|e| format!("{program}: {e}"))?;
-    drop(pipe);
-    let end = child.wait_with_output().map_err(|e| format!("{program}: {e}"))?;
-    if !end.status.success() || !end.stderr.is_empty() {
-        return Err(format!("{program}: {}, {}", end.status, String::from_utf8_lossy(&end.stderr)));
-    }
-    Ok(end.stdout)
-}
-
-/// Both programs on one input; gives the page.
-fn same_page(programs: &[String], input: &[u8]) -> Result<Vec<u8>, String> {
-    let ours = printed(&programs[0], input)?;
-    let due = printed(&programs[1], input)?;
-    if ours != due {
-        let text = |page: &[u8]| page.escape_ascii().to_string().replace("\\n", "\n");
-        return Err(format!(
-            "input:\n{}\npage:\n{}\nsecond program's:\n{}",
-            text(input),
-            text(&ours),
-            text(&due)
-        ));
-    }
-    Ok(ours)
-}
-
-fn recorded(passed: &mut u64, programs: &[String], corpus: &str) {
-    let mut files: Vec<_> = std::fs::read_dir(corpus)
-        .expect("the corpus")
-        .flatten()
-        .map(|f| f.path())
-        .filter(|f| f.extension().is_none())
-        .collect();
-    files.sort();
+fn recorded(passed: &mut u64, programs: [&str; 2], corpus: &str) {
     let mut pages = 0;
-    for file in files {
+    for file in outputs::files(corpus) {
         let input = std::fs::read(&file).expect("a file of the corpus");
-        let page = same_page(programs, &input).unwrap_or_else(|e| fail(*passed, &format!("{file:?}: {e}")));
+        let page = outputs::same(programs, &input).unwrap_or_else(|e| fail(*passed, &format!("{file:?}: {e}")));
         let due = PAGES.iter().find(|(name, _)| file.ends_with(name));
         if due.is_some_and(|(_, text)| page != text.as_bytes()) {
             fail(*passed, &format!("{file:?}: the page is another"));
@@ -105,11 +64,11 @@ fn recorded(passed: &mut u64, programs: &[String], corpus: &str) {
     }
 }
 
-fn generated(passed: &mut u64, programs: &[String], seeds: std::ops::Range<u64>) {
+fn generated(passed: &mut u64, programs: [&str; 2], seeds: std::ops::Range<u64>) {
     let mut lines = 0;
     for seed in seeds {
         let input = days::day(&mut Random::new(seed));
-        let page = same_page(programs, &input).unwrap_or_else(|e| fail(*passed, &format!("seed {seed}: {e}")));
+        let page = outputs::same(programs, &input).unwrap_or_else(|e| fail(*passed, &format!("seed {seed}: {e}")));
         lines += page.len() / 41;
         *passed += 1;
     }
@@ -253,8 +212,9 @@ fn main() {
     let count = numbers.first().copied().unwrap_or(300);
     let first = numbers.get(1).copied().unwrap_or(1);
     let mut passed = 0;
-    recorded(&mut passed, &words, &words[2]);
-    generated(&mut passed, &words, first..first + count);
+    let programs = [&words[0][..], &words[1]];
+    recorded(&mut passed, programs, &words[2]);
+    generated(&mut passed, programs, first..first + count);
     made_up(&mut passed, first);
     println!("{passed} passed, 0 failed");
 }

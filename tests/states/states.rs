@@ -119,11 +119,22 @@ pub fn size(random: &mut Random) -> u64 {
     random.pick(&[0, 1, 1, 2, 2, 3, 5, 8, 16, 33, 63, 64])
 }
 
-/// The counts and marks of a sound state that no day reaches: any marks, any plays, turns at least the plays, then ages
-/// and further turns for as long as the total claim stays within full.
+/// A sound state that no day reaches, Running or Closed.
 pub fn made_up(random: &mut Random) -> Day {
     let n = size(random);
-    let mut day = filled(random, n);
+    let filled = filled(random, n);
+    let mut day = counted(random, filled);
+    if random.one_in(3) {
+        close(&mut day);
+    }
+    day
+}
+
+/// A plan in Filling that now runs, with counts and marks that no day need reach: any marks, any plays, turns at least
+/// the plays, then ages and further turns for as long as the total claim stays within full.
+pub fn counted(random: &mut Random, filled: Day) -> Day {
+    let mut day = filled;
+    let n = day.count;
     day.phase = Phase::Running;
     day.paused = marks(random, &day);
     day.views = random.pick(&[1, 2, 40, MAX_VIEWS - 1, MAX_VIEWS]);
@@ -144,9 +155,6 @@ pub fn made_up(random: &mut Random) -> Day {
         if !day.is_sound() {
             day.campaigns[i] = was;
         }
-    }
-    if random.one_in(3) {
-        close(&mut day);
     }
     day
 }

@@ -3,3 +3,4 @@ pub mod Cases
 pub mod Walks
 pub mod Duality
 pub mod Most
+pub mod Attained

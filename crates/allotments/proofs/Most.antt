@@ -93,7 +93,7 @@ module _ (n : ℕ) (price : ℕ → ℕ) (view : ℕ → ℕ) where
       each c l ih false e = omega arith
 
   -- no allotment takes more
-  allotted-most : n ≤ 64 → (m : ℕ) (left to : ℕ → ℕ) → Allotment n left m view to → takings n price m to ≤ most n
+  pub allotted-most : n ≤ 64 → (m : ℕ) (left to : ℕ → ℕ) → Allotment n left m view to → takings n price m to ≤ most n
       price left m view
   unfolding most takings times count
   allotted-most few zero left to al = omega (arith, sum-zero (λ j. brings n price (to j)))

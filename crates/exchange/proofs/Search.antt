@@ -97,6 +97,9 @@ module _ (views to : List ℕ) (c : ℕ) where
             (member (at views j) c) e),
       )
 
+  pub no-free : length views ≤ first-free views to c → (j : ℕ) → j < length views → free views to c j ≡ false
+  no-free l j k = first-least .none j (omega arith)
+
   pub none-free : length views ≤ first-free views to c → (j : ℕ) → j < length views → member (at views j) c ≡ true
       → at to j ≡ 64 → ⊥
   none-free l j k n e = never (free views to c j) (first-least .none j (omega arith)) (both-join (eqb (at to j) 64)
@@ -157,7 +160,7 @@ module _ (views to : List ℕ) (c start : ℕ) where
         passed = λ i k. more c i (g .passed i k);
       }
 
-module _ (views to : List ℕ) (c visited first : ℕ) (r : Ready views to c visited first) where
+module _ (views to : List ℕ) (c visited first bare : ℕ) (r : Ready views to c visited first bare) where
   module _ (seen j : ℕ) (g : Going views to c (including visited c) seen j) where
     self-seen : member seen c ≡ true
     self-seen = g .grown c (r .campaign) (including-same visited c (r .campaign))

@@ -26,14 +26,20 @@ first-free views to c = least (length views) (free views to c)
 abbrev pub Taken : List ℕ → ℕ → Type 0
 Taken to first = (j : ℕ) → j < first → at to j ≡ 64 → ⊥
 
--- every entry is a campaign or 64, those below a place are campaigns, and the campaign is not visited
-pub record Ready (views to : List ℕ) (c visited first : ℕ) : Type 0 where
+-- no free view names a campaign of the set
+abbrev pub Bare : List ℕ → List ℕ → ℕ → Type 0
+Bare views to set = (d : ℕ) → d < 64 → member set d ≡ true → (j : ℕ) → j < length views → free views to d j ≡ false
+
+-- every entry is a campaign or 64, those below a place are campaigns, the campaign is not visited, and of some it is
+-- known that no free view names them
+pub record Ready (views to : List ℕ) (c visited first bare : ℕ) : Type 0 where
   pub room : length views ≤ length to
   pub entries : (j : ℕ) → j < length views → at to j ≤ 64
   pub campaign : c < 64
   pub fresh : member visited c ≡ false
   pub inside : first ≤ length views
   pub taken : Taken to first
+  pub none-free : Bare views to bare
 
 -- an entry that changed went to a campaign that the view names
 abbrev pub Changed : List ℕ → List ℕ → List ℕ → ℕ → Type 0
@@ -63,6 +69,7 @@ pub record Failed (views to to' : List ℕ) (c visited visited' : ℕ) : Type 0 
   pub shut : (d : ℕ) → d < 64 → member visited d ≡ false → member visited' d ≡ true → (j : ℕ) → j < length views
       → Held views to visited' d j
 
-pub record Sought-is (views to to' : List ℕ) (c visited : ℕ) (found : Bool) (visited' : ℕ) : Type 0 where
+pub record Sought-is (views to to' : List ℕ) (c visited : ℕ) (found : Bool) (visited' bare : ℕ) : Type 0 where
   pub gained : found ≡ true → Gained views to to' c visited
   pub failed : found ≡ false → Failed views to to' c visited visited'
+  pub none-free : Bare views to' bare

@@ -2,16 +2,18 @@
 ghost use mathlib.Core.Path.{_≡_};
 ghost use Prim.Native.Nat.{_<_, _≤_};
 ghost use lib.ListN.{length};
-ghost use Rattle.exchange.specs.Contracts.{Taken, first-free, Ready, Sought-is};
+ghost use Rattle.exchange.specs.Contracts.{Taken, first-free, Bare, Ready, Sought-is};
 
-// What a search ends with: whether a view was found, and the set of campaigns visited.
+// What a search ends with: whether a view was found, the set of campaigns visited, and that of campaigns that are bare:
+// no free view names them. A view that was once given is never free again, so that a bare campaign stays so.
 pub struct Sought {
     pub found: bool,
     pub visited: u64,
+    pub bare: u64,
 }
 
-// The first view from `from` on that is given to nobody, or the number of views. A view that was once given is never
-// free again, so that a search starts to look where the last one ended.
+// The first view from `from` on that is given to nobody, or the number of views. A search starts to look where the last
+// one ended.
 pub fn first_open(n: usize, allotment: &[u64], from: usize) -> usize
     requires { ⌜ (n ≤ length (now allotment)) × (from ≤ n) ⌝ }
     requires { ⌜ Taken (now allotment) from ⌝ }
@@ -29,11 +31,14 @@ pub fn first_open(n: usize, allotment: &[u64], from: usize) -> usize
 
 // The first view that names the campaign and is given to nobody, or their number where there is none. Those below
 // `first` are given. The holder is tested first: that branch is foreseen, the other is not.
-fn free_view(views: &[u64], allotment: &[u64], campaign: u64, first: usize) -> usize
+fn free_view(views: &[u64], allotment: &[u64], campaign: u64, first: usize, bare: u64) -> usize
     requires { ⌜ (length (now views) ≤ length (now allotment)) × (campaign < 64) × (first ≤ length (now views)) ⌝ }
-    requires { ⌜ Taken (now allotment) first ⌝ }
+    requires { ⌜ Taken (now allotment) first × Bare (now views) (now allotment) bare ⌝ }
     ensures { λ r. ⌜ r ≡ first-free (now (views .entry)) (now (allotment .entry)) campaign ⌝ }
 {
+    if sets::has(bare, campaign) {
+        return views.len();
+    }
     let mut j = first;
     while j < views.len() {
         let holder = allotment[j];
@@ -54,35 +59,40 @@ pub fn seek(
     campaign: u64,
     visited: u64,
     first: usize,
+    bare: u64,
 ) -> Sought
-    requires { ⌜ Ready (now views) (now allotment) campaign visited first ⌝ }
+    requires { ⌜ Ready (now views) (now allotment) campaign visited first bare ⌝ }
     ensures { λ r. ⌜ Sought-is (now (views .entry)) (now (allotment .entry)) (now (allotment .exit)) campaign visited
-        (r .found) (r .visited) ⌝ }
+        (r .found) (r .visited) (r .bare) ⌝ }
 {
-    let free = free_view(views, allotment, campaign, first);
+    let free = free_view(views, allotment, campaign, first, bare);
     if free < views.len() {
         allotment[free] = campaign;
         return Sought {
             found: true,
             visited: visited,
+            bare: bare,
         };
     }
     let mut seen = sets::including(visited, campaign);
+    let mut known = sets::including(bare, campaign);
     let mut j = 0;
     while j < views.len() {
         let v = views[j];
         if sets::has(v, campaign) {
             let holder = allotment[j];
             if !sets::has(seen, holder) {
-                let r = seek(views, allotment, holder, seen, first);
+                let r = seek(views, allotment, holder, seen, first, known);
                 if r.found {
                     allotment[j] = campaign;
                     return Sought {
                         found: true,
                         visited: r.visited,
+                        bare: r.bare,
                     };
                 }
                 seen = r.visited;
+                known = r.bare;
             }
         }
         j += 1;
@@ -90,5 +100,6 @@ pub fn seek(
     Sought {
         found: false,
         visited: seen,
+        bare: known,
     }
 }

@@ -1,7 +1,7 @@
 -- A list of calls and its day, told only by what was handed in and what was answered.
 use mathlib.Core.Path.{_≡_}
 use mathlib.Core.Bool.{Bool, true, cond}
-use mathlib.Core.List.{List, [], _∷_, _++_}
+use mathlib.Core.List.{List, [], _∷_, _++_, map}
 use Prim.Native.Nat.{ℕ}
 use lib.Dec.{eqb}
 use Rattle.finite.specs.Finite.{total}
@@ -43,6 +43,10 @@ opening pl = record { plan = pl; terms = []; paused = 0; views = []; answers = [
 -- the unpaused of the campaigns that a view names
 abbrev pub unpaused-in : History → View → View
 unpaused-in h w = record { set = without (w .set) (h .paused) }
+
+-- the day's own views, each as its set of names
+abbrev pub own-views : History → List ℕ
+own-views h = map (λ w. w .set) (h .views)
 
 -- the price paid in an answer, where nobody counts 0
 abbrev pub paid-in : Answer → ℕ

@@ -1,5 +1,5 @@
--- An allotment that fits a day's state is one of demand 3's allotments of the day's views. Its takings, which are the
--- most, fall into those of the campaigns that fall short and those of the others, and demand 3 covers the latter.
+-- The state's allotments of the day's views are demand 3's. The greatest takings fall into those of the campaigns that
+-- fall short and those of the others, and demand 3 covers the latter.
 use mathlib.Core.Path.{_≡_, refl, ap, sym, _∙_, subst, subst⁻¹}
 use mathlib.Core.Bool.{Bool, true, false, cond, _&&_}
 use mathlib.Core.List.{List, [], _∷_, map}
@@ -8,13 +8,14 @@ use Prim.Native.Nat.{ℕ, zero, suc, _+_, _-_, _*_, _≤_, _<_}
 use native.Mathlib.Omega.{arith}
 use lib.Dec.{leb}
 use lib.ListN.{length, getD, length-map}
+use borrow.Author.Tests.{le-leb}
 use Rattle.finite.specs.Finite.{every}
 use Rattle.finite.proofs.Tests.{never, every-of}
 use Rattle.sets.specs.Set.{member, within}
 use Rattle.powers.specs.Power.{share}
-use Rattle.allotments.specs.Allotment.{at, times, takings}
+use Rattle.allotments.specs.Allotment.{at, times, Allotment, takings}
 use Rattle.allotments.proofs.Takings.{takings-eq, takings-add}
-use Rattle.allotments.proofs.Most.{certified-most}
+use Rattle.allotments.proofs.Attained.{most-is-most}
 use Rattle.campaigns.specs.declared.View.{View}
 use Rattle.campaigns.specs.Campaign.{whole}
 use Rattle.campaigns.specs.View.{full}
@@ -29,10 +30,13 @@ use Rattle.floor.specs.Floor.{Covered, Floor}
 use Rattle.floor.proofs.Reach.{Reached, reached}
 use Rattle.floor.proofs.Floor.{demand-3}
 use Rattle.optimum.specs.Optimum as optimum
-use Rattle.optimum.specs.Optimum.{failed, Fits, most-of}
-use Rattle.optimum.proofs.Greatest.{accepts-exactly}
-use Rattle.hindsight.specs.Hindsight.{own-views, given-short, Against-greatest, Floor-against-greatest}
-use Rattle.hindsight.specs.Hindsight.{Floor-against-accepted, Own-views-taken}
+use Rattle.optimum.specs.Optimum.{failed, most-of, checked}
+use Rattle.optimum.specs.declared.Verdict.the-variants as verdict
+use Rattle.optimum.proofs.Greatest.{accepted-is-best, search-accepted}
+use Rattle.floor.specs.History.{own-views}
+use Rattle.hindsight.specs.Hindsight.{given-short, Takes-most, Against-greatest, Greatest-figure}
+use Rattle.hindsight.specs.Hindsight.{Floor-against-greatest, Always-greatest, Floor-against-accepted}
+use Rattle.hindsight.specs.Hindsight.{Own-views-taken, Room, Floor-against-searched}
 
 -- the day's views, as a list of sets
 own-at : (vs : List View) (j : ℕ) → at (map (λ w. w .set) vs) j ≡ getD vs j no-view .set
@@ -60,59 +64,135 @@ module _ (s : Day) (h : History) (r : Reached s h) where
   unfolding whole
   whole-is i l = cc (r .tracks .follows i l .price-is, r .tracks .follows i l .budget-is)
 
-  module _ (allotment surplus worth : List ℕ) (f : Fits s (own-views h) allotment surplus worth) (fl : Floor h s) where
-    allotted : Allotted h (at allotment)
-    allotted = record {
-      given = λ j l. subst (λ (v : ℕ). (at allotment j ≡ 64) ⊎ (member v (at allotment j) ≡ true))
-          (own-at (h .views) j) (f .allotted .given j (omega (arith, own-length h)));
-      bought = λ i l.
-          let k : i < s .count = omega (arith, r .tracks .many) in
-          omega (arith, f .allotted .bought i k, whole-is i k, ap (λ (m : ℕ). times m (at allotment) i) (own-length h));
+  few-campaigns : s .count ≤ 64
+  few-campaigns = sound-facts s (r .is-sound) .few
+
+  -- an allotment of the day's views, said of the state and of the history, and its takings
+  Of-state : (ℕ → ℕ) → Type 0
+  Of-state to = Allotment (s .count) (optimum.whole-of s) (length (own-views h)) (at (own-views h)) to
+
+  module _ (to : ℕ → ℕ) where
+    same-times : (i : ℕ) → times (length (own-views h)) to i ≡ times (length (h .views)) to i
+    same-times i = ap (λ (m : ℕ). times m to i) (own-length h)
+
+    of-history : Allotted h to → Of-state to
+    unfolding Of-state
+    of-history al = record {
+      given = λ j l. subst⁻¹ (λ (v : ℕ). (to j ≡ 64) ⊎ (member v (to j) ≡ true)) (own-at (h .views) j)
+          (al .given j (omega (arith, own-length h)));
+      bought = λ i l. omega (
+        arith,
+        al .bought i (omega (arith, r .tracks .many)),
+        whole-is i l,
+        same-times i,
+      );
     }
 
-    -- its takings, said of the state and of the history
-    same-takings : optimum.takings-of s (own-views h) allotment ≡ takings-of h (price-of h) (at allotment)
+    of-state : Of-state to → Allotted h to
+    unfolding Of-state
+    of-state al = record {
+      given = λ j l. subst (λ (v : ℕ). (to j ≡ 64) ⊎ (member v (to j) ≡ true)) (own-at (h .views) j)
+          (al .given j (omega (arith, own-length h)));
+      bought = λ i l.
+          let k : i < s .count = omega (arith, r .tracks .many) in
+          omega (arith, al .bought i k, whole-is i k, same-times i);
+    }
+
+    same-takings : takings (s .count) (optimum.price-of s) (length (own-views h)) to ≡ takings-of h (price-of h) to
     same-takings =
-        takings-eq (s .count) (optimum.price-of s) (price-of h) (length (own-views h)) (at allotment) price-is
-        ∙ ap (λ (m : ℕ). takings (s .count) (price-of h) m (at allotment)) (own-length h)
-        ∙ ap (λ (n : ℕ). takings n (price-of h) (length (h .views)) (at allotment)) (sym (r .tracks .many))
+        takings-eq (s .count) (optimum.price-of s) (price-of h) (length (own-views h)) to price-is
+        ∙ ap (λ (m : ℕ). takings (s .count) (price-of h) m to) (own-length h)
+        ∙ ap (λ (n : ℕ). takings n (price-of h) (length (h .views)) to) (sym (r .tracks .many))
 
-    most-is : takings-of h (price-of h) (at allotment) ≡ most-of s (own-views h)
-    most-is =
-        sym same-takings
-        ∙ certified-most (s .count) (optimum.price-of s) (at (own-views h)) (sound-facts s (r .is-sound) .few)
-        (optimum.whole-of s) (length (own-views h)) (at allotment) (at surplus) (at worth) f
+    taken-of : Of-state to → takings (s .count) (optimum.price-of s) (length (own-views h)) to ≡ most-of s (own-views h)
+        → Takes-most h s to
+    taken-of al e = record { allotted = of-state al; takes-most = sym same-takings ∙ e }
 
-    split : most-of s (own-views h) ≡ takings-of h (unstruck h) (at allotment) + given-short h (at allotment)
-    split =
-        sym most-is
+    -- the greatest takings fall into those of the campaigns that fall short and those of the others
+    split : Takes-most h s to → most-of s (own-views h) ≡ takings-of h (unstruck h) to + given-short h to
+    split t =
+        sym (t .takes-most)
         ∙ takings-eq (length (h .terms)) (price-of h) (λ i. unstruck h i + cond (falls-short h i) (price-of h i) 0)
-        (length (h .views)) (at allotment) (λ i l. two-parts h i)
+        (length (h .views)) to (λ i l. two-parts h i)
         ∙ takings-add (length (h .terms)) (unstruck h) (λ i. cond (falls-short h i) (price-of h i) 0)
-        (length (h .views)) (at allotment)
+        (length (h .views)) to
 
-    pub against-greatest : Against-greatest h s allotment
-    against-greatest =
+    against-greatest : Takes-most h s to → Floor h s → Against-greatest h s to
+    against-greatest t fl =
         let p = share (h .plan .depth) (h .plan .width) in
-        let u = takings-of h (unstruck h) (at allotment) in
-        let g = given-short h (at allotment) in
-        let covered : p * u ≤ full (h .plan) (day-takings h) = fl .struck (at allotment) allotted in
-        let rest : most-of s (own-views h) - g ≡ u = omega (arith, split) in
+        let u = takings-of h (unstruck h) to in
+        let g = given-short h to in
+        let covered : p * u ≤ full (h .plan) (day-takings h) = fl .struck to (t .allotted) in
+        let rest : most-of s (own-views h) - g ≡ u = omega (arith, split t) in
         record {
-          takes-most = most-is;
-          part = omega (arith, split);
+          part = omega (arith, split t);
           less-short = subst⁻¹ (λ (x : ℕ). Covered h x) rest covered;
-          as-sum = omega (arith, covered, ap (λ (x : ℕ). p * x) split);
+          as-sum = omega (arith, covered, ap (λ (x : ℕ). p * x) (split t));
         }
 
+  greatest-figure : Greatest-figure h s
+  unfolding Of-state
+  greatest-figure =
+      let g = most-is-most (s .count) (optimum.price-of s) (optimum.whole-of s) (length (own-views h))
+      (at (own-views h)) few-campaigns in
+      record {
+        to = g .taken .to;
+        is = taken-of (g .taken .to) (g .taken .allotted) (g .taken .takes);
+        no-more = λ other al. omega (arith, g .no-more other (of-history other al), same-takings other);
+      }
+
+  accepted-taken : (allotment surplus worth : List ℕ)
+      → checked s (own-views h) allotment surplus worth ≡ verdict.Accepted → Takes-most h s (at allotment)
+  unfolding Of-state
+  accepted-taken allotment surplus worth e =
+      let b = accepted-is-best s (own-views h) allotment surplus worth e in
+      taken-of (at allotment) (b .allotted) (b .takes-most)
+
+  -- the questions: the first and the third are answered yes, whatever is lent
+  own-inside : every (length (own-views h)) (λ j. within (s .count) (at (own-views h) j)) ≡ true
+  own-inside = every-of (length (own-views h)) (λ j. within (s .count) (at (own-views h) j))
+      (λ j l. ap (within (s .count)) (own-at (h .views) j) ∙ r .tracks .inside j (omega (arith, own-length h)))
+
+  room-enough : (allotment surplus worth : List ℕ) → Room h s allotment surplus worth
+      → failed s (own-views h) allotment surplus worth ≡ 0
+  unfolding failed first-failed
+  room-enough allotment surplus worth m =
+      let n = length (own-views h) in
+      rw (
+        r .is-sound,
+        le-leb n 256 (omega (arith, own-length h, m .few)),
+        own-inside,
+        le-leb n (length allotment) (omega (arith, own-length h, m .for-allotment)),
+        le-leb (s .count) (length surplus) (m .for-campaigns),
+        le-leb n (length worth) (omega (arith, own-length h, m .for-views)),
+      )
+
 pub floor-against-greatest : Floor-against-greatest
-floor-against-greatest s cs st allotment surplus worth f = against-greatest (final s cs) (history (transcript s cs))
-    (reached s cs st) allotment surplus worth f (demand-3 s cs st)
+floor-against-greatest s cs st to t = against-greatest (final s cs) (history (transcript s cs)) (reached s cs st) to t
+    (demand-3 s cs st)
+
+pub always-greatest : Always-greatest
+always-greatest s cs st = greatest-figure (final s cs) (history (transcript s cs)) (reached s cs st)
 
 pub floor-against-accepted : Floor-against-accepted
 floor-against-accepted s cs st allotment surplus worth e =
-    floor-against-greatest s cs st allotment surplus worth (accepts-exactly (final s cs)
-    (own-views (history (transcript s cs))) allotment surplus worth .0 e .1)
+    let t = accepted-taken (final s cs) (history (transcript s cs)) (reached s cs st) allotment surplus worth e in
+    (t, floor-against-greatest s cs st (at allotment) t)
+
+pub floor-against-searched : Floor-against-searched
+floor-against-searched s cs st allotment allotment' surplus surplus' worth worth' r room found =
+    let h = history (transcript s cs) in
+    let t = final s cs in
+    let z = room-enough t h (reached s cs st) allotment surplus worth room in
+    let ok = search-accepted t (own-views h) allotment allotment' surplus surplus' worth worth' r found z in
+    let floored = floor-against-accepted s cs st allotment' surplus' worth' ok in
+    record {
+      none-fails = z;
+      answer = found .answer ∙ ap (λ (q : ℕ). optimum.found q (most-of t (own-views h))) z;
+      accepted = ok;
+      taken = floored .0;
+      against = floored .1;
+    }
 
 -- of four questions the first and the third are answered yes
 abbrev failed-of : (a b c d : Bool) → ℕ
@@ -134,6 +214,4 @@ own-views-taken s cs st allotment surplus worth =
     let r = reached s cs st in
     neither (sound t) (leb (length vs) optimum.max-handed-in) (every (length vs) (λ j. within (t .count) (at vs j)))
     (leb (length vs) (length allotment) && leb (t .count) (length surplus) && leb (length vs) (length worth))
-    (r .is-sound)
-    (every-of (length vs) (λ j. within (t .count) (at vs j)) (λ j l. ap (within (t .count)) (own-at (h .views) j) ∙
-    r .tracks .inside j (omega (arith, own-length h))))
+    (r .is-sound) (own-inside t h r)

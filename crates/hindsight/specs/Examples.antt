@@ -1,20 +1,22 @@
--- Two days that meet the hypotheses, computed: document 01's listing, which took all that it could, and the day on
--- which the floor fails unless what goes to campaigns that fall short is taken off.
+-- Three days that meet the hypotheses, computed: document 01's listing, which took all that it could; the day on which
+-- the floor fails unless what goes to campaigns that fall short is taken off; and a day with a pause, where only what
+-- the views found counts.
 use mathlib.Core.Path.{_≡_}
 use mathlib.Core.List.{List, [], _∷_}
 use Prim.Native.Nat.{ℕ}
 use Rattle.day.specs.Day.{blank}
 use Rattle.day.specs.Calls.{Call}
 use Rattle.day.specs.Calls.Call.{start-day, close-day}
-use Rattle.demands.specs.Cases.{plan, campaign-of, view}
+use Rattle.demands.specs.Cases.{plan, campaign-of, view, pause}
 use Rattle.demands.specs.Transcript.{transcript, final}
 use Rattle.allotments.specs.Allotment.{at}
 use Rattle.floor.specs.History.{Starts, History, day-takings, history}
 use Rattle.floor.specs.Floor.{Covered}
 use Rattle.floor.specs.Short.{short-calls}
-use Rattle.optimum.specs.declared.Verdict.the-variants.{Accepted}
+use Rattle.optimum.specs.declared.Verdict.the-variants.{Accepted, Rejected}
 use Rattle.optimum.specs.Optimum.{most-of, checked}
-use Rattle.hindsight.specs.Hindsight.{own-views, given-short}
+use Rattle.floor.specs.History.{own-views}
+use Rattle.hindsight.specs.Hindsight.{given-short}
 
 abbrev pub day-of : List Call → History
 day-of cs = history (transcript blank cs)
@@ -33,7 +35,24 @@ listed =
     plan 2 2 ∷ campaign-of 5 10 ∷ campaign-of 3 6 ∷ start-day ∷ view 3 ∷ view 3 ∷ view 3 ∷ view 1 ∷ view 2 ∷ view 4 ∷
     close-day ∷ []
 
+-- campaign 0 of price 5 and one play, 1 of price 3 and two; with 1 paused the second and the third view find 0 alone
+abbrev pub paused-listed : List Call
+paused-listed =
+    plan 2 2 ∷ campaign-of 5 5 ∷ campaign-of 3 6 ∷ start-day ∷ view 3 ∷ pause 1 ∷ view 3 ∷ view 3 ∷ close-day ∷ []
+
+-- that day: what its views found, and the sets handed in. Over the sets handed in more could be taken, by giving a view
+-- to the paused campaign; the check accepts such an allotment for them, and rejects it for what the views found
+pub record Paused (found handed-in allotment surplus worth : List ℕ) : Type 0 where
+  pub found-is : own-views (day-of paused-listed) ≡ found
+  pub more : most-of (final blank paused-listed) handed-in ≡ 11
+  pub accepted : checked (final blank paused-listed) handed-in allotment surplus worth ≡ Accepted
+  pub rejected : checked (final blank paused-listed) (own-views (day-of paused-listed)) allotment surplus worth
+      ≡ Rejected
+
 pub record Examples : Type 0 where
   pub listing : Example listed (0 ∷ 0 ∷ 1 ∷ 64 ∷ 1 ∷ []) (5 ∷ 3 ∷ []) (0 ∷ 0 ∷ 0 ∷ 0 ∷ 0 ∷ []) 16 16 0
   pub short : Example short-calls (1 ∷ 0 ∷ []) (2 ∷ 2 ∷ []) (0 ∷ 0 ∷ []) 2 4 2
   pub not-covered : Covered (day-of short-calls) 4 → ⊥
+  pub paused : Example paused-listed (1 ∷ 0 ∷ 64 ∷ []) (5 ∷ 0 ∷ []) (3 ∷ 0 ∷ 0 ∷ []) 5 8 3
+  pub paused-not-covered : Covered (day-of paused-listed) 8 → ⊥
+  pub found-alone : Paused (3 ∷ 1 ∷ 1 ∷ []) (3 ∷ 3 ∷ 3 ∷ []) (0 ∷ 1 ∷ 1 ∷ []) (2 ∷ 0 ∷ []) (3 ∷ 3 ∷ 3 ∷ [])

@@ -1,71 +1,73 @@
 -- What holds in the loop that serves all campaigns.
-use mathlib.Core.Path.{_≡_, refl, _∙_, subst, subst⁻¹}
+use mathlib.Core.Path.{_≡_, refl, ap, _∙_, subst, subst⁻¹}
 use mathlib.Core.Logic.{⊎-elim}
 use mathlib.Core.List.{List}
 use Prim.Native.Nat.{ℕ, _≤_, _<_}
 use native.Mathlib.Omega.{arith}
 use lib.ListN.{length}
-use Rattle.sets.specs.Set.{including, without}
-use Rattle.sets.proofs.Algebra.{including-same, including-keeps, empty-member}
+use Rattle.finite.proofs.Tests.{never}
+use Rattle.sets.specs.Set.{member, size, including, without}
+use Rattle.sets.proofs.Algebra.{empty-member}
 use Rattle.allotments.specs.Allotment.{at}
-use Rattle.exchange.specs.Contracts.{Taken, Ready}
+use Rattle.exchange.specs.Contracts.{Taken, Bare, Ready}
 use Rattle.allotments.specs.Contracts.{Market}
-use Rattle.matching.specs.Contracts.{Served, Dearest, Frozen, Unserved, Standing, Matched}
-use Rattle.exchange.proofs.Search.{left-out, fewer, taken-kept}
-use Rattle.matching.proofs.Serving.{chosen-of, none-left}
+use Rattle.matching.specs.Contracts.{Served, Everyone, Dearest, Frozen, Unserved, Standing, Matched}
+use Rattle.exchange.proofs.Search.{taken-kept}
+use Rattle.matching.proofs.Choosing.{one-fewer}
 use Rattle.matching.proofs.Standing.{standing-first, standing-next}
 
-pub record Underway (n : ℕ) (prices wholes views to₀ to level : List ℕ) (first closed served c : ℕ) : Type 0 where
+pub record Underway (n : ℕ) (prices wholes views to₀ to level : List ℕ) (first closed bare unserved : ℕ) : Type 0 where
   pub market : Market n views
   pub room : length views ≤ length to
   pub same : length to ≡ length to₀
   pub long : length level ≡ 64
   pub inside : first ≤ length views
   pub taken : Taken to first
-  pub standing : Standing n prices wholes views to level closed served
-  pub next : Dearest n prices served c
+  pub none-free : Bare views to bare
+  pub standing : Standing n prices wholes views to level closed unserved
   pub beyond : (j : ℕ) → length views ≤ j → at to j ≡ at to₀ j
 
-pub underway-start : (n : ℕ) (prices wholes views to level : List ℕ) (c : ℕ) → Unserved n views to level → Dearest n
-    prices 0 c → Underway n prices wholes views to to level 0 0 0 c
-underway-start n prices wholes views to level c un next = record {
+pub underway-start : (n : ℕ) (prices wholes views to level : List ℕ) (unserved : ℕ) → Unserved n views to level
+    → Everyone n unserved → Underway n prices wholes views to to level 0 0 0 unserved
+underway-start n prices wholes views to level unserved un all = record {
   market = un .market;
   room = un .room;
   same = refl;
   long = un .long;
   inside = omega arith;
   taken = λ j l e. omega arith;
-  standing = standing-first n prices wholes views to level 0 0 (un .market) (un .free) (un .zeros) empty-member
-      empty-member;
-  next = next;
+  none-free = λ d l m. absurd (never (member 0 d) (empty-member d) m);
+  standing = standing-first n prices wholes views to level 0 unserved (un .market) (un .free) (un .zeros) empty-member
+      all;
   beyond = λ j b. refl;
 }
 
-module _ (n : ℕ) (prices wholes views to₀ to level : List ℕ) (first closed served c : ℕ) (u : Underway n prices wholes
-    views to₀ to level first closed served c) where
-  pub ready-chosen : (first' : ℕ) → c < 64 → (first' ≤ length views) × Taken to first' → Ready views to c closed first'
-  ready-chosen first' l h = record {
+module _ (n : ℕ) (prices wholes views to₀ to level : List ℕ) (first closed bare unserved c : ℕ)
+    (u : Underway n prices wholes views to₀ to level first closed bare unserved) (ch : Dearest prices unserved c) where
+  pub ready-chosen : (first' : ℕ) → (first' ≤ length views) × Taken to first' → Ready views to c closed first' bare
+  ready-chosen first' h = record {
     room = u .room;
     entries = λ j k. ⊎-elim (λ e. omega arith) (λ h. omega (arith, u .market .few, h .0)) (u .standing .entries j k);
-    campaign = l;
-    fresh = u .standing .waiting c l (chosen-of n prices served c (u .next) l .waiting);
+    campaign = ch .inside;
+    fresh = u .standing .waiting c (ch .inside) (ch .waiting);
     inside = h .0;
     taken = h .1;
+    none-free = u .none-free;
   }
 
-  pub fewer-left : (served' : ℕ) → c < 64 → served' ≡ including served c → left-out served' < left-out served
-  fewer-left served' l e = subst⁻¹ (λ (x : ℕ). left-out x < left-out served) e
-      (fewer served (including served c) c (λ d k m. including-keeps served c d k m) l (chosen-of n prices served c
-      (u .next) l .waiting) (including-same served c l))
+  pub fewer-left : (one unserved' : ℕ) → one ≡ including 0 c → unserved' ≡ without unserved one
+      → size unserved' < size unserved
+  fewer-left one unserved' eo e = subst⁻¹ (λ (x : ℕ). size x < size unserved) (e ∙ ap (without unserved) eo)
+      (one-fewer unserved c (ch .inside) (ch .waiting))
 
-  pub underway-turn : (to' level' : List ℕ) (first' closed' served' c' plays price who : ℕ) → c < 64
+  pub underway-turn : (to' level' : List ℕ) (first' closed' bare' one unserved' plays price who : ℕ)
       → (first' ≤ length views) × Taken to first' → plays ≡ at wholes c → price ≡ at prices c → who ≡ without closed'
-      closed → served' ≡ including served c
-      → length to' ≡ length to → Served views to to' c closed plays closed' → Frozen level level' who price → Dearest
-      n prices served' c' → Underway n prices wholes views to₀ to' level' first' closed' served' c'
-  underway-turn to' level' first' closed' served' c' plays price who l h ep eq ew es len sv fz next =
-      let sv' : Served views to to' c closed (at wholes c) closed' = subst (λ (x : ℕ). Served views to to' c closed x
-      closed') ep sv in
+      closed → one ≡ including 0 c → unserved' ≡ without unserved one
+      → length to' ≡ length to → Served views to to' c closed plays closed' bare' → Frozen level level' who price
+      → Underway n prices wholes views to₀ to' level' first' closed' bare' unserved'
+  underway-turn to' level' first' closed' bare' one unserved' plays price who h ep eq ew eo es len sv fz =
+      let sv' : Served views to to' c closed (at wholes c) closed' bare' = subst (λ (x : ℕ). Served views to to' c
+      closed x closed' bare') ep sv in
       let fz' : Frozen level level' (without closed' closed) (at prices c) = subst (λ (x : ℕ). Frozen level level' x
       (at prices c)) ew (subst (λ (x : ℕ). Frozen level level' who x) eq fz) in
       record {
@@ -75,19 +77,19 @@ module _ (n : ℕ) (prices wholes views to₀ to level : List ℕ) (first closed
         long = fz .long ∙ u .long;
         inside = h .0;
         taken = taken-kept views to to' first' (h .0) (sv .gains .changed) (h .1);
-        standing = subst⁻¹ (λ (x : ℕ). Standing n prices wholes views to' level' closed' x) es
-            (standing-next n prices wholes views to to' level level' closed closed' served c (u .market) (u .standing)
-            (chosen-of n prices served c (u .next) l) sv' fz');
-        next = next;
+        none-free = sv .none-free;
+        standing = subst⁻¹ (λ (x : ℕ). Standing n prices wholes views to' level' closed' x) (es ∙ ap (without unserved)
+            eo)
+            (standing-next n prices wholes views to to' level level' closed closed' unserved c bare' (u .market)
+            (u .standing) ch sv' fz');
         beyond = λ j b. sv .gains .beyond j b ∙ u .beyond j b;
       }
 
-  pub matched-end : 64 ≤ c → Matched n prices wholes views to₀ to level
-  matched-end l = record {
-    closed = closed;
-    served = served;
-    standing = u .standing;
-    all-served = none-left n prices
-        served c (u .next) (u .market .few) l;
-    beyond = u .beyond;
-  }
+pub matched-end : (n : ℕ) (prices wholes views to₀ to level : List ℕ) (first closed bare unserved : ℕ) → Underway n
+    prices wholes views to₀ to level first closed bare unserved → unserved ≡ 0
+    → Matched n prices wholes views to₀ to level
+matched-end n prices wholes views to₀ to level first closed bare unserved u e = record {
+  closed = closed;
+  standing = subst (λ (x : ℕ). Standing n prices wholes views to level closed x) e (u .standing);
+  beyond = u .beyond;
+}

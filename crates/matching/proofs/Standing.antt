@@ -6,20 +6,21 @@ use mathlib.Core.List.{List}
 use Prim.Native.Nat.{ℕ, _+_, _-_, _*_, _≤_, _<_}
 use native.Mathlib.Omega.{arith}
 use lib.ListN.{length}
-use borrow.Author.Tests.{lt-ltb, le-ltb}
+use borrow.Author.Tests.{ltb-true, lt-ltb, le-ltb}
 use Rattle.finite.proofs.Sums.{sum-eq, sum-add}
 use Rattle.finite.proofs.Tests.{never}
-use Rattle.sets.specs.Set.{member, including, without}
-use Rattle.sets.proofs.Algebra.{including-same, including-other, without-member}
+use Rattle.sets.specs.Set.{member, without}
+use Rattle.sets.proofs.Algebra.{empty-member, without-member}
 use Rattle.sets.proofs.Bounds.{within-member}
 use Rattle.allotments.specs.Allotment.{at, brings, takings, Certified}
 use Rattle.allotments.proofs.Cases.{same-or-not, true-or-not}
 use Rattle.allotments.proofs.Takings.{by-campaign}
 use Rattle.exchange.specs.Contracts.{holds, Failed}
 use Rattle.allotments.specs.Contracts.{Market}
-use Rattle.matching.specs.Contracts.{Gains, Served, Frozen, Entry, Standing, campaign-figure, view-figure}
+use Rattle.matching.specs.Contracts.{Gains, Served, Everyone, Dearest, without-one, Frozen, Entry, Standing}
+use Rattle.matching.specs.Contracts.{campaign-figure, view-figure}
 use Rattle.exchange.proofs.Entries.{holds-none}
-use Rattle.matching.proofs.Serving.{Chosen}
+use Rattle.matching.proofs.Choosing.{one-out, others-stay}
 
 -- the levels after the newly closed campaigns are frozen: theirs are the price, the others stand
 new-level : (level level' : List ℕ) (closed closed' price : ℕ) → Frozen level level' (without closed' closed) price
@@ -41,26 +42,32 @@ old-level level level' closed closed' price f d l h =
     out false b h = refl
 
 -- one more campaign is served
-module _ (n : ℕ) (prices wholes views to to' level level' : List ℕ) (closed closed' served c : ℕ)
-    (mk : Market n views) (st : Standing n prices wholes views to level closed served)
-    (ch : Chosen n prices served c)
-    (sv : Served views to to' c closed (at wholes c) closed') (fz : Frozen level level' (without closed' closed)
+module _ (n : ℕ) (prices wholes views to to' level level' : List ℕ) (closed closed' unserved c bare : ℕ)
+    (mk : Market n views) (st : Standing n prices wholes views to level closed unserved)
+    (ch : Dearest prices unserved c)
+    (sv : Served views to to' c closed (at wholes c) closed' bare) (fz : Frozen level level' (without closed' closed)
     (at prices c)) where
   g : Gains views to to' c closed (sv .found)
   g = sv .gains
 
   c-small : c < 64
-  c-small = omega (arith, mk .few, ch .inside)
+  c-small = ch .inside
+
+  c-in : c < n
+  c-in = st .planned c c-small (ch .waiting)
 
   abbrev now : ℕ
-  now = including served c
+  now = without-one unserved c
 
   -- who is not served now was not before, and is not c
-  other : (d : ℕ) → member now d ≡ false → d ≡ c → ⊥
-  other d z e = never (member now c) (ap (member now) (sym e) ∙ z) (including-same served c c-small)
+  other : (d : ℕ) → member now d ≡ true → d ≡ c → ⊥
+  other d z e = never (member now c) (one-out unserved c c-small) (ap (member now) (sym e) ∙ z)
 
-  before : (d : ℕ) → d < 64 → member now d ≡ false → member served d ≡ false
-  before d l z = sym (including-other served c d l (other d z)) ∙ z
+  before : (d : ℕ) → d < 64 → member now d ≡ true → member unserved d ≡ true
+  before d l z = sym (others-stay unserved c c-small d l (other d z)) ∙ z
+
+  planned' : (d : ℕ) → d < 64 → member now d ≡ true → d < n
+  planned' d l z = st .planned d l (before d l z)
 
   -- who is closed is closed still
   stays : (d : ℕ) → d < 64 → member closed d ≡ true → member closed' d ≡ true
@@ -78,23 +85,23 @@ module _ (n : ℕ) (prices wholes views to to' level level' : List ℕ) (closed 
   new d l p m = new-level level level' closed closed' (at prices c) fz d l p m
 
   -- who is waiting holds nothing
-  idle' : (d : ℕ) → d < 64 → member now d ≡ false → holds views to' d ≡ 0
+  idle' : (d : ℕ) → d < 64 → member now d ≡ true → holds views to' d ≡ 0
   idle' d l z = g .same d l (other d z) ∙ st .idle d l (before d l z)
 
   -- who holds a view or is c is as dear as c
   dear : (d : ℕ) → d < n → (d ≡ c) ⊎ (0 < holds views to' d) → at prices c ≤ at prices d
   dear d l (inl e) = omega (arith, ap (at prices) e)
-  dear d l (inr p) = ⊎-elim (λ m. st .falling c (ch .inside) (ch .waiting) d l m) (λ z. idle z (same-or-not d c))
-      (true-or-not (member served d))
+  dear d l (inr p) = ⊎-elim (λ z. idle z (same-or-not d c)) (λ m. st .falling c c-small (ch .waiting) d l m)
+      (true-or-not (member unserved d))
     where
       small : d < 64
       small = omega (arith, mk .few)
 
-      idle : member served d ≡ false → (d ≡ c) ⊎ (d ≡ c → ⊥) → at prices c ≤ at prices d
+      idle : member unserved d ≡ true → (d ≡ c) ⊎ (d ≡ c → ⊥) → at prices c ≤ at prices d
       idle z (inl e) = omega (arith, ap (at prices) e)
       idle z (inr ne) = absurd (omega (arith, p, g .same d small ne, st .idle d small z))
 
-  waiting' : (d : ℕ) → d < 64 → member now d ≡ false → member closed' d ≡ false
+  waiting' : (d : ℕ) → d < 64 → member now d ≡ true → member closed' d ≡ false
   waiting' d l z = ⊎-elim (λ m. absurd (⊎-elim (λ e. other d z e) (λ p. omega (arith, p, idle' d l z))
       (failed d (st .waiting d l (before d l z)) m .reached d l (st .waiting d l (before d l z)) m))) (λ m. m)
       (true-or-not (member closed' d))
@@ -106,7 +113,7 @@ module _ (n : ℕ) (prices wholes views to to' level level' : List ℕ) (closed 
       (λ ne. omega (arith, g .same d (omega (arith, mk .few)) ne, st .bought d l))
       (same-or-not d c)
 
-  full' : (d : ℕ) → d < n → member now d ≡ true → (holds views to' d ≡ at wholes d) ⊎ ((member closed' d ≡ true)
+  full' : (d : ℕ) → d < n → member now d ≡ false → (holds views to' d ≡ at wholes d) ⊎ ((member closed' d ≡ true)
       × (at level' d ≡ at prices d))
   full' d l m = ⊎-elim
       (λ e. subst⁻¹ (λ (k : ℕ). (holds views to' k ≡ at wholes k) ⊎ ((member closed' k ≡ true)
@@ -116,7 +123,7 @@ module _ (n : ℕ) (prices wholes views to to' level level' : List ℕ) (closed 
       (λ ne. ⊎-elim
       (λ q. inl (g .same d small ne ∙ q))
       (λ q. inr (stays d small (q .0), old d small (q .0) ∙ q .1))
-      (st .full d l (sym (including-other served c d small ne) ∙ m)))
+      (st .full d l (sym (others-stay unserved c c-small d small ne) ∙ m)))
       (same-or-not d c)
     where
       small : d < 64
@@ -135,10 +142,10 @@ module _ (n : ℕ) (prices wholes views to to' level level' : List ℕ) (closed 
   none' d l q = old-level level level' closed closed' (at prices c) fz d l (inr q) ∙ st .none d l
       (⊎-elim (λ m. absurd (never (member closed' d) q (stays d l m))) (λ p. p) (true-or-not (member closed d)))
 
-  levels' : (d : ℕ) → d < n → member now d ≡ false → (e : ℕ) → e < 64 → member closed' e ≡ true → at prices d ≤ at
+  levels' : (d : ℕ) → d < 64 → member now d ≡ true → (e : ℕ) → e < 64 → member closed' e ≡ true → at prices d ≤ at
       level' e
   levels' d l z e k m =
-      let w = before d (omega (arith, mk .few)) z in
+      let w = before d l z in
       ⊎-elim (λ p. omega (arith, old e k p, st .levels d l w e k p)) (λ p. omega (arith, new e k p m, ch .top d l w))
       (true-or-not (member closed e))
 
@@ -171,18 +178,18 @@ module _ (n : ℕ) (prices wholes views to to' level level' : List ℕ) (closed 
                   arith,
                   new d small p m,
                   old (at to' j) (h .0) q,
-                  st .levels c (ch .inside) (ch .waiting)
+                  st .levels c c-small (ch .waiting)
                       (at to' j) (h .0) q,
                 ))
                 (λ q. omega (arith, new d small p m, new (at to' j) (h .0) q (h .1)))
                 (true-or-not (member closed (at to' j))),
           )
 
-  falling' : (d : ℕ) → d < n → member now d ≡ false → (e : ℕ) → e < n → member now e ≡ true → at prices d ≤ at prices e
+  falling' : (d : ℕ) → d < 64 → member now d ≡ true → (e : ℕ) → e < n → member now e ≡ false → at prices d ≤ at prices e
   falling' d l z e k m =
-      let w = before d (omega (arith, mk .few)) z in
+      let w = before d l z in
       ⊎-elim (λ q. omega (arith, ch .top d l w, ap (at prices) q)) (λ ne. st .falling d l w e k
-      (sym (including-other served c e (omega (arith, mk .few)) ne) ∙ m)) (same-or-not e c)
+      (sym (others-stay unserved c c-small e (omega (arith, mk .few)) ne) ∙ m)) (same-or-not e c)
 
   entries' : (j : ℕ) → j < length views → Entry n views to' j
   entries' j l = ⊎-elim
@@ -190,10 +197,11 @@ module _ (n : ℕ) (prices wholes views to to' level level' : List ℕ) (closed 
       (λ q. inr (within-member n (at views j) (at to' j) (mk .inside j l) (q .0) (q .1), q .1))
       (g .changed j l)
 
-  pub standing-next : Standing n prices wholes views to' level' closed' (including served c)
+  pub standing-next : Standing n prices wholes views to' level' closed' (without-one unserved c)
   standing-next = record {
     entries = entries';
     bought = bought';
+    planned = planned';
     idle = idle';
     waiting = waiting';
     full = full';
@@ -205,27 +213,30 @@ module _ (n : ℕ) (prices wholes views to to' level level' : List ℕ) (closed 
   }
 
 -- at first no view is given, and no campaign served or closed
-pub standing-first : (n : ℕ) (prices wholes views to level : List ℕ) (closed served : ℕ) → Market n views
+pub standing-first : (n : ℕ) (prices wholes views to level : List ℕ) (closed unserved : ℕ) → Market n views
     → ((j : ℕ) → j < length views → at to j ≡ 64)
-    → ((d : ℕ) → at level d ≡ 0) → ((d : ℕ) → member closed d ≡ false) → ((d : ℕ) → member served d ≡ false)
-    → Standing n prices wholes views to level closed served
-standing-first n prices wholes views to level closed served mk free zl zc zs = record {
+    → ((d : ℕ) → at level d ≡ 0) → ((d : ℕ) → member closed d ≡ false) → Everyone n unserved
+    → Standing n prices wholes views to level closed unserved
+standing-first n prices wholes views to level closed unserved mk free zl zc all = record {
   entries = λ j l. inl (free j l);
   bought = λ d l. omega (arith, holds-none (length views) (at to) d (omega (arith, mk .few)) free);
+  planned = λ d l m. ltb-true d n (sym (all d l) ∙ m);
   idle = λ d l z. holds-none (length views) (at to) d l free;
   waiting = λ d l z. zc d;
-  full = λ d l m. absurd (never (member served d) (zs d) m);
+  full = λ d l m. absurd (served d l m);
   low = λ d l. omega (arith, zl d);
   none = λ d l z. zl d;
   held = λ d l m. absurd (never (member closed d) (zc d) m);
-  falling = λ d l z e k m. absurd (never (member served e) (zs e) m);
+  falling = λ d l z e k m. absurd (served e k m);
   levels = λ d l z e k m. absurd (never (member closed e) (zc e) m);
 }
+  where
+    served : (d : ℕ) → d < n → member unserved d ≡ false → ⊥
+    served d l m = never (member unserved d) m (all d (omega (arith, mk .few)) ∙ lt-ltb d n l)
 
 -- where all are served, the figures fit
-module _ (n : ℕ) (prices wholes views to level : List ℕ) (closed served : ℕ) (mk : Market n views)
-    (st : Standing n prices wholes views to level closed served)
-    (all-served : (d : ℕ) → d < n → member served d ≡ true) where
+module _ (n : ℕ) (prices wholes views to level : List ℕ) (closed : ℕ) (mk : Market n views)
+    (st : Standing n prices wholes views to level closed 0) where
   -- an entry's price is its campaign's figure and its view's
   split : (j : ℕ) → j < length views → brings n (at prices) (at to j) ≡ brings n (campaign-figure prices level)
       (at to j) + view-figure to level j
@@ -243,7 +254,7 @@ module _ (n : ℕ) (prices wholes views to level : List ℕ) (closed served : �
       (λ q. ap (λ (x : ℕ). campaign-figure prices level c * x) q)
       (λ q. let z : at prices c - at level c ≡ 0 = omega (arith, q .1) in omega
       (arith, ap (λ (x : ℕ). x * holds views to c) z, ap (λ (x : ℕ). x * at wholes c) z))
-      (st .full c l (all-served c l))
+      (st .full c l (empty-member c))
 
   covered : (j : ℕ) → j < length views → (c : ℕ) → c < n → member (at views j) c ≡ true → at prices c ≤
       campaign-figure prices level c + view-figure to level j

@@ -1,5 +1,5 @@
--- What serving a campaign gives, and what holds between one served campaign and the next. Served campaigns are a set;
--- closed campaigns, those that a failed search visited, are another, each with a level.
+-- What serving a campaign gives, and what holds between one served campaign and the next. Campaigns not served yet are
+-- a set; closed campaigns, those that a failed search visited, are another, each with a level.
 use mathlib.Core.Path.{_≡_}
 use mathlib.Core.Logic.{_⊎_}
 use mathlib.Core.Bool.{true, false, cond}
@@ -7,10 +7,10 @@ use mathlib.Core.List.{List}
 use Prim.Native.Nat.{ℕ, _+_, _-_, _≤_, _<_}
 use lib.Dec.{ltb}
 use lib.ListN.{length}
-use Rattle.sets.specs.Set.{member}
+use Rattle.sets.specs.Set.{member, without, including}
 use Rattle.allotments.specs.Allotment.{at, certified}
 use Rattle.allotments.specs.Contracts.{Market}
-use Rattle.exchange.specs.Contracts.{holds, Changed, Failed}
+use Rattle.exchange.specs.Contracts.{holds, Bare, Changed, Failed}
 
 -- k more views for c, and none fewer for the others; what a closed campaign held it still holds
 pub record Gains (views to to' : List ℕ) (c closed k : ℕ) : Type 0 where
@@ -21,17 +21,26 @@ pub record Gains (views to to' : List ℕ) (c closed k : ℕ) : Type 0 where
   pub beyond : (j : ℕ) → length views ≤ j → at to' j ≡ at to j
 
 -- all the plays found a view and none is newly closed, or fewer did and the last search failed
-pub record Served (views to to' : List ℕ) (c closed plays closed' : ℕ) : Type 0 where
+pub record Served (views to to' : List ℕ) (c closed plays closed' bare : ℕ) : Type 0 where
   pub found : ℕ
   pub gains : Gains views to to' c closed found
   pub most : found ≤ plays
   pub ended : ((found ≡ plays) × (closed' ≡ closed)) ⊎ Failed views to' to' c closed closed'
+  pub none-free : Bare views to' bare
 
--- the campaign to serve next: of those not served the dearest, or 64 where all are served
-pub data Dearest (n : ℕ) (prices : List ℕ) (served : ℕ) : ℕ → Type 0 where
-  all-served : ((d : ℕ) → d < n → member served d ≡ true) → Dearest n prices served 64
-  dearest : {r : ℕ} → r < n → member served r ≡ false
-      → ((d : ℕ) → d < n → member served d ≡ false → at prices d ≤ at prices r) → Dearest n prices served r
+-- the campaigns of the plan, as a set
+abbrev pub Everyone : (n set : ℕ) → Type 0
+Everyone n set = (d : ℕ) → d < 64 → member set d ≡ ltb d n
+
+-- the campaign to serve next: of those not served the dearest
+pub record Dearest (prices : List ℕ) (unserved r : ℕ) : Type 0 where
+  pub inside : r < 64
+  pub waiting : member unserved r ≡ true
+  pub top : (d : ℕ) → d < 64 → member unserved d ≡ true → at prices d ≤ at prices r
+
+-- the set without one campaign
+abbrev pub without-one : (unserved c : ℕ) → ℕ
+without-one unserved c = without unserved (including 0 c)
 
 -- the members of the set at the price, the others as before
 pub record Frozen (level level' : List ℕ) (set price : ℕ) : Type 0 where
@@ -52,29 +61,28 @@ Entry n views to j = (at to j ≡ 64) ⊎ ((at to j < n) × (member (at views j)
 
 -- between two served campaigns: those served have their plays or are closed at their own price; a closed campaign is
 -- shut off from those that are open, and from those at a lower level
-pub record Standing (n : ℕ) (prices wholes views to level : List ℕ) (closed served : ℕ) : Type 0 where
+pub record Standing (n : ℕ) (prices wholes views to level : List ℕ) (closed unserved : ℕ) : Type 0 where
   pub entries : (j : ℕ) → j < length views → Entry n views to j
   pub bought : (d : ℕ) → d < n → holds views to d ≤ at wholes d
-  pub idle : (d : ℕ) → d < 64 → member served d ≡ false → holds views to d ≡ 0
-  pub waiting : (d : ℕ) → d < 64 → member served d ≡ false → member closed d ≡ false
-  pub full : (d : ℕ) → d < n → member served d ≡ true
+  pub planned : (d : ℕ) → d < 64 → member unserved d ≡ true → d < n
+  pub idle : (d : ℕ) → d < 64 → member unserved d ≡ true → holds views to d ≡ 0
+  pub waiting : (d : ℕ) → d < 64 → member unserved d ≡ true → member closed d ≡ false
+  pub full : (d : ℕ) → d < n → member unserved d ≡ false
       → (holds views to d ≡ at wholes d) ⊎ ((member closed d ≡ true) × (at level d ≡ at prices d))
   pub low : (d : ℕ) → d < n → at level d ≤ at prices d
   pub none : (d : ℕ) → d < 64 → member closed d ≡ false → at level d ≡ 0
   pub held : (d : ℕ) → d < n → member closed d ≡ true → (j : ℕ) → j < length views
       → member (at views j) d ≡ true
       → (at to j < 64) × (member closed (at to j) ≡ true) × (at level d ≤ at level (at to j))
-  pub falling : (d : ℕ) → d < n → member served d ≡ false → (e : ℕ) → e < n → member served e ≡ true
+  pub falling : (d : ℕ) → d < 64 → member unserved d ≡ true → (e : ℕ) → e < n → member unserved e ≡ false
       → at prices d ≤ at prices e
-  pub levels : (d : ℕ) → d < n → member served d ≡ false → (e : ℕ) → e < 64 → member closed e ≡ true
+  pub levels : (d : ℕ) → d < 64 → member unserved d ≡ true → (e : ℕ) → e < 64 → member closed e ≡ true
       → at prices d ≤ at level e
 
 -- all are served, and the standing holds
 pub record Matched (n : ℕ) (prices wholes views to to' level : List ℕ) : Type 0 where
   pub closed : ℕ
-  pub served : ℕ
-  pub standing : Standing n prices wholes views to' level closed served
-  pub all-served : (d : ℕ) → d < n → member served d ≡ true
+  pub standing : Standing n prices wholes views to' level closed 0
   pub beyond : (j : ℕ) → length views ≤ j → at to' j ≡ at to j
 
 -- a campaign's figure is what its price exceeds its level by, a view's the level of its holder, 0 where it has none

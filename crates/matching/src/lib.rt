@@ -7,10 +7,16 @@ ghost use lib.ListN.{length};
 ghost use Rattle.allotments.specs.Allotment.{at};
 ghost use Rattle.allotments.specs.Contracts.{Lent};
 ghost use Rattle.exchange.specs.Contracts.{Ready};
-ghost use Rattle.matching.specs.Contracts.{Served, Dearest, Frozen, Unserved, Matched, Filled, Best-is};
-ghost use Rattle.matching.specs.Contracts.{campaign-figure, level-of, view-figure};
+ghost use Rattle.matching.specs.Contracts.{Served, Everyone, Dearest, Frozen, Unserved, Matched};
+ghost use Rattle.matching.specs.Contracts.{campaign-figure, level-of, view-figure, Filled, Best-is};
 
-// As many views for the campaign as its plays, or until none is found: the campaigns closed after.
+// After a campaign is served: the campaigns closed, and those that no free view names.
+struct After {
+    closed: u64,
+    bare: u64,
+}
+
+// As many views for the campaign as its plays, or until none is found.
 fn serve(
     views: &[u64],
     allotment: &mut [u64],
@@ -18,41 +24,63 @@ fn serve(
     closed: u64,
     plays: u64,
     from: usize,
-) -> u64
-    requires { ⌜ Ready (now views) (now allotment) campaign closed from ⌝ }
+    bare: u64,
+) -> After
+    requires { ⌜ Ready (now views) (now allotment) campaign closed from bare ⌝ }
     ensures { λ r. ⌜ Served (now (views .entry)) (now (allotment .entry)) (now (allotment .exit)) campaign closed
-        plays r ⌝ }
+        plays (r .closed) (r .bare) ⌝ }
 {
     let n = views.len();
     let mut first = from;
+    let mut known = bare;
     let mut k = 0;
     while k < plays {
         first = exchange::first_open(n, allotment, first);
-        let r = exchange::seek(views, allotment, campaign, closed, first);
+        let r = exchange::seek(views, allotment, campaign, closed, first, known);
         if !r.found {
-            return r.visited;
+            return After {
+                closed: r.visited,
+                bare: r.bare,
+            };
         }
+        known = r.bare;
         k += 1;
     }
-    closed
+    After {
+        closed: closed,
+        bare: known,
+    }
 }
 
-// Of the campaigns not served the dearest, the lowest of equals; 64 where all are served.
-fn dearest(count: u64, prices: &[u32; 128], served: u64) -> u64
+// The campaigns of the plan, as a set.
+fn everyone(count: u64) -> u64
     requires { ⌜ count ≤ 64 ⌝ }
-    ensures { λ r. ⌜ Dearest count (now (prices .entry)) served r ⌝ }
+    ensures { λ r. ⌜ Everyone count r ⌝ }
 {
-    let mut best = 64;
-    let mut top: u32 = 0;
-    let mut c = 0;
-    while c < count {
+    if count == 64 {
+        return u64::MAX;
+    }
+    (1 << count) - 1
+}
+
+// Of the campaigns not served, of which there is one, the dearest; the lowest of equals.
+fn dearest(prices: &[u32; 128], unserved: u64) -> u64
+    requires { ⌜ (unserved ≡ 0 → ⊥) ⌝ }
+    ensures { λ r. ⌜ Dearest (now (prices .entry)) unserved r ⌝ }
+{
+    let mut best = sets::first(unserved);
+    let start = best as usize;
+    let mut top = prices[start];
+    let mut left = sets::rest(unserved);
+    while left != 0 {
+        let c = sets::first(left);
         let at = c as usize;
         let p = prices[at];
-        if !sets::has(served, c) & ((best == 64) | (top < p)) {
+        if top < p {
             best = c;
             top = p;
         }
-        c += 1;
+        left = sets::rest(left);
     }
     best
 }
@@ -98,18 +126,19 @@ fn match_all<'a>(
     let n = views.len();
     let mut first = 0;
     let mut closed = 0;
-    let mut served = 0;
-    let mut c = dearest(count, prices, served);
-    while c < 64 {
+    let mut bare = 0;
+    let mut unserved = everyone(count);
+    while unserved != 0 {
+        let c = dearest(prices, unserved);
         let at = c as usize;
         let price = wide32(prices[at]);
         let plays = wide32(wholes[at]);
         first = exchange::first_open(n, allotment, first);
-        let next = serve(views, allotment, c, closed, plays, first);
-        freeze(level, sets::without(next, closed), price);
-        closed = next;
-        served = sets::including(served, c);
-        c = dearest(count, prices, served);
+        let after = serve(views, allotment, c, closed, plays, first, bare);
+        freeze(level, sets::without(after.closed, closed), price);
+        closed = after.closed;
+        bare = after.bare;
+        unserved = sets::without(unserved, sets::including(0, c));
     }
 }
 

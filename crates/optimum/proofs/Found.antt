@@ -58,6 +58,8 @@ module _ (s : Day) (wholes : List ℕ) (d : Divided (s .count) (s .terms) wholes
   module _ (views allotment allotment' surplus surplus' worth worth' : List ℕ)
       (g : Granted s views (length allotment) (length surplus) (length worth))
       (b : Best-is (s .count) (s .terms) wholes views allotment allotment' surplus surplus' worth worth')
+      (kept : (length allotment' ≡ length allotment) × (length surplus' ≡ length surplus)
+      × (length worth' ≡ length worth))
     where
       certain : fits s views allotment' surplus' worth' ≡ true
       certain = sym (fits-is views allotment' surplus' worth') ∙ b .accepted
@@ -78,9 +80,9 @@ module _ (s : Day) (wholes : List ℕ) (d : Divided (s .count) (s .terms) wholes
           record {
             answer = ap optimum.Takings (h ∙ most-taken) ∙ ap (λ (x : ℕ). found x (most-of s views)) (sym none);
             fit = λ i. certain;
-            in-allotment = record { refused = λ no. absurd (no none); beyond = b .to-beyond };
-            in-surplus = record { refused = λ no. absurd (no none); beyond = b .us-beyond };
-            in-worth = record { refused = λ no. absurd (no none); beyond = b .vs-beyond };
+            in-allotment = record { same-length = kept .0; refused = λ no. absurd (no none); beyond = b .to-beyond };
+            in-surplus = record { same-length = kept .1; refused = λ no. absurd (no none); beyond = b .us-beyond };
+            in-worth = record { same-length = kept .2; refused = λ no. absurd (no none); beyond = b .vs-beyond };
           }
 
 -- a refusal leaves all as it was
@@ -90,9 +92,9 @@ module _ (s : Day) (views allotment surplus worth : List ℕ) (q : ℕ) (e : q �
   search-refused = record {
     answer = named q no ∙ ap (λ (x : ℕ). found x (most-of s views)) e;
     fit = λ z. absurd (no (e ∙ z));
-    in-allotment = record { refused = λ z. refl; beyond = λ j l. refl };
-    in-surplus = record { refused = λ z. refl; beyond = λ j l. refl };
-    in-worth = record { refused = λ z. refl; beyond = λ j l. refl };
+    in-allotment = record { same-length = refl; refused = λ z. refl; beyond = λ j l. refl };
+    in-surplus = record { same-length = refl; refused = λ z. refl; beyond = λ j l. refl };
+    in-worth = record { same-length = refl; refused = λ z. refl; beyond = λ j l. refl };
   }
     where
       named : (n : ℕ) → (n ≡ 0 → ⊥) → optimum.Refused n ≡ found n (most-of s views)

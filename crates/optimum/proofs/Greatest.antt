@@ -1,19 +1,26 @@
 -- The check accepts exactly the allotments with figures that fit them, what it accepts is greatest, and it accepts what
--- the search leaves.
-use mathlib.Core.Path.{_≡_, refl, ap₂}
+-- the search leaves, whose takings are the search's answer.
+use mathlib.Core.Path.{_≡_, refl, ap, ap₂, sym, _∙_}
 use mathlib.Core.Bool.{Bool, true, false}
-use mathlib.Core.List.{List}
-use Prim.Native.Nat.{ℕ, zero, suc}
-use lib.ListN.{length}
-use Rattle.allotments.specs.Allotment.{at}
+use mathlib.Core.List.{List, [], _∷_}
+use Prim.Native.Nat.{ℕ, zero, suc, _≤_}
+use native.Mathlib.Omega.{arith}
+use lib.ListN.{length, take}
+use lib.Seq.{getD-take, length-take-le}
+use borrow.Author.Tests.{le-leb}
+use Rattle.finite.specs.Finite.{one-if}
+use Rattle.finite.proofs.Sums.{sum-eq}
+use Rattle.allotments.specs.Allotment.{at, brings, takings}
 use Rattle.allotments.proofs.Duality.{test-certified, certified-test, certified-greatest}
 use Rattle.allotments.proofs.Most.{certified-most}
 use Rattle.day.specs.declared.Day.{Day}
 use Rattle.questions.specs.Questions.{first-failed}
 use Rattle.optimum.specs.declared.Verdict.{Verdict}
 use Rattle.optimum.specs.declared.Verdict.the-variants as verdict
-use Rattle.optimum.specs.Optimum.{price-of, whole-of, questions, failed, Fits, fits, verdict-of}
-use Rattle.optimum.specs.Optimum.{Accepts-exactly, Accepted-is-best, Search-accepted}
+use Rattle.optimum.specs.Optimum.{price-of, whole-of, questions, failed, Fits, fits, most-of, takings-of}
+use Rattle.optimum.specs.Optimum.{number, values, found, takings-questions, takings-answer}
+use Rattle.optimum.specs.Optimum.{verdict-of, Accepts-exactly, Accepted-is-best, Search-accepted, Search-taken}
+use Rattle.optimum.specs.Optimum.{verdict-number, verdict-values, Tells}
 use Rattle.optimum.proofs.Asked.{Granted, granted, few-campaigns}
 
 -- an accepting answer: no question failed and the test passed
@@ -65,6 +72,60 @@ accepted-is-best s views allotment surplus worth e =
 
 pub search-accepted : Search-accepted
 unfolding failed
-search-accepted s views allotment allotment' surplus surplus' worth worth' r p q w found z =
+search-accepted s views allotment allotment' surplus surplus' worth worth' r found z =
     accepts (first-failed (questions s views (length allotment') (length surplus') (length worth')))
-    (fits s views allotment' surplus' worth') (rw (p, q, w) z) (found .fit z)
+    (fits s views allotment' surplus' worth')
+    (rw (found .in-allotment .same-length, found .in-surplus .same-length, found .in-worth .same-length) z)
+    (found .fit z)
+
+-- the takings of the entries for the views alone
+front-taken : (s : Day) (views allotment : List ℕ) → length views ≤ length allotment
+    → takings-of s (take (length views) allotment) (take (length views) allotment) ≡ takings-of s views allotment
+unfolding takings
+front-taken s views allotment l =
+    let m = length views in
+    ap (λ (n : ℕ). takings (s .count) (price-of s) n (at (take m allotment))) (length-take-le m allotment l)
+    ∙ sum-eq m (λ j. brings (s .count) (price-of s) (at (take m allotment) j))
+    (λ j. brings (s .count) (price-of s) (at allotment j))
+    (λ j k. ap (brings (s .count) (price-of s)) (getD-take m allotment j 0 k))
+
+pub search-taken : Search-taken
+unfolding takings-answer first-failed
+search-taken s views allotment allotment' surplus surplus' worth worth' r found' z =
+    let g = granted-of s views allotment surplus worth z in
+    let m = length views in
+    let room : m ≤ length allotment' = omega (arith, g .for-allotment, found' .in-allotment .same-length) in
+    let best = accepted-is-best s views allotment' surplus' worth'
+    (search-accepted s views allotment allotment' surplus surplus' worth worth' r found' z) in
+    let none : first-failed (takings-questions s (take m allotment')) ≡ 0 = rw (
+      g .is-sound,
+      length-take-le m allotment' room,
+      le-leb m 256 (g .few),
+    ) in
+    ap₂ found none (front-taken s views allotment' room ∙ best .takes-most)
+    ∙ sym (found' .answer ∙ ap (λ (q : ℕ). found q (most-of s views)) z)
+
+-- the numbers and the values of the answers
+number-found : (q t : ℕ) → number (found q t) ≡ q
+number-found zero t = refl
+number-found (suc q) t = refl
+
+number-told : (q : ℕ) (b : Bool) → verdict-number (verdict-of q b) ≡ q
+number-told zero true = refl
+number-told zero false = refl
+number-told (suc q) b = refl
+
+values-told : (b : Bool) → verdict-values (verdict-of 0 b) ≡ one-if b ∷ []
+values-told true = refl
+values-told false = refl
+
+pub tells : (s : Day) (views allotment surplus worth : List ℕ) → Tells s views allotment surplus worth
+tells s views allotment surplus worth =
+    let q = failed s views allotment surplus worth in
+    let b = fits s views allotment surplus worth in
+    record {
+      search-number = number-found q (most-of s views);
+      search-values = λ z. ap (λ (k : ℕ). values (found k (most-of s views))) z;
+      check-number = number-told q b;
+      check-values = λ z. ap (λ (k : ℕ). verdict-values (verdict-of k b)) z ∙ values-told b;
+    }

@@ -6,8 +6,8 @@ use mathlib.Core.List.{List, [], _∷_}
 use mathlib.Core.Logic.{_↔_}
 use Prim.Native.Nat.{ℕ, zero, suc, _≤_}
 use lib.Dec.{leb}
-use lib.ListN.{length}
-use Rattle.finite.specs.Finite.{every}
+use lib.ListN.{length, take}
+use Rattle.finite.specs.Finite.{one-if, every}
 use Rattle.sets.specs.Set.{within}
 use Rattle.campaigns.specs.Campaign.{whole}
 use Rattle.day.specs.declared.Day.{Day}
@@ -59,13 +59,27 @@ most-of s views = most (s .count) (price-of s) (whole-of s) (length views) (at v
 abbrev pub takings-of : Day → (views allotment : List ℕ) → ℕ
 takings-of s views allotment = takings (s .count) (price-of s) (length views) (at allotment)
 
--- the search's answer, from the number of the question that failed
-abbrev pub found : (question most : ℕ) → Optimum
+-- an answer with takings: its number, that of the question that failed or 0, and its values
+abbrev pub number : Optimum → ℕ
+number (optimum.Refused q) = q
+number (optimum.Takings t) = 0
+
+abbrev pub values : Optimum → List ℕ
+values (optimum.Refused q) = q ∷ []
+values (optimum.Takings t) = t ∷ []
+
+-- the answer, from the number of the question that failed
+abbrev pub found : (question takings : ℕ) → Optimum
 found zero t = optimum.Takings t
 found (suc q) t = optimum.Refused (suc q)
 
--- what the search leaves in a lent list: as it was where a question failed, else as it was from n on
+-- that of the search
+abbrev pub search-answer : Day → (views allotment surplus worth : List ℕ) → Optimum
+search-answer s views allotment surplus worth = found (failed s views allotment surplus worth) (most-of s views)
+
+-- what the search leaves in a lent list: as many entries, as they were where a question failed, else from n on
 pub record Left-as-it-was (question n : ℕ) (before after : List ℕ) : Type 0 where
+  pub same-length : length after ≡ length before
   pub refused : (question ≡ 0 → ⊥) → after ≡ before
   pub beyond : (j : ℕ) → n ≤ j → at after j ≡ at before j
 
@@ -73,13 +87,30 @@ pub record Left-as-it-was (question n : ℕ) (before after : List ℕ) : Type 0 
 -- that fit it: they fit, whatever comes out.
 pub record Searched (s : Day) (views allotment allotment' surplus surplus' worth worth' : List ℕ) (r : Optimum)
     : Type 0 where
-  pub answer : r ≡ found (failed s views allotment surplus worth) (most-of s views)
+  pub answer : r ≡ search-answer s views allotment surplus worth
   pub fit : failed s views allotment surplus worth ≡ 0 → fits s views allotment' surplus' worth' ≡ true
   pub in-allotment : Left-as-it-was (failed s views allotment surplus worth) (length views) allotment allotment'
   pub in-surplus : Left-as-it-was (failed s views allotment surplus worth) (s .count) surplus surplus'
   pub in-worth : Left-as-it-was (failed s views allotment surplus worth) (length views) worth worth'
 
--- the check's answer
+-- the takings of an allotment, one entry for each view, whichever they are: questions 1 and 19 alone are asked
+abbrev pub takings-questions : Day → (allotment : List ℕ) → List Question
+takings-questions s allotment = question 1 (sound s) ∷ question 19 (leb (length allotment) max-handed-in) ∷ []
+
+unfoldable pub takings-answer : Day → (allotment : List ℕ) → Optimum
+takings-answer s allotment = found (first-failed (takings-questions s allotment)) (takings-of s allotment allotment)
+
+-- the check's answer: its number, as above, and its values, 1 where it accepts
+abbrev pub verdict-number : Verdict → ℕ
+verdict-number (verdict.Refused q) = q
+verdict-number verdict.Accepted = 0
+verdict-number verdict.Rejected = 0
+
+abbrev pub verdict-values : Verdict → List ℕ
+verdict-values (verdict.Refused q) = q ∷ []
+verdict-values verdict.Accepted = 1 ∷ []
+verdict-values verdict.Rejected = 0 ∷ []
+
 abbrev pub verdict-of : (question : ℕ) → Bool → Verdict
 verdict-of zero true = verdict.Accepted
 verdict-of zero false = verdict.Rejected
@@ -108,6 +139,21 @@ Accepted-is-best = (s : Day) (views allotment surplus worth : List ℕ)
 -- and it accepts what the search leaves
 abbrev pub Search-accepted : Type 0
 Search-accepted = (s : Day) (views allotment allotment' surplus surplus' worth worth' : List ℕ) (r : Optimum)
-    → length allotment' ≡ length allotment → length surplus' ≡ length surplus → length worth' ≡ length worth
     → Searched s views allotment allotment' surplus surplus' worth worth' r
     → failed s views allotment surplus worth ≡ 0 → checked s views allotment' surplus' worth' ≡ verdict.Accepted
+
+-- whose takings are its answer
+abbrev pub Search-taken : Type 0
+Search-taken = (s : Day) (views allotment allotment' surplus surplus' worth worth' : List ℕ) (r : Optimum)
+    → Searched s views allotment allotment' surplus surplus' worth worth' r
+    → failed s views allotment surplus worth ≡ 0 → takings-answer s (take (length views) allotment') ≡ r
+
+-- the number and the values of the two answers
+pub record Tells (s : Day) (views allotment surplus worth : List ℕ) : Type 0 where
+  pub search-number : number (search-answer s views allotment surplus worth) ≡ failed s views allotment surplus worth
+  pub search-values : failed s views allotment surplus worth ≡ 0
+      → values (search-answer s views allotment surplus worth) ≡ most-of s views ∷ []
+  pub check-number : verdict-number (checked s views allotment surplus worth) ≡ failed s views allotment surplus worth
+  pub check-values : failed s views allotment surplus worth ≡ 0
+      → verdict-values (checked s views allotment surplus worth)
+      ≡ one-if (fits s views allotment surplus worth) ∷ []

@@ -10,10 +10,10 @@ ghost use Rattle.sets.specs.Set.{within};
 ghost use Rattle.day.specs.Day.{state-of};
 ghost use Rattle.questions.specs.Questions.{first-failed};
 ghost use Rattle.allotments.specs.Allotment.{at};
-ghost use Rattle.optimum.specs.Optimum.{questions, Searched, checked};
+ghost use Rattle.optimum.specs.Optimum.{questions, Searched, takings-answer, checked};
 ghost use Rattle.optimum.specs.Contracts.{Divided};
 
-// The number of the question that failed, or the greatest takings.
+// The number of the question that failed, or takings: of the search, the greatest.
 pub enum Optimum {
     Refused(u64),
     Takings(u64),
@@ -107,6 +107,27 @@ pub fn search<'a>(
     let wholes = whole_plays(head.count, terms);
     matching::allot(head.count, terms, &wholes, views, allotment, surplus, worth);
     Optimum::Takings(certificate::takings(head.count, terms, views.len(), allotment))
+}
+
+// The takings of an allotment: its prices, summed.
+pub fn takings<'a>(
+    head: Head,
+    terms: &'a [u32; 128],
+    counts: &'a [u16; 256],
+    allotment: &'a [u64],
+) -> Optimum
+    ensures { λ r. ⌜ r ≡ takings-answer (state-of head (now (terms .entry)) (now (counts .entry)))
+        (now (allotment .entry)) ⌝ }
+{
+    let audit = audited(head, terms, counts);
+    if !audit.sound {
+        return Optimum::Refused(1);
+    }
+    let entries = allotment.len();
+    if 256 < entries {
+        return Optimum::Refused(19);
+    }
+    Optimum::Takings(certificate::takings(head.count, terms, entries, allotment))
 }
 
 // Is this an allotment with figures that fit it?

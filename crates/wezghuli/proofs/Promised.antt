@@ -2,7 +2,7 @@
 -- of an answer, and the numbers of all questions are below 100.
 use mathlib.Core.Path.{_≡_, refl, ap, sym, _∙_, subst}
 use mathlib.Core.Bool.{Bool, true, false, cond}
-use mathlib.Core.List.{List, [], _∷_}
+use mathlib.Core.List.{List}
 use Prim.Native.Nat.{ℕ, zero, suc, _<_}
 use native.Mathlib.Omega.{arith}
 use lib.Dec.{leb, eqb}
@@ -14,7 +14,6 @@ use Rattle.campaigns.specs.Choice.Choice.{nobody, plays}
 use Rattle.day.specs.declared.Day.{Day}
 use Rattle.day.specs.declared.Outcome.{Outcome}
 use Rattle.day.specs.Day.{state-of, sound}
-use Rattle.questions.specs.Questions.{Question, question}
 use Rattle.day.specs.Calls.{Call, call, number, answered, result, view-answer, offers, player, questions}
 use Rattle.questions.specs.Questions.{first-failed}
 use Rattle.day.specs.Calls.Call.{open-plan, add-campaign, start-day, show-view, ask-tally, close-day, mark-campaign}
@@ -42,6 +41,10 @@ use Rattle.wezghuli.specs.Library.{Page-lent, day-in, page-status}
 use Rattle.wezghuli.specs.Promises.{Promises, handed-in}
 use Rattle.wezghuli.proofs.Stored.{pick-first}
 use Rattle.wezghuli.proofs.Streamed.{has-room}
+use Rattle.wezghuli.proofs.Low.{small, Low, low-small}
+use Rattle.wezghuli.proofs.Low.Low.{none, then}
+use Rattle.wezghuli.proofs.Asked.{search-refusal, check-refusal, takings-refusal, search-checked}
+use Rattle.wezghuli.proofs.Asked.{search-takings, check-best}
 
 -- operations in turn
 after-is : (k : Call) (m : Memory) → is-head (m .head) ≡ true → after k m ≡ stored (outcome k m) (m .answer)
@@ -100,10 +103,6 @@ finishes m e =
     (sym (pick-first (eqb (status-in m) 0) c m c (eq-eqb (status-in m) 0 e) refl)))
 
 -- the numbers of questions
-small : (b : Bool) (x y : ℕ) → x < 100 → y < 100 → cond b x y < 100
-small true x y p q = p
-small false x y p q = q
-
 told-number : (x : ℕ → ℕ) (c : Choice) → number (view-answer x c) ≡ 0
 told-number x nobody = refl
 told-number x (plays m) = refl
@@ -116,16 +115,6 @@ accepted-number s (show-view w) = told-number (offers s w) (player s w)
 accepted-number s (ask-tally i) = refl
 accepted-number s close-day = refl
 accepted-number s (mark-campaign b i) = refl
-
--- questions with numbers below 100, and the first of them that fails
-data Low : List Question → Type 0 where
-  none : Low []
-  then : (q : ℕ) {b : Bool} {qs : List Question} → q < 100 → Low qs → Low (question q b ∷ qs)
-
-low-small : {qs : List Question} → Low qs → first-failed qs < 100
-unfolding first-failed
-low-small none = omega arith
-low-small (then q {b} {qs} p r) = small b (first-failed qs) q (low-small r) p
 
 low : (s : Day) (k : Call) → Low (questions s k)
 low s (open-plan pl) =
@@ -206,4 +195,10 @@ promises = record {
   read-refusal = λ l. says-small (one-text .says l);
   write-refusal = write-refusal;
   page-refusal = page-refusal;
+  search-checked = search-checked;
+  search-takings = search-takings;
+  check-best = check-best;
+  search-refusal = search-refusal;
+  check-refusal = check-refusal;
+  takings-refusal = takings-refusal;
 }

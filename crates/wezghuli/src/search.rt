@@ -1,4 +1,5 @@
-// What the day could have earned, and the check of it, for a state in lent memory, of which only the plan counts.
+// What the day could have earned, its check, and the takings of an allotment, for a state in lent memory, of which only
+// the plan counts.
 use encoding::STATUS_ACCEPTED;
 use encoding::STATUS_NO_FIT;
 use encoding::STATUS_NO_HEAD;
@@ -8,8 +9,10 @@ use optimum::Optimum;
 use optimum::Verdict;
 ghost use mathlib.Core.Path.{_≡_};
 ghost use Rattle.wezghuli.specs.Search.{search-status, Search-leaves, check-status};
+ghost use Rattle.wezghuli.specs.Search.{takings-status, takings-after};
 
 // An allotment of the views with the greatest takings, with a figure for each campaign and for each view.
+// `wezghuli_takings` gives these takings: an eighth parameter here would be one too many.
 #[no_mangle]
 pub extern "C" fn wezghuli_search<'a>(
     head: &'a [u64; 7],
@@ -72,5 +75,32 @@ pub extern "C" fn wezghuli_check<'a>(
         Verdict::Accepted => STATUS_ACCEPTED,
         Verdict::Rejected => STATUS_NO_FIT,
         Verdict::Refused(question) => question,
+    }
+}
+
+// The takings of an allotment: of what the search left, the greatest. The state stays, and a refusal leaves the takings
+// as they were.
+#[no_mangle]
+pub extern "C" fn wezghuli_takings<'a>(
+    head: &'a [u64; 7],
+    terms: &'a [u32; 128],
+    counts: &'a [u16; 256],
+    allotment: &'a [u64],
+    takings: &'a mut [u64; 1],
+) -> u64
+    ensures { λ r. ⌜ (r ≡ takings-status (now (head .entry)) (now (terms .entry)) (now (counts .entry))
+        (now (allotment .entry)))
+        × (now (takings .exit) ≡ takings-after (now (head .entry)) (now (terms .entry)) (now (counts .entry))
+        (now (allotment .entry)) (now (takings .entry))) ⌝ }
+{
+    if !is_head(head) {
+        return STATUS_NO_HEAD;
+    }
+    match optimum::takings(head_of(head), terms, counts, allotment) {
+        Optimum::Refused(question) => question,
+        Optimum::Takings(sum) => {
+            *takings = [sum];
+            STATUS_ACCEPTED
+        }
     }
 }

@@ -85,6 +85,23 @@ pub fn entry(price: u64, budget: u64, counts: [u64; 4]) -> Campaign {
     }
 }
 
+/// The most that an allotment of these views takes, by trying each; a campaign
+/// that is struck out has no plays left.
+pub fn best_allotment(views: &[u64], prices: &[u64], plays_left: &mut [u64]) -> u64 {
+    let Some((&view, rest)) = views.split_first() else {
+        return 0;
+    };
+    let mut best = best_allotment(rest, prices, plays_left);
+    for i in 0..prices.len() {
+        if view >> i & 1 == 1 && plays_left[i] > 0 {
+            plays_left[i] -= 1;
+            best = best.max(prices[i] + best_allotment(rest, prices, plays_left));
+            plays_left[i] += 1;
+        }
+    }
+    best
+}
+
 /// All answers to an input given at once.
 pub fn answers(input: &[u8]) -> Vec<u8> {
     answers_in_pieces(input, input.len().max(1))

@@ -1,7 +1,7 @@
 //! Whole days: against the paper's own variables, against every allotment, and
 //! the lines against the operations.
 
-use crate::common::{max_depth, ok, play, running, Random};
+use crate::common::{best_allotment, max_depth, ok, play, running, Random};
 use second::{lines, Answer, Day, Phase, Record, Session};
 
 /// Algorithm 4 with its dual variables, scaled to whole numbers: `current[i]` is
@@ -132,22 +132,6 @@ fn answers_follow_the_paper() {
         assert_eq!(turns[..campaigns.len()], paper.copies);
         assert_eq!(u128::from(day.ledger().unwrap().claim), paper.claim());
     }
-}
-
-/// The most that an allotment of these views takes from unstruck campaigns.
-fn best_allotment(views: &[u64], prices: &[u64], plays_left: &mut [u64]) -> u64 {
-    let Some((&view, rest)) = views.split_first() else {
-        return 0;
-    };
-    let mut best = best_allotment(rest, prices, plays_left);
-    for i in 0..prices.len() {
-        if view >> i & 1 == 1 && plays_left[i] > 0 {
-            plays_left[i] -= 1;
-            best = best.max(prices[i] + best_allotment(rest, prices, plays_left));
-            plays_left[i] += 1;
-        }
-    }
-    best
 }
 
 /// A plan of one to three campaigns that buy one or two plays each.

@@ -2,9 +2,11 @@
 
 mod common;
 mod days;
+mod greatest;
 mod limits;
 mod lines;
 mod page;
 mod program;
+mod recorded;
 mod refusals;
 mod soundness;

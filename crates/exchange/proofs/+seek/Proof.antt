@@ -1,5 +1,5 @@
--- The search, by the number of campaigns not visited: its loop keeps `Seeking`, and each way out of a turn has its law in
--- `Seeking`; a chain that fails adds what it visited.
+-- The search, by the number of campaigns not visited: its loop keeps `Seeking`, and each way out of a turn has its law
+-- there; a chain that fails adds what it visited.
 use mathlib.Core.Path.{_≡_, ap, sym, subst, subst⁻¹, _∙_}
 use mathlib.Core.Logic.{⊎-elim}
 use mathlib.Core.Bool.{Bool, true, false}
@@ -47,11 +47,11 @@ calls t = (
 )
 
 abbrev seek-Inv-loop : seek-lts.InvT-loop
-seek-Inv-loop views to₀ campaign visited first free seen₀ j₀ to seen j = (j ≤ length views) × Seeking views to₀
-    campaign visited first to seen j
+seek-Inv-loop views to₀ campaign visited first bare free seen₀ known₀ j₀ to seen known j = (j ≤ length views)
+    × Seeking views to₀ campaign visited first bare to seen known j
 
 abbrev seek-μ-loop : seek-lts.MeasureT-loop
-seek-μ-loop views to₀ campaign visited first free seen₀ j₀ to seen j = length views - j
+seek-μ-loop views to₀ campaign visited first bare free seen₀ known₀ j₀ to seen known j = length views - j
 
 seek-free-view-requires : (t : ℕ) → seek-lts.Need-free-view-requires (calls t) (seek-at t) seek.Post seek-Inv-loop
     seek-μ-loop
@@ -61,7 +61,7 @@ seek-free-view-requires t c κs = (
     c .before .before .before .pre .1 .campaign,
     c .before .before .before .pre .1 .inside,
   ),
-  c .before .before .before .pre .1 .taken,
+  (c .before .before .before .pre .1 .taken, c .before .before .before .pre .1 .none-free),
 )
 
 seek-mul-allotment : (t : ℕ) → seek-lts.Need-mul-allotment (calls t) (seek-at t) seek.Post seek-Inv-loop seek-μ-loop
@@ -78,21 +78,27 @@ seek-returns : (t : ℕ) → seek-lts.Need-returns (calls t) (seek-at t) seek.Po
 seek-returns t c =
     let s = c .before .before .before .before .before in
     let a = s .args in
-    sought-free (a .views .now) (a .allotment .now) (a .campaign) (a .visited) (a .first)
+    sought-free (a .views .now) (a .allotment .now) (a .campaign) (a .visited) (a .first) (a .bare)
     (c .before .free-view .result) (s .pre .1) (c .before .free-view .ensures) (c .if1 .taken)
 
 seek-including-requires : (t : ℕ) → seek-lts.Need-including-requires (calls t) (seek-at t) seek.Post seek-Inv-loop
     seek-μ-loop
 seek-including-requires t c κs = c .before .before .before .before .before .pre .1 .campaign
 
+seek-including-requires-2 : (t : ℕ) → seek-lts.Need-including-requires-2 (calls t) (seek-at t) seek.Post seek-Inv-loop
+    seek-μ-loop
+seek-including-requires-2 t c κs = c .before .before .before .before .before .before .pre .1 .campaign
+
 seek-loop-holds : (t : ℕ) → seek-lts.Need-loop-holds (calls t) (seek-at t) seek.Post seek-Inv-loop seek-μ-loop
 seek-loop-holds t c =
-    let s = c .before .before .before .before .before .before in
+    let f = c .before .before .before in
+    let s = f .before .before .before .before in
     let a = s .args in (
       omega arith,
-      seeking-start (a .views .now) (a .allotment .now) (a .campaign) (a .visited) (a .first)
-          (c .before .before .free-view .result) (c .including .result) (s .pre .1)
-          (c .before .before .free-view .ensures) (c .before .if1 .left) (c .including .ensures),
+      seeking-start (a .views .now) (a .allotment .now) (a .campaign) (a .visited) (a .first) (a .bare)
+          (f .free-view .result) (c .before .including .result) (c .including2 .result) (s .pre .1)
+          (f .free-view .ensures) (c .before .before .if1 .left) (c .before .including .ensures)
+          (c .including2 .ensures),
     )
 
 seek-mul-v : (t : ℕ) → seek-lts.Need-mul-v (calls t) (seek-at t) seek.Post seek-Inv-loop seek-μ-loop
@@ -112,34 +118,35 @@ seek-slice-read-holder : (t : ℕ) → seek-lts.Need-slice-read-holder (calls t)
     seek-μ-loop
 seek-slice-read-holder t c =
     let mid = c .before .before .before .before .before .before .before .before in
-    let a = mid .before .before .before .before .args in
+    let a = mid .before .before .before .before .before .args in
     let l = c .before .before .before .before .before .loop in
     omega (
       arith,
       c .before .before .before .before .loop-test .taken,
       room-now (a .views .now) (a .allotment .now)
-          (a .campaign) (a .visited) (a .first) (l .allotment) (l .seen) (l .j) (l .inv .1),
+          (a .campaign) (a .visited) (a .first) (a .bare) (l .allotment) (l .seen) (l .known) (l .j) (l .inv .1),
     )
 
 seek-has-requires-2 : (t : ℕ) → seek-lts.Need-has-requires-2 (calls t) (seek-at t) seek.Post seek-Inv-loop seek-μ-loop
 seek-has-requires-2 t c κs =
     let mid = c .before .before .before .before .before .before .before .before in
-    let a = mid .before .before .before .before .args in
+    let a = mid .before .before .before .before .before .args in
     let l = c .before .before .before .before .before .loop in
-    holder-small (a .views .now) (a .allotment .now) (a .campaign) (a .visited) (a .first) (l .allotment) (l .seen)
-    (l .j) (l .inv .1) (c .before .before .before .before .loop-test .taken)
+    holder-small (a .views .now) (a .allotment .now) (a .campaign) (a .visited) (a .first) (a .bare) (l .allotment)
+    (l .seen) (l .known) (l .j) (l .inv .1) (c .before .before .before .before .loop-test .taken)
     (sym (c .before .before .has .ensures) ∙ c .before .if2 .taken)
 
 seek-seek-requires : (t : ℕ) → seek-lts.Need-seek-requires (calls t) (seek-at t) seek.Post seek-Inv-loop seek-μ-loop
 seek-seek-requires t c κs =
     let mid = c .before .before .before .before .before .before .before .before in
-    let s = mid .before .before .before .before .before .before .before in
+    let s = mid .before .before .before .before .before .before .before .before in
     let a = s .args in
     let l = mid .loop in (
       subst (λ (n : ℕ). left-out (l .seen) < n) (s .pre .0) (falls-here (a .views .now) (a .allotment .now)
-          (a .campaign) (a .visited) (a .first) (l .allotment) (l .seen) (l .j) (l .inv .1)),
-      ready-holder (a .views .now) (a .allotment .now) (a .campaign) (a .visited) (a .first) (l .allotment) (l .seen)
-          (l .j) (l .inv .1) (c .before .before .before .before .before .before .before .loop-test .taken)
+          (a .campaign) (a .visited) (a .first) (a .bare) (l .allotment) (l .seen) (l .known) (l .j) (l .inv .1)),
+      ready-holder (a .views .now) (a .allotment .now) (a .campaign) (a .visited) (a .first) (a .bare) (l .allotment)
+          (l .seen) (l .known) (l .j) (l .inv .1)
+          (c .before .before .before .before .before .before .before .loop-test .taken)
           (sym (c .before .before .before .before .before .has .ensures) ∙
           c .before .before .before .before .if2 .taken) (sym (c .before .before .has2 .ensures) ∙ not-true
           (c .before .before .has2 .result) (c .before .if3 .taken)),
@@ -153,14 +160,14 @@ seek-slice-write-allotment-2 : (t : ℕ) → seek-lts.Need-slice-write-allotment
 seek-slice-write-allotment-2 t c =
     let mid = c .before .before .before .before .before .before .before .before in
     let far = mid .before .before .before .before .before .before .before .before in
-    let a = far .before .before .before .args in
+    let a = far .before .before .before .before .args in
     let l = mid .before .before .before .before .loop in
     omega (
       arith,
       mid .before .before .before .loop-test .taken,
       c .before .before .before .seek .kept .1 .0,
       room-now (a .views .now) (a .allotment .now) (a .campaign)
-          (a .visited) (a .first) (l .allotment) (l .seen) (l .j) (l .inv .1),
+          (a .visited) (a .first) (a .bare) (l .allotment) (l .seen) (l .known) (l .j) (l .inv .1),
     )
 
 seek-same-length-2 : (t : ℕ) → seek-lts.Need-same-length-2 (calls t) (seek-at t) seek.Post seek-Inv-loop seek-μ-loop
@@ -173,17 +180,18 @@ seek-returns-2 : (t : ℕ) → seek-lts.Need-returns-2 (calls t) (seek-at t) see
 seek-returns-2 t c =
     let mid = c .before .before .before .before .before .before .before .before in
     let far = mid .before .before .before .before .before .before .before .before in
-    let a = far .before .before .before .args in
+    let a = far .before .before .before .before .args in
     let l = mid .before .before .before .before .loop in
     let r = c .before .before .before .seek in
-    sought-chain (a .views .now) (a .allotment .now) (a .campaign) (a .visited) (a .first) (l .allotment) (l .seen)
-    (l .j) (l .inv .1) (r .last .1 .0) (r .result .visited)
+    sought-chain (a .views .now) (a .allotment .now) (a .campaign) (a .visited) (a .first) (a .bare) (l .allotment)
+    (l .seen) (l .known) (l .j) (l .inv .1) (r .last .1 .0) (r .result .visited) (r .result .bare)
     (mid .before .before .before .loop-test .taken)
     (sym (mid .before .has .ensures) ∙
     mid .if2 .taken)
     (sym (c .before .before .before .before .before .before .has2 .ensures) ∙ not-true
     (c .before .before .before .before .before .before .has2 .result)
     (c .before .before .before .before .before .if3 .taken)) (r .kept .1 .0) (r .ensures .gained (c .if4 .taken))
+    (r .ensures .none-free)
 
 seek-add-j : (t : ℕ) → seek-lts.Need-add-j (calls t) (seek-at t) seek.Post seek-Inv-loop seek-μ-loop
 seek-add-j t c = omega arith
@@ -194,32 +202,31 @@ seek-loop-less t c = omega arith
 seek-loop-again : (t : ℕ) → seek-lts.Need-loop-again (calls t) (seek-at t) seek.Post seek-Inv-loop seek-μ-loop
 seek-loop-again t c =
     let mid = c .before .before .before .before .before .before .before .before in
-    let a = mid .before .before .before .args in
+    let a = mid .before .before .before .before .args in
     let l = c .before .before .before .before .loop in
     let k = c .before .before .before .loop-test .taken in
     let named : (b : Bool) → c .before .has .result ≡ b → member (at (a .views .now) (l .j)) (a .campaign) ≡ b =
     λ b e. sym (c .before .has .ensures) ∙ e in
-    let moved : (to : List ℕ) (seen : ℕ) → c .if2 .allotment ≡ to → c .if2 .seen ≡ seen → Seeking (a .views .now)
-    (a .allotment .now) (a .campaign) (a .visited) (a .first) to seen (l .j + 1)
-    → Seeking (a .views .now) (a .allotment .now) (a .campaign) (a .visited) (a .first) (c .if2 .allotment)
-    (c .if2 .seen) (l .j + 1)
-    = λ to seen p q s. subst⁻¹ (λ (x : List ℕ). Seeking (a .views .now) (a .allotment .now) (a .campaign) (a .visited)
-    (a .first) x (c .if2 .seen) (l .j + 1)) p
-    (subst⁻¹ (λ (x : ℕ). Seeking (a .views .now) (a .allotment .now) (a .campaign) (a .visited) (a .first) to x
-    (l .j + 1)) q s) in (
+    let Kept : List ℕ → ℕ → ℕ → Type 0 = λ to seen known. Seeking (a .views .now) (a .allotment .now) (a .campaign)
+    (a .visited) (a .first) (a .bare) to seen known (l .j + 1) in
+    let moved : (to : List ℕ) (seen known : ℕ) → c .if2 .allotment ≡ to → c .if2 .seen ≡ seen → c .if2 .known ≡ known
+    → Kept to seen known → Kept (c .if2 .allotment) (c .if2 .seen) (c .if2 .known)
+    = λ to seen known p q u s. subst⁻¹ (λ (x : List ℕ). Kept x (c .if2 .seen) (c .if2 .known)) p
+    (subst⁻¹ (λ (x : ℕ). Kept to x (c .if2 .known)) q (subst⁻¹ (λ (x : ℕ). Kept to seen x) u s)) in (
       omega arith,
       ⊎-elim
-          (λ w. moved (w .5 .last .1 .0) (w .5 .result .visited) (w .9) (w .10)
-          (seeking-failed (a .views .now) (a .allotment .now) (a .campaign) (a .visited) (a .first) (l .allotment)
-          (l .seen) (l .j) (l .inv .1) (w .5 .last .1 .0) (w .5 .result .visited) k (named true (w .0 .taken))
-          (w .5 .ensures .failed (w .8 .left))))
+          (λ w. moved (w .5 .last .1 .0) (w .5 .result .visited) (w .5 .result .bare) (w .9) (w .10) (w .11)
+          (seeking-failed (a .views .now) (a .allotment .now) (a .campaign) (a .visited) (a .first) (a .bare)
+          (l .allotment) (l .seen) (l .known) (l .j) (l .inv .1) (w .5 .last .1 .0) (w .5 .result .visited)
+          (w .5 .result .bare) k (named true (w .0 .taken)) (w .5 .ensures .failed (w .8 .left))
+          (w .5 .ensures .none-free)))
           (⊎-elim
-          (λ w. moved (l .allotment) (l .seen) (w .4) (w .5) (seeking-visited (a .views .now) (a .allotment .now)
-          (a .campaign) (a .visited) (a .first) (l .allotment) (l .seen) (l .j) (l .inv .1) k
-          (sym (w .2 .ensures) ∙ not-false (w .2 .result) (w .3 .left))))
-          (λ w. moved (l .allotment) (l .seen) (w .1) (w .2) (seeking-unnamed (a .views .now) (a .allotment .now)
-          (a .campaign) (a .visited) (a .first) (l .allotment) (l .seen) (l .j) (l .inv .1)
-          (named false (w .0 .left)))))
+          (λ w. moved (l .allotment) (l .seen) (l .known) (w .4) (w .5) (w .6) (seeking-visited (a .views .now)
+          (a .allotment .now) (a .campaign) (a .visited) (a .first) (a .bare) (l .allotment) (l .seen) (l .known)
+          (l .j) (l .inv .1) k (sym (w .2 .ensures) ∙ not-false (w .2 .result) (w .3 .left))))
+          (λ w. moved (l .allotment) (l .seen) (l .known) (w .1) (w .2) (w .3) (seeking-unnamed (a .views .now)
+          (a .allotment .now) (a .campaign) (a .visited) (a .first) (a .bare) (l .allotment) (l .seen) (l .known)
+          (l .j) (l .inv .1) (named false (w .0 .left)))))
           (c .if2 .came),
     )
 
@@ -228,10 +235,10 @@ seek-same-length-3 t c = ap length (c .before .loop .inv .1 .still)
 
 seek-returns-3 : (t : ℕ) → seek-lts.Need-returns-3 (calls t) (seek-at t) seek.Post seek-Inv-loop seek-μ-loop
 seek-returns-3 t c =
-    let a = c .before .before .before .before .before .before .before .before .args in
+    let a = c .before .before .before .before .before .before .before .before .before .args in
     let l = c .before .loop in
-    sought-none (a .views .now) (a .allotment .now) (a .campaign) (a .visited) (a .first) (l .allotment) (l .seen)
-    (l .j) (l .inv .1) (c .loop-test .left)
+    sought-none (a .views .now) (a .allotment .now) (a .campaign) (a .visited) (a .first) (a .bare) (l .allotment)
+    (l .seen) (l .known) (l .j) (l .inv .1) (c .loop-test .left)
 
 pub +seek-spec : {M : Type 1} → statement M
 +seek-spec = close μ-seek λ t. seek-lts.spec (calls t)
@@ -245,6 +252,7 @@ pub +seek-spec : {M : Type 1} → statement M
     (seek-same-length t)
     (seek-returns t)
     (seek-including-requires t)
+    (seek-including-requires-2 t)
     (seek-loop-holds t)
     (seek-mul-v t)
     (seek-shared-slice-read-v t)

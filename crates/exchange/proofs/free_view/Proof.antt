@@ -12,17 +12,27 @@ use Rattle.exchange.proofs.free_view.Statement.{statement}
 use Rattle.exchange.proofs.free_view.Tie as tie
 
 abbrev Inv-loop : tie.InvT-loop
-Inv-loop views to campaign first j₀ j = (j ≤ length views) × ((i : ℕ) → i < j → free views to campaign i ≡ false)
+Inv-loop views to campaign first bare j₀ j = (j ≤ length views) × ((i : ℕ) → i < j → free views to campaign i ≡ false)
 
 abbrev μ-loop : tie.MeasureT-loop
-μ-loop views to campaign first j₀ j = length views - j
+μ-loop views to campaign first bare j₀ j = length views - j
+
+has-requires : tie.Need-has-requires Inv-loop μ-loop
+has-requires c κs = c .before .before .pre .0 .1
+
+returns : tie.Need-returns Inv-loop μ-loop
+returns c =
+    let s = c .before .before .before .before in
+    let a = s .args in
+    free-nowhere (a .views .now) (a .allotment .now) (a .campaign)
+    (s .pre .1 .1 (a .campaign) (s .pre .0 .1) (sym (c .before .has .ensures) ∙ c .if1 .taken))
 
 loop-holds : tie.Need-loop-holds Inv-loop μ-loop
 loop-holds c =
-    let a = c .before .before .args in (
-      c .before .before .pre .0 .2,
-      passed-taken (a .views .now) (a .allotment .now) (a .campaign) (a .first)
-          (c .before .before .pre .1),
+    let s = c .before .before .before .before in
+    let a = s .args in (
+      s .pre .0 .2,
+      passed-taken (a .views .now) (a .allotment .now) (a .campaign) (a .first) (s .pre .1 .0),
     )
 
 mul-holder : tie.Need-mul-holder Inv-loop μ-loop
@@ -37,16 +47,16 @@ mul-v c = omega arith
 shared-slice-read-v : tie.Need-shared-slice-read-v Inv-loop μ-loop
 shared-slice-read-v c = omega arith
 
-has-requires : tie.Need-has-requires Inv-loop μ-loop
-has-requires c κs = omega arith
+has-requires-2 : tie.Need-has-requires-2 Inv-loop μ-loop
+has-requires-2 c κs = omega arith
 
-returns : tie.Need-returns Inv-loop μ-loop
-returns c =
-    let a = c .before .before .before .before .before .before .before .before .args in
+returns-2 : tie.Need-returns-2 Inv-loop μ-loop
+returns-2 c =
+    let a = c .before .before .before .before .before .before .before .before .before .before .args in
     let l = c .before .before .before .before .before .loop in
     free-here (a .views .now) (a .allotment .now) (a .campaign) (l .j)
     (c .before .before .before .before .loop-test .taken) (l .inv .1)
-    (ap (λ (b : Bool). eqb (at (a .allotment .now) (l .j)) 64 && b) (sym (c .before .has .ensures)) ∙ c .if1 .taken)
+    (ap (λ (b : Bool). eqb (at (a .allotment .now) (l .j)) 64 && b) (sym (c .before .has2 .ensures)) ∙ c .if2 .taken)
 
 add-j : tie.Need-add-j Inv-loop μ-loop
 add-j c = omega arith
@@ -56,17 +66,17 @@ loop-less c = omega arith
 
 loop-again : tie.Need-loop-again Inv-loop μ-loop
 loop-again c =
-    let a = c .before .before .before .before .before .before .before .before .args in
+    let a = c .before .before .before .before .before .before .before .before .before .before .args in
     let l = c .before .before .before .before .before .loop in (
       omega arith,
       passed-one (a .views .now) (a .allotment .now) (a .campaign) (l .j) (l .inv .1)
-          (ap (λ (b : Bool). eqb (at (a .allotment .now) (l .j)) 64 && b) (sym (c .before .has .ensures)) ∙
-          c .if1 .left),
+          (ap (λ (b : Bool). eqb (at (a .allotment .now) (l .j)) 64 && b) (sym (c .before .has2 .ensures)) ∙
+          c .if2 .left),
     )
 
-returns-2 : tie.Need-returns-2 Inv-loop μ-loop
-returns-2 c =
-    let a = c .before .before .before .before .args in
+returns-3 : tie.Need-returns-3 Inv-loop μ-loop
+returns-3 c =
+    let a = c .before .before .before .before .before .before .args in
     let l = c .before .loop in
     let e : length (a .views .now) ≡ l .j = omega arith in
     sym e ∙ free-nowhere (a .views .now) (a .allotment .now) (a .campaign) (λ i k. l .inv .1 i (omega arith))
@@ -77,14 +87,16 @@ free-view-spec =
     (tie.spec
     Inv-loop
     μ-loop
+    has-requires
+    returns
     loop-holds
     mul-holder
     shared-slice-read-holder
     mul-v
     shared-slice-read-v
-    has-requires
-    returns
+    has-requires-2
+    returns-2
     add-j
     loop-less
     loop-again
-    returns-2)
+    returns-3)

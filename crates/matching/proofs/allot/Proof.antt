@@ -59,7 +59,7 @@ returns c =
     let ps = a .prices .now in
     let n = length (a .views .now) in
     let made = standing-certified (a .count) ps (a .wholes .now) (a .views .now) to' level (m .ensures .closed)
-    (m .ensures .served) (s .pre .market) (m .ensures .standing) (m .ensures .all-served) in
+    (s .pre .market) (m .ensures .standing) in
     record {
       accepted = certified-test (a .count) (at ps) (at (a .wholes .now)) n (at (a .views .now)) (at to') (at us')
           (at vs')

@@ -1,74 +1,97 @@
--- Of the campaigns below c that are not served, the dearest is at hand, or there is none.
-use mathlib.Core.Path.{_≡_, ap, sym, subst, _∙_}
+-- Of the campaigns that are not left the dearest is at hand; the least of those left is compared with it.
+use mathlib.Core.Path.{refl, ap, sym, _∙_, subst⁻¹}
 use mathlib.Core.Logic.{⊎-elim}
-use mathlib.Core.Bool.{Bool, true, false}
-use Prim.Native.Nat.{ℕ, _+_, _-_, _≤_, _<_}
-use native.Mathlib.Nat.{not-suc-le-zero}
+use Prim.Native.Nat.{ℕ, _<_}
 use native.Mathlib.Omega.{arith}
+use lib.ListN.{length}
 use borrow.Author.Needs.{needs}
-use Rattle.sets.specs.Set.{member}
+use Rattle.sets.specs.Set.{beyond}
+use Rattle.sets.specs.Walk.{members}
 use Rattle.allotments.specs.Allotment.{at}
-use Rattle.matching.specs.Contracts.{Dearest}
-use Rattle.matching.specs.Contracts.Dearest.{all-served}
-use Rattle.matching.proofs.Serving.{beats, dear-taken, dear-left}
+use Rattle.allotments.proofs.Walks.{hand-small, fewer}
+use Rattle.matching.proofs.Choosing.{Choosing, choose-start, choose-dearer, choose-same, choose-end}
 use Rattle.matching.proofs.dearest.Statement.{statement}
 use Rattle.matching.proofs.dearest.Tie as tie
 
 abbrev Inv-loop : tie.InvT-loop
-Inv-loop count prices served best₀ top₀ c₀ best top c = (c ≤ count) × Dearest c prices served best
-    × (best < 64 → top ≡ at prices best)
+Inv-loop prices unserved best₀ start top₀ left₀ best top left = Choosing prices unserved best top left
 
 abbrev μ-loop : tie.MeasureT-loop
-μ-loop count prices served best₀ top₀ c₀ best top c = count - c
+μ-loop prices unserved best₀ start top₀ left₀ best top left = length (members left)
+
+first-requires : tie.Need-first-requires Inv-loop μ-loop
+first-requires c κs = search needs
+
+-- the least that is not served
+start : (c : tie.After-first Inv-loop μ-loop) → c .first .result < 64
+start c = hand-small (c .before .args .unserved) (c .before .fits .unserved .fits) (c .before .pre) (c .first .result)
+    (c .first .ensures)
+
+mul-top : tie.Need-mul-top Inv-loop μ-loop
+mul-top c = omega (arith, start c)
+
+element-copy-out-top : tie.Need-element-copy-out-top Inv-loop μ-loop
+element-copy-out-top c = omega (arith, start c)
+
+rest-requires : tie.Need-rest-requires Inv-loop μ-loop
+rest-requires c κs = search needs
 
 loop-holds : tie.Need-loop-holds Inv-loop μ-loop
-loop-holds c = (omega arith, all-served (λ d l. absurd (not-suc-le-zero l)), λ l. absurd (omega arith))
+loop-holds c =
+    let f = c .before .before in
+    let s = f .before in
+    choose-start (s .args .prices .now) (s .args .unserved) (s .fits .unserved .fits) (s .pre) (f .first .result)
+    (c .rest .result) (at (s .args .prices .now) (f .first .result)) (f .first .ensures)
+    (c .rest .ensures ∙ ap (beyond (s .args .unserved)) (sym (f .first .ensures))) refl
+
+-- the least of those left
+hand : (c : tie.After-first2 Inv-loop μ-loop) → c .first2 .result < 64
+hand c =
+    let l = c .before .before .loop in
+    hand-small (l .left) (l .inv .walk .small) (c .before .loop-test .taken) (c .first2 .result) (c .first2 .ensures)
+
+first-requires-2 : tie.Need-first-requires-2 Inv-loop μ-loop
+first-requires-2 c κs = search needs
 
 mul-p : tie.Need-mul-p Inv-loop μ-loop
-mul-p c = omega arith
+mul-p c = omega (arith, hand c)
 
 element-copy-out-p : tie.Need-element-copy-out-p Inv-loop μ-loop
-element-copy-out-p c = search needs
+element-copy-out-p c = omega (arith, hand c)
 
-has-requires : tie.Need-has-requires Inv-loop μ-loop
-has-requires c κs = omega arith
-
-add-c : tie.Need-add-c Inv-loop μ-loop
-add-c c = omega arith
+rest-requires-2 : tie.Need-rest-requires-2 Inv-loop μ-loop
+rest-requires-2 c κs = search needs
 
 loop-less : tie.Need-loop-less Inv-loop μ-loop
-loop-less c = omega arith
+loop-less c =
+    let f = c .before .before .before in
+    let l = f .before .before .loop in
+    fewer (l .left) (l .inv .walk .small) (f .before .loop-test .taken) (f .first2 .result) (f .first2 .ensures)
+    (c .rest2 .result)
+    (c .rest2 .ensures ∙ ap (beyond (l .left)) (sym (f .first2 .ensures)))
 
 loop-again : tie.Need-loop-again Inv-loop μ-loop
 loop-again c =
-    let a = c .before .before .before .before .before .args in
-    let l = c .before .before .before .before .loop in
-    let inv = l .inv in
-    let k : l .c < 64 = omega arith in
-    let tested : (b : Bool) → beats (c .before .has .result) (l .best) (l .top) (at (a .prices .now) (l .c)) ≡ b
-    → beats (member (a .served) (l .c)) (l .best) (l .top) (at (a .prices .now) (l .c)) ≡ b
-    = λ b e. ap (λ (t : Bool). beats t (l .best) (l .top) (at (a .prices .now) (l .c)))
-    (sym (c .before .has .ensures)) ∙ e in
+    let f = c .before .before .before in
+    let l = f .before .before .loop in
+    let a = f .before .before .before .before .before .before .args in
+    let e = c .rest2 .ensures ∙ ap (beyond (l .left)) (sym (f .first2 .ensures)) in
     ⊎-elim
-    (λ w. (
-      omega arith,
-      subst (λ (b : ℕ). Dearest (l .c + 1) (a .prices .now) (a .served) b) (sym (w .1)) (dear-taken (a .prices .now)
-          (a .served) (l .c) (l .best) (l .top) k (inv .1) (inv .2) (tested true (w .0 .taken))),
-      λ s. w .2 ∙ ap (at (a .prices .now)) (sym (w .1)),
-    ))
-    (λ w. (
-      omega arith,
-      subst (λ (b : ℕ). Dearest (l .c + 1) (a .prices .now) (a .served) b) (sym (w .1)) (dear-left (a .prices .now)
-          (a .served) (l .c) (l .best) (l .top) k (inv .1) (inv .2) (tested false (w .0 .left))),
-      λ s. w .2 ∙ inv .2 (omega (arith, w .1)) ∙ ap (at (a .prices .now)) (sym (w .1)),
-    ))
-    (c .if1 .came)
+    (λ w. subst⁻¹ (λ (b : ℕ). Choosing (a .prices .now) (a .unserved) b (c .before .if1 .top) (c .rest2 .result))
+    (w .1) (subst⁻¹ (λ (t : ℕ). Choosing (a .prices .now) (a .unserved) (f .first2 .result) t (c .rest2 .result))
+    (w .2) (choose-dearer (a .prices .now) (a .unserved) (l .best) (l .top) (l .left) (l .inv)
+    (f .before .loop-test .taken) (f .first2 .result) (c .rest2 .result) (f .first2 .ensures) e (w .0 .taken))))
+    (λ w. subst⁻¹ (λ (b : ℕ). Choosing (a .prices .now) (a .unserved) b (c .before .if1 .top) (c .rest2 .result))
+    (w .1) (subst⁻¹ (λ (t : ℕ). Choosing (a .prices .now) (a .unserved) (l .best) t (c .rest2 .result))
+    (w .2) (choose-same (a .prices .now) (a .unserved) (l .best) (l .top) (l .left) (l .inv)
+    (f .before .loop-test .taken) (f .first2 .result) (c .rest2 .result) (f .first2 .ensures) e (w .0 .left))))
+    (c .before .if1 .came)
 
 returns : tie.Need-returns Inv-loop μ-loop
 returns c =
-    let a = c .before .before .args in
-    let e : c .before .loop .c ≡ a .count = omega arith in
-    subst (λ (k : ℕ). Dearest k (a .prices .now) (a .served) (c .before .loop .best)) e (c .before .loop .inv .1)
+    let l = c .before .loop in
+    let a = c .before .before .before .before .before .args in
+    choose-end (a .prices .now) (a .unserved) (l .best) (l .top) (l .left) (l .inv) (c .loop-test .left)
 
 pub dearest-spec : {M : Type 1} → statement M
 dearest-spec =
@@ -76,11 +99,15 @@ dearest-spec =
     (tie.spec
     Inv-loop
     μ-loop
+    first-requires
+    mul-top
+    element-copy-out-top
+    rest-requires
     loop-holds
+    first-requires-2
     mul-p
     element-copy-out-p
-    has-requires
-    add-c
+    rest-requires-2
     loop-less
     loop-again
     returns)

@@ -1,109 +1,109 @@
--- Between two served campaigns the standing holds, and those served are one more at each turn.
+-- Between two served campaigns the standing holds, and those not served are one fewer at each turn.
 use native.Mathlib.Omega.{arith}
 use borrow.Author.Needs.{needs}
-use Rattle.exchange.proofs.Search.{left-out}
+use Rattle.sets.specs.Set.{size}
 use Rattle.matching.proofs.Matching.{Underway, underway-start, ready-chosen, fewer-left, underway-turn}
 use Rattle.matching.proofs.Matching.{matched-end}
 use Rattle.matching.proofs.match_all.Statement.{statement}
 use Rattle.matching.proofs.match_all.Tie as tie
 
 abbrev Inv-loop : tie.InvT-loop
-Inv-loop count prices wholes views to₀ level₀ n first₀ closed₀ served₀ c₀ to level first closed served c =
-    Underway count prices wholes views to₀ to level first closed served c
+Inv-loop count prices wholes views to₀ level₀ n first₀ closed₀ bare₀ unserved₀ to level first closed bare unserved =
+    Underway count prices wholes views to₀ to level first closed bare unserved
 
 abbrev μ-loop : tie.MeasureT-loop
-μ-loop count prices wholes views to₀ level₀ n first₀ closed₀ served₀ c₀ to level first closed served c =
-    left-out served
+μ-loop count prices wholes views to₀ level₀ n first₀ closed₀ bare₀ unserved₀ to level first closed bare unserved =
+    size unserved
 
-dearest-requires : tie.Need-dearest-requires Inv-loop μ-loop
-dearest-requires c κs = c .before .before .pre .market .few
+everyone-requires : tie.Need-everyone-requires Inv-loop μ-loop
+everyone-requires c κs = c .before .before .pre .market .few
 
 loop-holds : tie.Need-loop-holds Inv-loop μ-loop
 loop-holds c =
     let s = c .before .before .before in
     let a = s .args in
     underway-start (a .count) (a .prices .now) (a .wholes .now) (a .views .now) (a .allotment .now) (a .level .now)
-    (c .dearest .result) (s .pre) (c .dearest .ensures)
+    (c .everyone .result) (s .pre) (c .everyone .ensures)
+
+dearest-requires : tie.Need-dearest-requires Inv-loop μ-loop
+dearest-requires c κs = c .loop-test .taken
 
 mul-wide32 : tie.Need-mul-wide32 Inv-loop μ-loop
-mul-wide32 c = omega arith
+mul-wide32 c = omega (arith, c .dearest .ensures .inside)
 
 element-copy-out-wide32 : tie.Need-element-copy-out-wide32 Inv-loop μ-loop
-element-copy-out-wide32 c = search needs
+element-copy-out-wide32 c = omega (arith, c .dearest .ensures .inside)
 
 wide32-requires : tie.Need-wide32-requires Inv-loop μ-loop
 wide32-requires c κs = search needs
 
 mul-wide32-2 : tie.Need-mul-wide32-2 Inv-loop μ-loop
-mul-wide32-2 c = omega arith
+mul-wide32-2 c = omega (arith, c .before .before .dearest .ensures .inside)
 
 element-copy-out-wide32-2 : tie.Need-element-copy-out-wide32-2 Inv-loop μ-loop
-element-copy-out-wide32-2 c = search needs
+element-copy-out-wide32-2 c = omega (arith, c .before .before .dearest .ensures .inside)
 
 wide32-requires-2 : tie.Need-wide32-requires-2 Inv-loop μ-loop
 wide32-requires-2 c κs = search needs
 
 first-open-requires : tie.Need-first-open-requires Inv-loop μ-loop
 first-open-requires c κs =
-    let u = c .before .before .before .before .before .before .loop .inv in
+    let u = c .before .before .before .before .before .before .before .loop .inv in
     ((u .room, u .inside), u .taken)
 
 serve-requires : tie.Need-serve-requires Inv-loop μ-loop
 serve-requires c κs =
-    let mid = c .before .before .before .before .before .before .before .before in
-    let a = mid .before .before .before .before .args in
-    let l = mid .loop in
+    let d = c .before .before .before .before .before .before .before in
+    let l = d .before .before .loop in
+    let a = d .before .before .before .before .before .before .args in
     ready-chosen (a .count) (a .prices .now) (a .wholes .now) (a .views .now) (a .allotment .now) (l .allotment)
-    (l .level) (l .first) (l .closed) (l .served) (l .c) (l .inv) (c .before .first-open .result)
-    (c .before .before .before .before .before .before .before .loop-test .taken) (c .before .first-open .ensures)
+    (l .level) (l .first) (l .closed) (l .bare) (l .unserved) (d .dearest .result) (l .inv) (d .dearest .ensures)
+    (c .before .first-open .result) (c .before .first-open .ensures)
 
 without-requires : tie.Need-without-requires Inv-loop μ-loop
 without-requires c κs = search needs
 
 freeze-requires : tie.Need-freeze-requires Inv-loop μ-loop
 freeze-requires c κs =
-    let mid = c .before .before .before .before .before .before .before .before in
-    mid .before .before .before .before .before .loop .inv .long
+    let d = c .before .before .before .before .before .before .before .before .before .before .before .before in
+    d .before .before .loop .inv .long
 
 including-requires : tie.Need-including-requires Inv-loop μ-loop
 including-requires c κs =
-    let mid = c .before .before .before .before .before .before .before .before in
-    mid .before .before .before .before .before .loop-test .taken
+    let d = c .before .before .before .before .before .before .before .before .before .before .before .before .before in
+    d .dearest .ensures .inside
 
-dearest-requires-2 : tie.Need-dearest-requires-2 Inv-loop μ-loop
-dearest-requires-2 c κs =
-    let mid = c .before .before .before .before .before .before .before .before in
-    mid .before .before .before .before .before .before .before .loop .inv .market .few
+without-requires-2 : tie.Need-without-requires-2 Inv-loop μ-loop
+without-requires-2 c κs = search needs
 
 loop-less : tie.Need-loop-less Inv-loop μ-loop
 loop-less c =
-    let mid = c .before .before .before .before .before .before .before .before in
-    let far = mid .before .before .before .before .before .before .before .before in
-    let a = far .before .before .before .before .args in
-    let l = far .loop in
+    let mid = c .before .before .before .before .before .before .before in
+    let d = mid .before .before .before .before .before .before .before .before in
+    let l = d .before .before .loop in
+    let a = d .before .before .before .before .before .before .args in
     fewer-left (a .count) (a .prices .now) (a .wholes .now) (a .views .now) (a .allotment .now) (l .allotment)
-    (l .level) (l .first) (l .closed) (l .served) (l .c) (l .inv) (c .before .including .result)
-    (mid .before .before .before .before .before .before .before .loop-test .taken) (c .before .including .ensures)
+    (l .level) (l .first) (l .closed) (l .bare) (l .unserved) (d .dearest .result) (l .inv) (d .dearest .ensures)
+    (c .before .including .result) (c .without2 .result) (c .before .including .ensures) (c .without2 .ensures)
 
 loop-again : tie.Need-loop-again Inv-loop μ-loop
 loop-again c =
-    let mid = c .before .before .before .before .before .before .before .before in
-    let far = mid .before .before .before .before .before .before .before .before in
-    let a = far .before .before .before .before .args in
-    let l = far .loop in
-    let o = mid .before .first-open in
-    let v = c .before .before .before .before .before .before .before .serve in
+    let mid = c .before .before .before .before .before .before .before in
+    let d = mid .before .before .before .before .before .before .before .before in
+    let l = d .before .before .loop in
+    let a = d .before .before .before .before .before .before .args in
+    let o = mid .before .before .first-open in
+    let v = mid .serve in
     let f = c .before .before .freeze in
+    let plays = mid .before .before .before .before .wide322 in
+    let price = mid .before .before .before .before .before .before .wide32 in
     underway-turn (a .count) (a .prices .now) (a .wholes .now) (a .views .now) (a .allotment .now) (l .allotment)
-    (l .level) (l .first) (l .closed) (l .served) (l .c) (l .inv) (v .last .1 .0) (f .last .0) (o .result)
-    (v .result) (c .before .including .result) (c .dearest2 .result)
-    (mid .before .before .before .wide322 .result)
-    (mid .before .before .before .before .before .wide32 .result) (c .before .before .before .without .result)
-    (mid .before .before .before .before .before .before .before .loop-test .taken) (o .ensures)
-    (mid .before .before .before .wide322 .ensures .0)
-    (mid .before .before .before .before .before .wide32 .ensures .0)
-    (c .before .before .before .without .ensures) (c .before .including .ensures) (v .kept .1 .0) (v .ensures)
-    (f .ensures) (c .dearest2 .ensures)
+    (l .level) (l .first) (l .closed) (l .bare) (l .unserved) (d .dearest .result) (l .inv) (d .dearest .ensures)
+    (v .last .1 .0) (f .last .0) (o .result) (v .result .closed) (v .result .bare) (c .before .including .result)
+    (c .without2 .result)
+    (plays .result) (price .result) (c .before .before .before .without .result) (o .ensures) (plays .ensures .0)
+    (price .ensures .0) (c .before .before .before .without .ensures) (c .before .including .ensures)
+    (c .without2 .ensures) (v .kept .1 .0) (v .ensures) (f .ensures)
 
 same-length : tie.Need-same-length Inv-loop μ-loop
 same-length c = c .before .loop .inv .same
@@ -113,7 +113,7 @@ returns c =
     let a = c .before .before .before .before .before .args in
     let l = c .before .loop in
     matched-end (a .count) (a .prices .now) (a .wholes .now) (a .views .now) (a .allotment .now) (l .allotment)
-    (l .level) (l .first) (l .closed) (l .served) (l .c) (l .inv) (c .loop-test .left)
+    (l .level) (l .first) (l .closed) (l .bare) (l .unserved) (l .inv) (c .loop-test .left)
 
 pub match-all-spec : {M : Type 1} → statement M
 match-all-spec =
@@ -121,8 +121,9 @@ match-all-spec =
     (tie.spec
     Inv-loop
     μ-loop
-    dearest-requires
+    everyone-requires
     loop-holds
+    dearest-requires
     mul-wide32
     element-copy-out-wide32
     wide32-requires
@@ -134,7 +135,7 @@ match-all-spec =
     without-requires
     freeze-requires
     including-requires
-    dearest-requires-2
+    without-requires-2
     loop-less
     loop-again
     same-length

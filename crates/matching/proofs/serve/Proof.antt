@@ -13,11 +13,11 @@ use Rattle.matching.proofs.serve.Statement.{statement}
 use Rattle.matching.proofs.serve.Tie as tie
 
 abbrev Inv-loop : tie.InvT-loop
-Inv-loop views to₀ campaign closed plays from n first₀ k₀ to first k = (k ≤ plays) × (length to ≡ length to₀) × Gains
-    views to₀ to campaign closed k × Ready views to campaign closed first
+Inv-loop views to₀ campaign closed plays from bare n first₀ known₀ k₀ to first known k = (k ≤ plays)
+    × (length to ≡ length to₀) × Gains views to₀ to campaign closed k × Ready views to campaign closed first known
 
 abbrev μ-loop : tie.MeasureT-loop
-μ-loop views to₀ campaign closed plays from n first₀ k₀ to first k = plays - k
+μ-loop views to₀ campaign closed plays from bare n first₀ known₀ k₀ to first known k = plays - k
 
 loop-holds : tie.Need-loop-holds Inv-loop μ-loop
 loop-holds c =
@@ -34,8 +34,8 @@ seek-requires : tie.Need-seek-requires Inv-loop μ-loop
 seek-requires c κs =
     let a = c .before .before .before .before .before .before .before .args in
     let l = c .before .before .before .before .loop in
-    ready-from (a .views .now) (l .allotment) (a .campaign) (a .closed) (l .first) (c .before .first-open .result)
-    (l .inv .3) (c .before .first-open .ensures)
+    ready-from (a .views .now) (l .allotment) (a .campaign) (a .closed) (l .first) (l .known)
+    (c .before .first-open .result) (l .inv .3) (c .before .first-open .ensures)
 
 same-length : tie.Need-same-length Inv-loop μ-loop
 same-length c = c .before .before .before .before .seek .kept .1 .0 ∙
@@ -56,6 +56,7 @@ returns c =
       most = l .inv .0;
       ended = inr (subst⁻¹ (λ (x : List ℕ). Failed (a .views .now) x (r .last .1 .0) (a .campaign) (a .closed)
           (r .result .visited)) (f .still) f);
+      none-free = r .ensures .none-free;
     }
 
 add-k : tie.Need-add-k Inv-loop μ-loop
@@ -76,9 +77,10 @@ loop-again c =
       r .kept .1 .0 ∙ l .inv .1,
       gains-one (a .views .now) (a .allotment .now) (l .allotment) (r .last .1 .0) (a .campaign) (a .closed) (l .k)
           (l .inv .2) g,
-      ready-after (a .views .now) (l .allotment) (r .last .1 .0) (a .campaign) (a .closed) (o .result)
-          (ready-from (a .views .now) (l .allotment) (a .campaign) (a .closed) (l .first) (o .result) (l .inv .3)
-          (o .ensures)) (r .kept .1 .0) g,
+      ready-after (a .views .now) (l .allotment) (r .last .1 .0) (a .campaign) (a .closed) (o .result) (l .known)
+          (r .result .bare)
+          (ready-from (a .views .now) (l .allotment) (a .campaign) (a .closed) (l .first) (l .known) (o .result)
+          (l .inv .3) (o .ensures)) (r .kept .1 .0) g (r .ensures .none-free),
     )
 
 same-length-2 : tie.Need-same-length-2 Inv-loop μ-loop
@@ -87,7 +89,13 @@ same-length-2 c = c .before .loop .inv .1
 returns-2 : tie.Need-returns-2 Inv-loop μ-loop
 returns-2 c =
     let l = c .before .loop in
-    record { found = l .k; gains = l .inv .2; most = l .inv .0; ended = inl (omega arith, refl) }
+    record {
+      found = l .k;
+      gains = l .inv .2;
+      most = l .inv .0;
+      ended = inl (omega arith, refl);
+      none-free = l .inv .3 .none-free;
+    }
 
 pub serve-spec : {M : Type 1} → statement M
 serve-spec =

@@ -88,8 +88,9 @@ returns-2 c =
     (length (a .surplus .now)) (length (a .worth .now)) (sym (f .ensures) ∙ z) in
     search-found (state-of (a .head) (a .terms .now) (a .counts .now)) (w .result) (w .ensures) (a .views .now)
     (a .allotment .now) (m .last .1 .1 .1 .1 .0) (a .surplus .now) (m .last .1 .1 .1 .1 .1 .0) (a .worth .now)
-    (m .last .1 .1 .1 .1 .1 .1 .0) g (m .ensures) (f .result) (c .takings .result) (f .ensures) z
-    (c .takings .ensures)
+    (m .last .1 .1 .1 .1 .1 .1 .0) g (m .ensures)
+    (m .kept .1 .1 .1 .1 .0, m .kept .1 .1 .1 .1 .1 .0, m .kept .1 .1 .1 .1 .1 .1 .0) (f .result) (c .takings .result)
+    (f .ensures) z (c .takings .ensures)
 
 pub search-spec : {M : Type 1} → statement M
 search-spec =

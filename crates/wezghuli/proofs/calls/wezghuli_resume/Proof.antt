@@ -16,7 +16,8 @@ is-head-requires c κs = search needs
 returns : tie.Need-returns
 returns c =
     let a = c .before .before .before .args in
-    misused (mark-campaign false (a .campaign)) (memory (a .head .now) (a .terms .now) (a .counts .now) (a .answer .now))
+    misused (mark-campaign false (a .campaign))
+    (memory (a .head .now) (a .terms .now) (a .counts .now) (a .answer .now))
     (sym (c .before .is-head .ensures) ∙ not-true (c .before .is-head .result) (c .if1 .taken))
 
 head-of-requires : tie.Need-head-of-requires

@@ -2,7 +2,8 @@
 -- the state.
 use mathlib.Core.Path.{ap, sym, _∙_}
 use borrow.Author.Tests.{not-true, not-false}
-use Rattle.wezghuli.proofs.Searches.{answer-status, search-misused, search-done}
+use Rattle.optimum.specs.Optimum.{number}
+use Rattle.wezghuli.proofs.Searches.{search-misused, search-done}
 use borrow.Author.Needs.{needs}
 use Rattle.wezghuli.proofs.search.wezghuli_search.Statement.{statement}
 use Rattle.wezghuli.proofs.search.wezghuli_search.Tie as tie
@@ -50,7 +51,7 @@ returns-2 c =
     (test .if1 .left))
     (head .head-of .result) (head .head-of .ensures) (r .last .1 .1 .1 .1 .0) (r .last .1 .1 .1 .1 .1 .0)
     (r .last .1 .1 .1 .1 .1 .1 .0)
-    (r .result) 0 (r .ensures) (sym (ap answer-status (c .enum-told .given .1)))
+    (r .result) 0 (r .ensures) (sym (ap number (c .enum-told .given .1)))
 
 same-length-4 : tie.Need-same-length-4
 same-length-4 c = search needs
@@ -73,7 +74,7 @@ returns-3 c =
     (test .if1 .left))
     (head .head-of .result) (head .head-of .ensures) (r .last .1 .1 .1 .1 .0) (r .last .1 .1 .1 .1 .1 .0)
     (r .last .1 .1 .1 .1 .1 .1 .0)
-    (r .result) (c .before .question .given .0 .0) (r .ensures) (sym (ap answer-status (c .before .question .given .1)))
+    (r .result) (c .before .question .given .0 .0) (r .ensures) (sym (ap number (c .before .question .given .1)))
 
 pub wezghuli-search-spec : {M : Type 1} → statement M
 wezghuli-search-spec =

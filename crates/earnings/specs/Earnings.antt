@@ -1,0 +1,41 @@
+-- What the day took beside what it could have earned, and its line.
+use mathlib.Core.List.{List, _++_}
+use Prim.Native.Nat.{ℕ, zero, suc}
+use Rattle.lines.specs.Form.{bytes}
+use Rattle.lines.specs.Numeral.{numeral}
+use Rattle.day.specs.declared.Day.{Day}
+use Rattle.day.specs.Day.{total-takings}
+use Rattle.questions.specs.Questions.{first-failed}
+use Rattle.optimum.specs.Optimum.{max-handed-in, questions, most-of}
+use Rattle.earnings.specs.declared.Earnings.{Earnings}
+use Rattle.earnings.specs.declared.Earnings.the-variants.{Refused, Figures}
+use Rattle.earnings.specs.Ratio.{ratio-of}
+
+-- from the number of the question that failed, or 0
+abbrev pub earnings-of : (question takings greatest : ℕ) → Earnings
+earnings-of zero t g = Figures t g
+earnings-of (suc q) t g = Refused (suc q)
+
+-- the number of the first question of the search that fails, or 0, where enough is lent for 256 views and 64 campaigns
+unfoldable pub question-of : Day → (views : List ℕ) → ℕ
+question-of s views = first-failed (questions s views max-handed-in 64 max-handed-in)
+
+unfoldable pub earned : Day → (views : List ℕ) → Earnings
+earned s views = earnings-of (question-of s views) (total-takings s) (most-of s views)
+
+-- room for every line
+abbrev pub report-room : ℕ
+report-room = 128
+
+-- the line, with its byte 10
+unfoldable pub figures-text : (takings greatest : ℕ) → List ℕ
+figures-text t g =
+    bytes "(takings " ++ (numeral t ++ (bytes ") (greatest " ++ (numeral g ++ (bytes ") (ratio " ++
+    (numeral (ratio-of t g .numerator) ++ (bytes "/" ++ (numeral (ratio-of t g .denominator) ++ bytes ")\n")))))))
+
+unfoldable pub refusal-text : (question : ℕ) → List ℕ
+refusal-text q = bytes "(refused " ++ (numeral q ++ bytes ")\n")
+
+abbrev pub earnings-text : Earnings → List ℕ
+earnings-text (Refused q) = refusal-text q
+earnings-text (Figures t g) = figures-text t g

@@ -1,0 +1,4 @@
+pub mod Wires
+pub mod Prints
+pub mod Examples
+pub mod Contracts

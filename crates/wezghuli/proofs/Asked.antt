@@ -1,0 +1,110 @@
+-- What the statuses of the search, of the check and of the takings say: 0 is given only where no question fails, and a
+-- question's number is below 100.
+use mathlib.Core.Path.{_≡_, refl, ap, sym, _∙_}
+use mathlib.Core.Bool.{Bool, true, false, cond}
+use mathlib.Core.List.{List, [], _∷_}
+use mathlib.Core.Logic.{_⊎_, inl, inr}
+use Prim.Native.Nat.{ℕ, zero, suc, _<_}
+use native.Mathlib.Omega.{arith}
+use lib.ListN.{length, take}
+use Rattle.day.specs.declared.Day.{Day}
+use Rattle.questions.specs.Questions.{first-failed}
+use Rattle.optimum.specs.declared.Optimum.{Optimum}
+use Rattle.optimum.specs.declared.Optimum.the-variants.{Takings}
+use Rattle.optimum.specs.declared.Verdict.the-variants.{Accepted}
+use Rattle.optimum.specs.Optimum.{failed, fits, most-of, takings-of, number, found, search-answer}
+use Rattle.optimum.specs.Optimum.{takings-questions, takings-answer, verdict-of, checked, Best}
+use Rattle.optimum.proofs.Greatest.{accepted-is-best, search-accepted, search-taken, tells}
+use Rattle.encoding.specs.Encoding.{no-head, no-fit, is-head}
+use Rattle.wezghuli.specs.Search.{lent-state, search-status, Search-leaves, verdict-status, check-status}
+use Rattle.wezghuli.specs.Search.{takings-in, takings-status, takings-into, takings-after}
+use Rattle.wezghuli.proofs.Stored.{pick-first}
+use Rattle.wezghuli.proofs.Low.{low-small}
+use Rattle.wezghuli.proofs.Low.Low.{none, then}
+
+-- a status that is 0 is no misuse
+was-head : (b : Bool) (x : ℕ) → cond b x no-head ≡ 0 → (b ≡ true) × (x ≡ 0)
+was-head true x e = (refl, e)
+was-head false x e = absurd (omega (arith, e))
+
+-- the numbers of the questions
+failed-small : (s : Day) (views a u v : List ℕ) → failed s views a u v < 100
+unfolding failed
+failed-small s views a u v =
+    low-small (then 1 (omega arith) (then 19 (omega arith) (then 13 (omega arith) (then 18 (omega arith) none))))
+
+number-small : (q t : ℕ) → q < 100 → number (found q t) < 100
+number-small zero t p = p
+number-small (suc q) t p = p
+
+verdict-small : (q : ℕ) (b : Bool) → q < 100 → (verdict-status (verdict-of q b) ≡ no-fit) ⊎ (verdict-status
+    (verdict-of q b) < 100)
+verdict-small zero true p = inr p
+verdict-small zero false p = inl refl
+verdict-small (suc q) b p = inr p
+
+taken-small : (s : Day) (a : List ℕ) → number (takings-answer s a) < 100
+unfolding takings-answer
+taken-small s a =
+    number-small (first-failed (takings-questions s a)) (takings-of s a a)
+    (low-small (then 1 (omega arith) (then 19 (omega arith) none)))
+
+-- a verdict of status 0
+was-accepted : (q : ℕ) (b : Bool) → verdict-status (verdict-of q b) ≡ 0 → verdict-of q b ≡ Accepted
+was-accepted zero true e = refl
+was-accepted zero false e = absurd (omega (arith, e))
+was-accepted (suc q) b e = absurd (omega (arith, e))
+
+module _ (h t n views a u v : List ℕ) where
+  s : Day
+  s = lent-state h t n
+
+  pub search-refusal : is-head h ≡ true → search-status h t n views a u v < 100
+  unfolding search-status s
+  search-refusal e = rw e (number-small (failed s views a u v) (most-of s views) (failed-small s views a u v))
+
+  pub check-refusal : is-head h ≡ true
+      → (check-status h t n views a u v ≡ no-fit) ⊎ (check-status h t n views a u v < 100)
+  unfolding check-status s
+  check-refusal e = rw e (verdict-small (failed s views a u v) (fits s views a u v) (failed-small s views a u v))
+
+  pub check-best : check-status h t n views a u v ≡ 0 → Best (lent-state h t n) views a
+  unfolding check-status s
+  check-best e =
+      let w = was-head (is-head h) (verdict-status (checked s views a u v)) e in
+      accepted-is-best s views a u v (was-accepted (failed s views a u v) (fits s views a u v) (w .1))
+
+  found-nothing-failed : search-status h t n views a u v ≡ 0
+      → (is-head h ≡ true) × (failed (lent-state h t n) views a u v ≡ 0)
+  unfolding search-status s
+  found-nothing-failed e =
+      let w = was-head (is-head h) (number (search-answer s views a u v)) e in
+      (w .0, sym (tells s views a u v .search-number) ∙ w .1)
+
+module _ (h t n views a a' u u' v v' : List ℕ) (e : search-status h t n views a u v ≡ 0)
+    (left : Search-leaves h t n views a a' u u' v v') where
+  pub search-checked : check-status h t n views a' u' v' ≡ 0
+  unfolding check-status
+  search-checked =
+      let w = found-nothing-failed h t n views a u v e in
+      let s = lent-state h t n in
+      sym (pick-first (is-head h) (verdict-status (checked s views a' u' v')) no-head 0 (w .0)
+      (sym (ap verdict-status (search-accepted s views a a' u u' v v' (search-answer s views a u v)
+      (left .searched (w .0)) (w .1)))))
+
+  pub search-takings : (l : List ℕ) → (takings-status h t n (take (length views) a') ≡ 0)
+      × (takings-after h t n (take (length views) a') l ≡ most-of (lent-state h t n) views ∷ [])
+  search-takings l =
+      let w = found-nothing-failed h t n views a u v e in
+      let s = lent-state h t n in
+      let front = take (length views) a' in
+      let x : takings-in h t n front ≡ Takings (most-of s views) =
+      search-taken s views a a' u u' v v' (search-answer s views a u v) (left .searched (w .0)) (w .1)
+      ∙ ap (λ (q : ℕ). found q (most-of s views)) (w .1) in (
+        sym (pick-first (is-head h) (number (takings-in h t n front)) no-head 0 (w .0) (sym (ap number x))),
+        sym (pick-first (is-head h) (takings-into (takings-in h t n front) l) l (most-of s views ∷ []) (w .0)
+            (sym (ap (λ (z : Optimum). takings-into z l) x))),
+      )
+
+pub takings-refusal : (h t n a : List ℕ) → is-head h ≡ true → takings-status h t n a < 100
+takings-refusal h t n a e = rw e (taken-small (lent-state h t n) a)
