@@ -10,3 +10,4 @@ pub mod Sound
 pub mod Refusals
 pub mod Cases
 pub mod Demands
+pub mod Nobody

@@ -4,16 +4,19 @@
 use mathlib.Core.Path.{_≡_}
 use mathlib.Core.Bool.{true}
 use mathlib.Core.List.{List, [], _∷_}
-use Prim.Native.Nat.{ℕ}
+use Prim.Native.Nat.{ℕ, _<_}
+use Rattle.sets.specs.Set.{within}
+use Rattle.campaigns.specs.declared.Phase.the-variants.{Running}
 use Rattle.campaigns.specs.declared.View.{View}
+use Rattle.campaigns.specs.Limits.{max-views}
 use Rattle.campaigns.specs.Choice.{Choice}
 use Rattle.campaigns.specs.Choice.Choice.{nobody, plays}
 use Rattle.campaigns.specs.View.{able, figure, full}
 use Rattle.day.specs.declared.Day.{Day}
-use Rattle.day.specs.Day.{campaign, total-takings, total-claim}
-use Rattle.day.specs.Day.{sound}
+use Rattle.day.specs.declared.Answer.the-variants.{Nobody}
+use Rattle.day.specs.Day.{head-of, campaign, total-takings, total-claim, sound}
 use Rattle.questions.specs.Questions.{first-failed}
-use Rattle.day.specs.Calls.{number, values, Call, questions, found, player, offers, call}
+use Rattle.day.specs.Calls.{number, values, Call, questions, found, player, offers, head-shown, call}
 use Rattle.day.specs.Calls.Call.{open-plan, add-campaign, start-day, show-view, ask-tally, close-day, mark-campaign}
 use Rattle.demands.specs.Choice.{Right}
 
@@ -46,3 +49,20 @@ pub record Answers (s : Day) (c : Call) : Type 0 where
 abbrev pub Plays-right : Day → View → Type 0
 Plays-right s w = let v = found s w in
     Right (s .count) (able (s .plan) v (campaign s)) (λ i. figure (s .plan) v i (campaign s i)) (player s w)
+
+-- A view that finds nobody, since it names no campaign (document 02, request 2) or none but paused ones (request 3): it
+-- is answered nobody and counted, and all else stays.
+pub record Counts-alone (s : Day) (w : View) : Type 0 where
+  pub answer-is : call s (show-view w) .answer ≡ Nobody
+  pub head-is : head-of (call s (show-view w) .day) ≡ head-shown s
+  pub campaigns-stay : (i : ℕ) → i < 64 → campaign (call s (show-view w) .day) i ≡ campaign s i
+
+abbrev pub Nobody-found : Type 0
+Nobody-found =
+    (s : Day) (w : View) → sound s ≡ true → s .phase ≡ Running → s .accepted < max-views
+    → within (s .count) (w .set) ≡ true → found s w .set ≡ 0 → Counts-alone s w
+
+-- so of every view that names none
+abbrev pub Nobody-named : Type 0
+Nobody-named =
+    (s : Day) → sound s ≡ true → s .phase ≡ Running → s .accepted < max-views → Counts-alone s (record { set = 0 })
