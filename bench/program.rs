@@ -1,7 +1,7 @@
 //! `pumpday` against the second program and `wc -l`, on the same files in one run.
 //!
-//! program PUMPDAY SECOND FOLDER ROUNDS: makes the inputs in FOLDER, compares both outputs on each, then runs the three in
-//! turn and takes the least processor time of each. A ratio is another's time over ours: above 1.0 we are faster.
+//! program PUMPDAY SECOND FOLDER ROUNDS: makes the inputs in FOLDER, compares both outputs on each, then runs the three
+//! in turn and takes the least processor time of each. A ratio is another's time over ours: above 1.0 we are faster.
 
 use std::fmt::Write as _;
 use std::fs::{self, File};
@@ -129,6 +129,13 @@ fn refused_views() -> String {
     repeated(&format!("(plan (depth 8) (width 4))\n{campaigns}(start)\n"), "(view 3 16)\n(view 0 2 4 6 8)\n")
 }
 
+/// A running day of 64 campaigns, which are paused and resumed again and again.
+fn marks() -> String {
+    let campaigns = "(campaign (price 5) (budget 5000))\n".repeat(64);
+    let marks: String = (0..64).map(|i| format!("(pause {i})\n(resume {})\n", 63 - i)).collect();
+    repeated(&format!("(plan (depth 8) (width 4))\n{campaigns}(start)\n"), &marks)
+}
+
 /// Days of 16 campaigns in which a fifth of the lines has a byte changed or left out.
 fn damaged() -> String {
     let mut r = Random(5);
@@ -196,6 +203,7 @@ fn main() {
         ("64 campaigns, width 16", days(64, 16)),
         ("refused lines", refusals()),
         ("views refused 13 and 14", refused_views()),
+        ("pauses and resumes", marks()),
         ("damaged days", damaged()),
         ("filling 64 campaigns", fillings()),
         ("days of five lines", short_days()),

@@ -642,7 +642,8 @@ static void searches(void)
     expect(search_with(0, 0, 0) == 13 && check_with(0, 0, 0) == 13 && untouched(0, 0), "13 before 18");
     views_shown = 257;
     expect(search_with(0, 0, 0) == 19 && check_with(0, 0, 0) == 19 && untouched(0, 0), "19 before 13");
-    expect(takings_with(257) == 19 && takings_with(256) == 0 && allotted[0] == 0, "19 of entries, and none that counts");
+    expect(takings_with(257) == 19 && takings_with(256) == 0 && allotted[0] == 0,
+           "19 of entries, and none that counts");
     allotted[0] = 777;
     day.head[WEZGHULI_HEAD_DEPTH] = 0;
     expect(search_with(0, 0, 0) == 1 && check_with(0, 0, 0) == 1 && untouched(0, 0), "1 before 19");

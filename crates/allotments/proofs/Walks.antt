@@ -3,8 +3,7 @@
 use mathlib.Core.Path.{_≡_, refl, ap, sym, _∙_, subst}
 use mathlib.Core.Logic.{_⊎_, inl, inr}
 use mathlib.Core.Bool.{Bool, true, false, _&&_}
-use mathlib.Core.List.{List}
-use Prim.Native.Nat.{ℕ, _+_, _^_, _≤_, _<_}
+use Prim.Native.Nat.{ℕ, _+_, _^_, _<_}
 use native.Mathlib.Omega.{arith}
 use lib.Dec.{ltb}
 use lib.ListN.{length}
@@ -14,7 +13,7 @@ use Rattle.sets.specs.Set.{member, next, beyond}
 use Rattle.sets.specs.Walk.{members}
 use Rattle.sets.proofs.Algebra.{empty-member, beyond-member, beyond-lt}
 use Rattle.sets.proofs.Walk.{next-is, first-is, members-next}
-use Rattle.allotments.proofs.Cases.{same-or-not, true-or-not}
+use Rattle.allotments.proofs.Cases.{same-or-not}
 
 -- a part of a set that is left to walk, and a fact of each of the others
 pub record Walking (set left : ℕ) (P : ℕ → Type 0) : Type 0 where

@@ -1,12 +1,13 @@
--- Soundness by its tests in the order of the code: the limits, then what `tested` has, then the total claim as two sums.
--- So the audit of a record within its limits is `claim-checked` where `tested` passes, and fails where it does not.
-use mathlib.Core.Path.{_≡_, refl, ap, sym, _∙_}
+-- Soundness by its tests in the order of the code: the limits, then what `tested` has, then the total claim as two
+-- sums. So the audit of a record within its limits is `claim-checked` where `tested` passes, and fails where it does
+-- not.
+use mathlib.Core.Path.{_≡_, refl, ap, _∙_}
 use mathlib.Core.Bool.{Bool, true, false, cond, _&&_, and-assoc, and-true}
 use Prim.Native.Nat.{ℕ, _+_, _-_, _*_, _≤_, _<_}
 use native.Mathlib.Omega.{arith}
 use lib.Dec.{leb}
 use borrow.Author.Tests.{leb-true}
-use Rattle.finite.specs.Finite.{sum, every}
+use Rattle.finite.specs.Finite.{every}
 use Rattle.finite.proofs.Tests.{both-left, both-right, every-cut, never}
 use Rattle.finite.proofs.Sums.{sum-eq, sum-add, sum-mul}
 use Rattle.powers.specs.Power.{weight, share}
@@ -27,7 +28,8 @@ use Rattle.audit.proofs.Claims.{tested, each}
 
 -- soundness in the order of the code
 regroup : (a b c m x y e f g : Bool)
-    → (a && (b && (c && (m && ((x && y) && (e && (f && (g && true)))))))) ≡ ((a && b && c && m) && ((x && y && e && f) && g))
+    → (a && (b && (c && (m && ((x && y) && (e && (f && (g && true)))))))) ≡
+    ((a && b && c && m) && ((x && y && e && f) && g))
 regroup a b c m x y e f g = simp (and-assoc, and-true)
 
 -- the claims of n campaigns that are not past the depth

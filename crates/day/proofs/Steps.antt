@@ -19,7 +19,8 @@ use Rattle.day.specs.Contracts.{refusing}
 use Rattle.day.proofs.Questions.{refused-is}
 
 -- a refusal leaves the arrays
-pub steps-refused : (h : Head) (t n : List ℕ) (c : Call) (r : Step) (q : ℕ) → r ≡ refusing h q → q ≡ first-failed (questions (state-of h t n) c) → (q ≡ 0 → ⊥) → outcome-of r t n ≡ call (state-of h t n) c
+pub steps-refused : (h : Head) (t n : List ℕ) (c : Call) (r : Step) (q : ℕ) → r ≡ refusing h q
+    → q ≡ first-failed (questions (state-of h t n) c) → (q ≡ 0 → ⊥) → outcome-of r t n ≡ call (state-of h t n) c
 steps-refused h t n c r q e a z = ap (λ (x : Step). outcome-of x t n) e ∙ refused-is (state-of h t n) c q a z
 
 -- the questions of a sound state but for the first
@@ -28,6 +29,8 @@ unfolding first-failed
 own-asks s c e = rw e
 
 -- arrays of zeros hold no campaigns
-pub planned-is : (p : Phase) (pl : Plan) → state-of (record { phase = p; plan = pl; count = 0; accepted = 0; paused = 0 }) (replicate 128 0) (replicate 256 0) ≡ empty-plan p pl
+pub planned-is : (p : Phase) (pl : Plan)
+    → state-of (record { phase = p; plan = pl; count = 0; accepted = 0; paused = 0 }) (replicate 128 0)
+    (replicate 256 0) ≡ empty-plan p pl
 unfolding table
 planned-is p pl = refl

@@ -1,11 +1,11 @@
 -- The paused marks stay what soundness asks: within the campaigns, and none in Filling.
 use mathlib.Core.Path.{_≡_, refl, sym, _∙_}
-use mathlib.Core.Bool.{Bool, true, false, not, _||_}
+use mathlib.Core.Bool.{Bool, true, false, _||_}
 use Prim.Native.Nat.{ℕ, _≤_, _<_}
 use native.Mathlib.Nat.{lt-of-lt-of-le}
 use lib.Dec.{eqb}
 use borrow.Author.Tests.{eqb-true}
-use Rattle.finite.proofs.Tests.{both-left, both-right, never}
+use Rattle.finite.proofs.Tests.{both-left, never}
 use Rattle.sets.specs.Set.{member, within, including}
 use Rattle.sets.proofs.Algebra.{including-member}
 use Rattle.sets.proofs.Bounds.{within-of, within-member, within-without}

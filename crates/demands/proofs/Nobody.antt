@@ -76,7 +76,8 @@ nothing-left : (out : ℕ) → without 0 out ≡ 0
 unfolding without
 nothing-left out =
     same-members (without 0 out) 0 (collect-lt 64 (λ i. member 0 i && not (member out i))) (omega arith)
-    (λ i l. without-member 0 out i l ∙ ap (λ (b : Bool). b && not (member out i)) (empty-member i) ∙ sym (empty-member i))
+    (λ i l. without-member 0 out i l ∙ ap (λ (b : Bool). b && not (member out i)) (empty-member i)
+    ∙ sym (empty-member i))
 
 -- nothing is within any plan, and nothing is left of it
 pub nobody-named : Nobody-named

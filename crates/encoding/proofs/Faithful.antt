@@ -35,7 +35,14 @@ phase-back (Closed t) = refl
 
 head-back : (h : Head) → head-of (head-words h) ≡ h
 head-back h =
-    ap (λ (p : Phase). record { phase = p; plan = h .plan; count = h .count; accepted = h .accepted; paused = h .paused })
+    ap (λ (p : Phase). record {
+      phase = p;
+      plan = h .plan;
+      count = h .count;
+      accepted = h .accepted;
+      paused =
+          h .paused;
+    })
     (phase-back (h .phase))
 
 -- the words of the phase that two words give

@@ -1,24 +1,22 @@
 -- Demand 3: an allotment takes at most what is due once the campaigns that fall short are struck out, and the floor at
 -- noon covers what is due.
-use mathlib.Core.Path.{_≡_, refl, ap, sym, _∙_, subst}
+use mathlib.Core.Path.{_≡_, refl, _∙_, subst}
 use mathlib.Core.Bool.{Bool, true, false, cond}
 use mathlib.Core.List.{List}
 use Prim.Native.Nat.{ℕ, _*_, _≤_, _<_}
 use native.Mathlib.Nat.{le-trans, mul-le-mul-left, le-div-iff-mul-le}
 use native.Mathlib.Omega.{arith}
-use lib.Dec.{ltb}
-use lib.ListN.{length, List·getD-eq-default}
-use borrow.Author.Tests.{eqb-true, ltb-true, ltb-false}
-use Rattle.finite.proofs.Sums.{sum-le, sum-eq}
+use lib.ListN.{length}
+use borrow.Author.Tests.{eqb-true, ltb-false}
+use Rattle.finite.proofs.Sums.{sum-le}
 use Rattle.powers.specs.Power.{share}
 use Rattle.allotments.specs.Allotment.{times}
 use Rattle.allotments.proofs.Takings.{by-campaign, takings-eq}
 use Rattle.campaigns.specs.declared.Phase.{Phase}
 use Rattle.campaigns.specs.declared.Plan.{Plan}
-use Rattle.campaigns.specs.declared.Terms.{Terms}
 use Rattle.campaigns.proofs.Laws.{plan-sized}
 use Rattle.day.specs.declared.Day.{Day}
-use Rattle.day.specs.Day.{no-terms, total-takings}
+use Rattle.day.specs.Day.{total-takings}
 use Rattle.day.specs.Day.{sound}
 use Rattle.campaigns.specs.Phase.{phase-holds}
 use Rattle.day.specs.Calls.{Call}

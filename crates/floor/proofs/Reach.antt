@@ -16,7 +16,7 @@ use Rattle.finite.proofs.Tables.{total-snoc}
 use Rattle.sets.specs.Set.{within, without}
 use Rattle.sets.proofs.Bounds.{within-without}
 use Rattle.campaigns.specs.declared.Phase.{Phase}
-use Rattle.campaigns.specs.declared.Phase.the-variants.{Filling, Running, Closed}
+use Rattle.campaigns.specs.declared.Phase.the-variants.{Filling, Closed}
 use Rattle.campaigns.specs.declared.Plan.{Plan}
 use Rattle.campaigns.specs.declared.Terms.{Terms}
 use Rattle.campaigns.specs.declared.View.{View}

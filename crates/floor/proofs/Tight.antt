@@ -1,8 +1,7 @@
 -- The floor is met exactly: the day of each row is read off, and the tests that make it one are computed.
 use mathlib.Core.Path.{_≡_, refl, subst⁻¹}
-use mathlib.Core.Bool.{Bool, true, false, cond, not, _||_}
+use mathlib.Core.Bool.{Bool, true, cond, not}
 use mathlib.Core.List.{List, [], _∷_, map}
-use mathlib.Core.Logic.{_⊎_, inl, inr}
 use Prim.Native.Nat.{ℕ, _*_}
 use lib.Dec.{leb, ltb, eqb}
 use lib.ListN.{getD, length}
@@ -15,7 +14,7 @@ use Rattle.allotments.specs.Allotment.{times, takings, entry-fits}
 use Rattle.allotments.proofs.Takings.{entry-given}
 use Rattle.campaigns.specs.Choice.{best, choice}
 use Rattle.campaigns.specs.Campaign.{whole, claim, sound-plan, priced, counted, uncounted, empty, sound-campaign}
-use Rattle.campaigns.specs.View.{names, full}
+use Rattle.campaigns.specs.View.{full}
 use Rattle.audit.specs.Sound.{sound-record}
 use Rattle.day.specs.Day.{blank, total-takings, total-claim, total-budgets}
 use Rattle.day.specs.Day.{sound}
@@ -94,4 +93,5 @@ pub tight : Tight exact-days
 unfolding day-of transcript continued call first-failed sound sound-record blank sum count every table total within
     size member width-holds weight share whole claim total-takings total-claim total-budgets sound-plan priced counted
     uncounted empty sound-campaign best choice times takings collect without including marked
-tight = tight-of exact-days ((refl, refl), ((refl, refl), ((refl, refl), ((refl, refl), ((refl, refl), ((refl, refl), tt))))))
+tight = tight-of exact-days
+    ((refl, refl), ((refl, refl), ((refl, refl), ((refl, refl), ((refl, refl), ((refl, refl), tt))))))

@@ -20,7 +20,8 @@ pub grid-at : (b e : ℕ) → 1 ≤ b → b ≤ 16 → e ≤ 32 → getD (getD g
 unfolding grid
 grid-at b e p q h =
     let s : b - 1 + 1 ≡ b = omega arith in
-    ap (λ (l : List ℕ). getD l e 0) (getD-table 16 (λ i. row-of (i + 1)) [] (b - 1) (omega arith) ∙ ap row-of s) ∙ row-at b e h
+    ap (λ (l : List ℕ). getD l e 0) (getD-table 16 (λ i. row-of (i + 1)) [] (b - 1) (omega arith) ∙ ap row-of s)
+    ∙ row-at b e h
 
 -- an entry that is not above the limit is the power
 pub entry-is : (b e : ℕ) → b ^ e ≤ 4_294_967_296 → entry b e ≡ b ^ e
@@ -50,7 +51,8 @@ module _ (k d a : ℕ) (wide : 1 ≤ d) (h : a ≤ k) (top : d ^ k ≤ 4_294_967
   entry-up = entry-is d a (le-trans (pow-le-pow-right wide h) top)
 
   pub entry-down : entry (d - 1) (k - a) ≡ (d - 1) ^ (k - a)
-  entry-down = entry-is (d - 1) (k - a) (le-trans (pow-le-pow-left (sub-le d 1) (k - a)) (le-trans (pow-le-pow-right wide (sub-le k a)) top))
+  entry-down = entry-is (d - 1) (k - a)
+      (le-trans (pow-le-pow-left (sub-le d 1) (k - a)) (le-trans (pow-le-pow-right wide (sub-le k a)) top))
 
   pub entry-weight : entry d a * entry (d - 1) (k - a) ≡ weight k d a
   unfolding weight

@@ -1,7 +1,8 @@
 -- The weights rise with the age from (d − 1)^k to d^k: each step adds `slope`, and all steps sum to the share.
 use mathlib.Core.Path.{_≡_, ap, subst}
 use Prim.Native.Nat.{ℕ, zero, suc, _+_, _-_, _*_, _^_, _≤_, _<_}
-use native.Mathlib.Nat.{pow-suc, pow-zero, le-refl, mul-one, one-mul, sub-self, sub-zero, pow-le-pow-left, sub-add-cancel}
+use native.Mathlib.Nat.{pow-suc, pow-zero, le-refl, mul-one, one-mul, sub-self, sub-zero, pow-le-pow-left}
+use native.Mathlib.Nat.{sub-add-cancel}
 use native.Mathlib.Omega.{arith}
 use Rattle.finite.specs.Finite.{sum}
 use Rattle.powers.specs.Power.{weight, share}
@@ -57,7 +58,8 @@ module _ (k d : ℕ) (pos : 0 < d) where
   pub weight-most : (a : ℕ) → a ≤ k → weight k d a ≤ d ^ k
   weight-most a h =
       let q : a + (k - a) ≡ k = omega arith in
-      subst (λ x. weight k d a ≤ x) (weight-top k d) (subst (λ x. weight k d a ≤ weight k d x) q (up (k - a) (omega arith)))
+      subst (λ x. weight k d a ≤ x) (weight-top k d)
+      (subst (λ x. weight k d a ≤ weight k d x) q (up (k - a) (omega arith)))
     where
       up : (j : ℕ) → a + j ≤ k → weight k d a ≤ weight k d (a + j)
       up zero l = let e : a + 0 ≡ a = omega arith in rw e (le-refl (weight k d a))

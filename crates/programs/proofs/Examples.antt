@@ -6,7 +6,7 @@ use mathlib.Core.Bool.{Bool, cond}
 use mathlib.Core.List.{List, [], _∷_, _++_}
 use Prim.Native.Nat.{ℕ, suc, _+_, _-_, _≤_}
 use native.Mathlib.Omega.{arith}
-use lib.ListN.{length, take, drop, replicate, length-append}
+use lib.ListN.{length, take, replicate, length-append}
 use lib.Seq.{take-length, take-append-seam, drop-length}
 use borrow.Author.Tests.{le-leb}
 use Rattle.finite.specs.Finite.{sum, count, every, table}
@@ -29,11 +29,10 @@ use Rattle.reply.specs.Reply.{reply, reply-text, next, outcome, tallies}
 use Rattle.reply.specs.Session.{Session, after-byte, fed, consumed-count, upto}
 use Rattle.reply.proofs.Sessions.{fed-append}
 use Rattle.stream.specs.declared.feed.Stream.{Stream}
-use Rattle.stream.specs.declared.feed.Fed.{Fed}
 use Rattle.stream.specs.Stream.{finished, new-stream, session-of, silent, stream-of, handed-back, answered-in}
 use Rattle.stream.specs.Stream.{Comes-to, Feeds, Finishes}
 use Rattle.stream.specs.Chunking.{joined, Plain, All-plain, after-lines, replies, last-reply, Split}
-use Rattle.stream.specs.Chunking.{Feeding, Takes, stream-after, all-written}
+use Rattle.stream.specs.Chunking.{Feeding, Takes, stream-after}
 use Rattle.stream.proofs.Chunking.{fed-said, fed-lines, any-chunking}
 use Rattle.programs.specs.Examples.{whole-of, blocks-of, Any-blocks}
 use Rattle.programs.specs.Examples.{Handed, lines-of, first-block, second-block, answers, Day-in-two-blocks}

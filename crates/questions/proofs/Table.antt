@@ -16,7 +16,8 @@ module _ (pl : Plan) (d : depth-fits pl ≡ true) (w : width-fits pl ≡ true) w
   listed-is = rw (w, both-right (leb 1 (pl .depth)) (leb (pl .depth) max-depth) d)
 
   pub listed-over : listed (pl .width) (pl .depth) ≡ 0 → power-fits pl ≡ false
-  listed-over z = entry-over (pl .width) (pl .depth) (leb-true 1 (pl .width) (both-left (leb 1 (pl .width)) (leb (pl .width) max-width) w)) (sym listed-is ∙ z)
+  listed-over z = entry-over (pl .width) (pl .depth)
+      (leb-true 1 (pl .width) (both-left (leb 1 (pl .width)) (leb (pl .width) max-width) w)) (sym listed-is ∙ z)
 
   pub listed-under : (listed (pl .width) (pl .depth) ≡ 0 → ⊥) → power-fits pl ≡ true
   listed-under z = entry-under (pl .width) (pl .depth) (λ x. z (listed-is ∙ x))

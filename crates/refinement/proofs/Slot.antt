@@ -12,7 +12,6 @@ use Rattle.finite.proofs.Tests.{both-left, both-right}
 use Rattle.sets.specs.Set.{member, size, within, collect, without, including}
 use Rattle.powers.specs.Power.{weight, share}
 use Rattle.campaigns.specs.declared.Campaign.{Campaign}
-use Rattle.campaigns.specs.declared.Phase.the-variants.{Running}
 use Rattle.campaigns.specs.declared.Terms.{Terms}
 use Rattle.campaigns.specs.declared.View.{View}
 use Rattle.campaigns.specs.Choice.{Choice, best, choice}
@@ -58,19 +57,22 @@ module _
   where
     pub same-player : line-4 I j (names (found s w)) v ≡ player s w
     same-player =
-        same-choice I ok j (found s w) v (campaign s) h ∙ ap₂ (λ n pl. chosen-of n pl (found s w) (campaign s)) many plan-is
+        same-choice I ok j (found s w) v (campaign s) h
+        ∙ ap₂ (λ n pl. chosen-of n pl (found s w) (campaign s)) many plan-is
 
     pub same-view : (i : ℕ) → i < I .n → Simulates I (suc j) (lines-3-to-11 I j (names (found s w)) v) i (shown s w i)
     same-view i l =
         subst (λ (c : Campaign). Simulates I (suc j) (lines-3-to-11 I j (names (found s w)) v) i c)
-        (ap₂ (λ n pl. viewed n pl (found s w) (campaign s) i) many plan-is) (same-step I ok j (found s w) v (campaign s) h i l)
+        (ap₂ (λ n pl. viewed n pl (found s w) (campaign s) i) many plan-is)
+        (same-step I ok j (found s w) v (campaign s) h i l)
 
     -- the price of the one matched is its bid
     pub same-answer : view-answer (offers s w) (player s w) ≡ view-answer (I .b) (line-4 I j (names (found s w)) v)
     unfolding line-4
     same-answer =
         ap (view-answer (offers s w)) (sym same-player)
-        ∙ view-answer-eq (I .n) (feasible-neighbor I v j (names (found s w))) (offers s w) (I .b) (λ i l. h i l .accounts .bid)
+        ∙ view-answer-eq (I .n) (feasible-neighbor I v j (names (found s w))) (offers s w) (I .b)
+        (λ i l. h i l .accounts .bid)
         (line-4 I j (names (found s w)) v) (best-fits _ _ _)
 
 whole-play : (c : Campaign) → priced c ≡ true → 1 ≤ c .price → 0 < whole c
@@ -127,7 +129,8 @@ module _ (s : Day) (e : sound s ≡ true) (wide : 1 < s .plan .width) where
         count-is = r .count-is;
         bid-is = λ i l. sym (new i l .accounts .bid);
         copies-are = λ i l. sym (new i l .accounts .copies);
-        counts-are = λ i l. simulates-represents I ok (suc j) (lines-3-to-11 I j (names (found s w)) v) i _ (back i l) (new i l);
+        counts-are = λ i l. simulates-represents I ok (suc j) (lines-3-to-11 I j (names (found s w)) v) i _ (back i l)
+            (new i l);
         unmatched = λ i j′ l q. new i l .accounts .later j′ q;
       }
         where
@@ -135,7 +138,8 @@ module _ (s : Day) (e : sound s ≡ true) (wide : 1 < s .plan .width) where
           back i l = omega (arith, r .count-is)
 
           new : (i : ℕ) → i < s .count
-              → Simulates I (suc j) (lines-3-to-11 I j (names (found s w)) v) i (campaign (result s (show-view w) .day) i)
+              → Simulates I (suc j) (lines-3-to-11 I j (names (found s w)) v) i
+              (campaign (result s (show-view w) .day) i)
           new i l =
               subst⁻¹ (λ (c : Campaign). Simulates I (suc j) (lines-3-to-11 I j (names (found s w)) v) i c)
               (campaign-of-state (head-shown s) (shown s w) i

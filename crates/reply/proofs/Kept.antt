@@ -3,9 +3,9 @@
 use mathlib.Core.Path.{_≡_, refl, ap, sym, subst, _∙_}
 use mathlib.Core.Bool.{Bool, true, false}
 use mathlib.Core.List.{List}
-use Prim.Native.Nat.{ℕ, _+_}
+use Prim.Native.Nat.{ℕ}
 use Rattle.campaigns.specs.declared.Head.{Head}
-use Rattle.campaigns.specs.declared.Phase.the-variants.{Filling, Running}
+use Rattle.campaigns.specs.declared.Phase.the-variants.{Filling}
 use Rattle.campaigns.specs.declared.Plan.{Plan}
 use Rattle.campaigns.specs.Campaign.{sound-plan, fresh}
 use Rattle.campaigns.specs.Contracts.{Room, Weights}

@@ -27,10 +27,8 @@ use Rattle.page.specs.Printing as page
 use Rattle.page.proofs.Promises as pages
 use Rattle.writer.specs.Writing as writer
 use Rattle.writer.proofs.Numbers.{number-and-values}
-use Rattle.reply.specs.Session.{Session, reply-room, fed, consumed-count}
-use Rattle.stream.specs.declared.feed.Fed.{Fed}
-use Rattle.stream.specs.declared.feed.Stream.{Stream}
-use Rattle.stream.specs.Stream.{finished, session-of, stream-at, stream-of, consumed-bytes, handed-back, answered-in}
+use Rattle.reply.specs.Session.{Session, fed, consumed-count}
+use Rattle.stream.specs.Stream.{finished, session-of, stream-at, stream-of, consumed-bytes, handed-back}
 use Rattle.stream.specs.Stream.{Comes-to, Feeds, Finishes}
 use Rattle.encoding.specs.Encoding.{is-head, head-of, is-form, record-of}
 use Rattle.encoding.proofs.Faithful.{faithful}

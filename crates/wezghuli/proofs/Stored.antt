@@ -1,6 +1,6 @@
 -- What an exported operation leaves: everything as it was where the words are no head, and else the outcome of the
 -- call, stored. Each operation's contract is one of the two, so that its proof only names where the facts stand.
-use mathlib.Core.Path.{_≡_, refl, ap, sym, _∙_}
+use mathlib.Core.Path.{_≡_, refl, ap, _∙_}
 use mathlib.Core.Bool.{Bool, true, false, cond}
 use mathlib.Core.List.{List}
 use Prim.Native.Nat.{ℕ}

@@ -1,4 +1,5 @@
--- Depth, width, `deepest`, the two limits and the marks: within width 16, depth ≤ deepest is question 5, by `plan-tells`.
+-- Depth, width, `deepest`, the two limits and the marks: within width 16, depth ≤ deepest is question 5, by
+-- `plan-tells`.
 use Rattle.audit.proofs.Claims.{plan-tells}
 use Rattle.campaigns.specs.Limits.{max-campaigns, max-views}
 use lib.Dec.{leb}

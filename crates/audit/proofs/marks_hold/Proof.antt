@@ -15,7 +15,8 @@ filling-requires c κs = search needs
 returns : tie.Need-returns
 returns c =
     let a = c .before .before .before .args in
-    ap₂ (λ (x y : Bool). x && (eqb (a .head .paused) 0 || not y)) (c .before .before .within .ensures) (c .filling .ensures)
+    ap₂ (λ (x y : Bool). x && (eqb (a .head .paused) 0 || not y)) (c .before .before .within .ensures)
+    (c .filling .ensures)
 
 pub marks-hold-spec : {M : Type 1} → statement M
 marks-hold-spec = tie.close (tie.spec within-requires filling-requires returns)

@@ -8,7 +8,7 @@ use lib.ListN.{length, drop, length-drop}
 use lib.Seq.{length-take-le}
 use borrow.Author.Needs.{needs}
 use borrow.Author.Tests.{ltb-true, ltb-false, leb-true, le-leb}
-use Rattle.finite.proofs.Tests.{both-left, both-right, both-join, never}
+use Rattle.finite.proofs.Tests.{both-left, both-right, never}
 use Rattle.day.specs.Day.{state-of}
 use Rattle.reply.specs.Session.{upto}
 use Rattle.batch.specs.Contracts.{Position, position}

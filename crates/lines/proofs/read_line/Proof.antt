@@ -1,5 +1,5 @@
--- A line that is not too long: the bytes at 1, 3, 4 and 6 leave one form (`leaves`; each arm by `first` or `other`), and
--- its code holds the line to that form (`reads`); `answers` joins the two.
+-- A line that is not too long: the bytes at 1, 3, 4 and 6 leave one form (`leaves`; each arm by `first` or `other`),
+-- and its code holds the line to that form (`reads`); `answers` joins the two.
 use mathlib.Core.Path.{_≡_, refl, ap, sym, _∙_}
 use mathlib.Core.Bool.{Bool, cond}
 use mathlib.Core.List.{List}

@@ -1,5 +1,5 @@
--- The audit tells question 1 and the length question 19; a sound state has at most 64 campaigns, so that the entries can
--- be summed.
+-- The audit tells question 1 and the length question 19; a sound state has at most 64 campaigns, so that the entries
+-- can be summed.
 use mathlib.Core.Path.{_≡_, sym, _∙_}
 use mathlib.Core.Bool.{true}
 use native.Mathlib.Omega.{arith}

@@ -21,7 +21,9 @@ same-is false false e = refl
 
 -- the row of a width, by computing
 row : (w r : ℕ) → every 33 (λ k. same (leb k r) (leb (w ^ k) 4_294_967_296)) ≡ true → {v : ℕ} → v ≡ w → Deepest v r
-row w r e q = subst (λ x. Deepest x r) (sym q) (λ k h. same-is (leb k r) (leb (w ^ k) 4_294_967_296) (every-at 33 (λ k. same (leb k r) (leb (w ^ k) 4_294_967_296)) e k (omega arith)))
+row w r e q = subst (λ x. Deepest x r) (sym q)
+    (λ k h. same-is (leb k r) (leb (w ^ k) 4_294_967_296)
+    (every-at 33 (λ k. same (leb k r) (leb (w ^ k) 4_294_967_296)) e k (omega arith)))
 
 returns : tie.Need-returns
 unfolding every

@@ -15,8 +15,12 @@ use Rattle.powers.proofs.power.Tie as tie
 
 inside-is : (w e : ℕ) → (leb 1 w && leb w 16 && leb e 32) ≡ true → (1 ≤ w) × (w ≤ 16) × (e ≤ 32)
 inside-is w e h =
-    let l = both-left (leb 1 w && leb w 16) (leb e 32) h in
-    (leb-true 1 w (both-left (leb 1 w) (leb w 16) l), leb-true w 16 (both-right (leb 1 w) (leb w 16) l), leb-true e 32 (both-right (leb 1 w && leb w 16) (leb e 32) h))
+    let l = both-left (leb 1 w && leb w 16) (leb e 32) h in (
+      leb-true 1 w (both-left (leb 1 w) (leb w 16) l),
+      leb-true w 16 (both-right (leb 1 w) (leb w 16) l),
+      leb-true e 32
+          (both-right (leb 1 w && leb w 16) (leb e 32) h),
+    )
 
 sub-row : tie.Need-sub-row
 sub-row c = let h = inside-is (c .before .args .width) (c .before .args .exponent) (c .if1 .taken) in omega arith
@@ -40,7 +44,8 @@ returns c =
     let a = c .before .before .args in
     let t = c .before .if1 .taken in
     let h = inside-is (a .width) (a .exponent) t in
-    let e : cond (leb 1 (a .width) && leb (a .width) 16 && leb (a .exponent) 32) (entry (a .width) (a .exponent)) 0 ≡ entry (a .width) (a .exponent) = rw t in
+    let e : cond (leb 1 (a .width) && leb (a .width) 16 && leb (a .exponent) 32) (entry (a .width) (a .exponent)) 0 ≡
+    entry (a .width) (a .exponent) = rw t in
     grid-at (a .width) (a .exponent) (h .0) (h .1) (h .2) ∙ sym e
 
 returns-2 : tie.Need-returns-2

@@ -8,7 +8,7 @@ use borrow.Author.Tests.{not-true, not-false, lt-ltb, le-ltb, le-leb, lt-leb, le
 use lib.Dec.{leb, ltb}
 use Prim.Native.Nat.{_+_}
 use native.Mathlib.Omega.{arith}
-use mathlib.Core.Bool.{true, false}
+use mathlib.Core.Bool.{true}
 use mathlib.Core.Path.{_≡_, sym, _∙_}
 use borrow.Author.Needs.{needs}
 use Rattle.questions.proofs.add_question.Statement.{statement}
@@ -23,7 +23,9 @@ few c = lt-ltb (c .before .before .before .before .args .head .count) 64 (c .if2
 priced : (c : tie.Else3) → price-fits (c .before .before .before .before .before .before .args .t .price) ≡ true
 priced c = sym (c .before .price-fits .ensures) ∙ not-false (c .before .price-fits .result) (c .if3 .left)
 
-afforded : (c : tie.Else4) → budget-fits (c .before .before .before .before .before .before .before .before .args .t .price) (c .before .before .before .before .before .before .before .before .args .t .budget) ≡ true
+afforded : (c : tie.Else4)
+    → budget-fits (c .before .before .before .before .before .before .before .before .args .t .price)
+    (c .before .before .before .before .before .before .before .before .args .t .budget) ≡ true
 afforded c = sym (c .before .budget-fits .ensures) ∙ not-false (c .before .budget-fits .result) (c .if4 .left)
 
 filling-requires : tie.Need-filling-requires
@@ -35,32 +37,78 @@ returns c = rw (sym (c .before .filling .ensures) ∙ not-true (c .before .filli
 
 returns-2 : tie.Need-returns-2
 unfolding first-failed
-returns-2 c = rw (fills (c .before .before), le-ltb (c .before .before .before .before .args .head .count) 64 (c .if2 .taken))
+returns-2 c = rw (
+  fills (c .before .before),
+  le-ltb (c .before .before .before .before .args .head .count) 64
+      (c .if2 .taken),
+)
 
 price-fits-requires : tie.Need-price-fits-requires
 price-fits-requires c κs = search needs
 
 returns-3 : tie.Need-returns-3
 unfolding first-failed
-returns-3 c = rw (fills (c .before .before .before .before), few (c .before .before), sym (c .before .price-fits .ensures) ∙ not-true (c .before .price-fits .result) (c .if3 .taken))
+returns-3 c = rw (
+  fills (c .before .before .before .before),
+  few (c .before .before),
+  sym
+      (c .before .price-fits .ensures) ∙ not-true (c .before .price-fits .result) (c .if3 .taken),
+)
 
 budget-fits-requires : tie.Need-budget-fits-requires
 budget-fits-requires c κs = search needs
 
 returns-4 : tie.Need-returns-4
 unfolding first-failed
-returns-4 c = rw (fills (c .before .before .before .before .before .before), few (c .before .before .before .before), priced (c .before .before), sym (c .before .budget-fits .ensures) ∙ not-true (c .before .budget-fits .result) (c .if4 .taken))
+returns-4 c = rw (
+  fills (c .before .before .before .before .before .before),
+  few (c .before .before .before .before),
+  priced (c .before .before),
+  sym (c .before .budget-fits .ensures)
+      ∙ not-true (c .before .budget-fits .result) (c .if4 .taken),
+)
 
 add-if5 : tie.Need-add-if5
-add-if5 c = let a = c .before .before .before .before .before .before .before .before .before .args .t in omega (arith, c .before .before .before .before .before .before .before .before .before .pre, leb-true (a .budget) max-budget (both-right (leb (a .price) (a .budget)) (leb (a .budget) max-budget) (afforded (c .before))))
+add-if5 c = let a = c .before .before .before .before .before .before .before .before .before .args .t in
+    omega (
+      arith,
+      c .before .before .before .before .before .before .before .before .before .pre,
+      leb-true
+          (a .budget) max-budget
+          (both-right (leb (a .price) (a .budget)) (leb (a .budget) max-budget) (afforded (c .before))),
+    )
 
 returns-5 : tie.Need-returns-5
 unfolding first-failed
-returns-5 c = rw (fills (c .before .before .before .before .before .before .before .before), few (c .before .before .before .before .before .before), priced (c .before .before .before .before), afforded (c .before .before), lt-leb (c .before .before .before .before .before .before .before .before .before .before .args .budgets + c .before .before .before .before .before .before .before .before .before .before .args .t .budget) max-budget (c .if5 .taken))
+returns-5 c =
+    let paying = c .before .before in
+    let priced-one = paying .before .before in
+    let room = priced-one .before .before in
+    let filling = room .before .before in
+    let a = filling .before .before .args in
+    rw (
+      fills filling,
+      few room,
+      priced priced-one,
+      afforded paying,
+      lt-leb (a .budgets + a .t .budget) max-budget (c .if5 .taken),
+    )
 
 returns-6 : tie.Need-returns-6
 unfolding first-failed
-returns-6 c = rw (fills (c .before .before .before .before .before .before .before .before), few (c .before .before .before .before .before .before), priced (c .before .before .before .before), afforded (c .before .before), le-leb (c .before .before .before .before .before .before .before .before .before .before .args .budgets + c .before .before .before .before .before .before .before .before .before .before .args .t .budget) max-budget (c .if5 .left))
+returns-6 c =
+    let paying = c .before .before in
+    let priced-one = paying .before .before in
+    let room = priced-one .before .before in
+    let filling = room .before .before in
+    let a = filling .before .before .args in
+    rw (
+      fills filling,
+      few room,
+      priced priced-one,
+      afforded paying,
+      le-leb (a .budgets + a .t .budget) max-budget (c .if5 .left),
+    )
 
 pub add-question-spec : {M : Type 1} → statement M
 add-question-spec =

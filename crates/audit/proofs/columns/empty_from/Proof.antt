@@ -16,7 +16,8 @@ no-counts-in-requires c κs = search needs
 returns : tie.Need-returns
 returns c =
     let a = c .before .before .args in
-    ap₂ (λ (x y : Bool). x && y) (c .before .no-terms-from .ensures) (c .no-counts-in .ensures) ∙ empty-joins (a .n) (campaign-at (a .terms .now) (a .counts .now))
+    ap₂ (λ (x y : Bool). x && y) (c .before .no-terms-from .ensures) (c .no-counts-in .ensures)
+    ∙ empty-joins (a .n) (campaign-at (a .terms .now) (a .counts .now))
 
 pub empty-from-spec : {M : Type 1} → statement M
 empty-from-spec = tie.close (tie.spec no-terms-from-requires no-counts-in-requires returns)

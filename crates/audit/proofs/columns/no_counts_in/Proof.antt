@@ -25,7 +25,12 @@ came s = campaign-at (s .args .terms .now) (s .args .counts .now)
 
 loop-holds : tie.Need-loop-holds Inv-loop μ-loop
 unfolding no-counts-in
-loop-holds c = (le-refl (c .args .n), c .pre .0, from-start (c .args .n) (λ i. eqb (came c i .plays) 0 && eqb (came c i .turns) 0 && eqb (came c i .age) 0 && eqb (came c i .named) 0))
+loop-holds c = (
+  le-refl (c .args .n),
+  c .pre .0,
+  from-start (c .args .n)
+      (λ i. eqb (came c i .plays) 0 && eqb (came c i .turns) 0 && eqb (came c i .age) 0 && eqb (came c i .named) 0),
+)
 
 mul-any : tie.Need-mul-any Inv-loop μ-loop
 mul-any c = search needs
@@ -73,11 +78,18 @@ loop-again c =
     let l = c .before .before .before .before .before .loop in (
       omega arith,
       omega arith,
-      rw (from-next (s .args .n) (l .i) (λ i. eqb (came s i .plays) 0 && eqb (came s i .turns) 0 && eqb (came s i .age) 0 && eqb (came s i .named) 0) (l .inv .0), ← l .inv .2) (simp (or-zero, and-assoc)),
+      rw (
+        from-next (s .args .n) (l .i)
+            (λ i. eqb (came s i .plays) 0 && eqb (came s i .turns) 0 && eqb (came s i .age) 0 && eqb
+            (came s i .named) 0) (l .inv .0),
+        ← l .inv .2,
+      ) (simp (or-zero, and-assoc)),
     )
 
 returns : tie.Need-returns Inv-loop μ-loop
-returns c = let s = c .before .before in let e : c .before .loop .i ≡ s .args .m = omega arith in c .before .loop .inv .2 ∙ ap (no-counts-in (s .args .n) (came s)) e
+returns c = let s = c .before .before in
+    let e : c .before .loop .i ≡ s .args .m = omega arith in c .before .loop .inv .2
+    ∙ ap (no-counts-in (s .args .n) (came s)) e
 
 pub no-counts-in-spec : {M : Type 1} → statement M
 no-counts-in-spec =

@@ -25,7 +25,12 @@ came s = campaign-at (s .args .terms .now) (s .args .counts .now)
 
 loop-holds : tie.Need-loop-holds Inv-loop μ-loop
 unfolding no-terms-from
-loop-holds c = (le-refl (c .args .n), c .pre, from-start (c .args .n) (λ i. eqb (came c i .price) 0 && eqb (came c i .budget) 0))
+loop-holds c = (
+  le-refl (c .args .n),
+  c .pre,
+  from-start (c .args .n)
+      (λ i. eqb (came c i .price) 0 && eqb (came c i .budget) 0),
+)
 
 mul-any : tie.Need-mul-any Inv-loop μ-loop
 mul-any c = search needs
@@ -55,11 +60,17 @@ loop-again c =
     let l = c .before .before .before .loop in (
       omega arith,
       omega arith,
-      rw (from-next (s .args .n) (l .i) (λ i. eqb (came s i .price) 0 && eqb (came s i .budget) 0) (l .inv .0), ← l .inv .2) (simp (or-zero, and-assoc)),
+      rw (
+        from-next (s .args .n) (l .i) (λ i. eqb (came s i .price) 0 && eqb (came s i .budget) 0)
+            (l .inv .0),
+        ← l .inv .2,
+      ) (simp (or-zero, and-assoc)),
     )
 
 returns : tie.Need-returns Inv-loop μ-loop
-returns c = let s = c .before .before in let e : c .before .loop .i ≡ 64 = omega arith in c .before .loop .inv .2 ∙ ap (no-terms-from (s .args .n) (came s)) e
+returns c = let s = c .before .before in
+    let e : c .before .loop .i ≡ 64 = omega arith in c .before .loop .inv .2
+    ∙ ap (no-terms-from (s .args .n) (came s)) e
 
 pub no-terms-from-spec : {M : Type 1} → statement M
 no-terms-from-spec =

@@ -13,7 +13,8 @@ use Rattle.audit.proofs.columns.ordered_all.Statement.{statement}
 use Rattle.audit.proofs.columns.ordered_all.Tie as tie
 
 abbrev Inv-loop : tie.InvT-loop
-Inv-loop n depth accepted terms counts fit₀ i₀ fit i = (i ≤ n) × (fit ≡ ordered-columns depth accepted i (campaign-at terms counts))
+Inv-loop n depth accepted terms counts fit₀ i₀ fit i =
+    (i ≤ n) × (fit ≡ ordered-columns depth accepted i (campaign-at terms counts))
 
 abbrev μ-loop : tie.MeasureT-loop
 μ-loop n depth accepted terms counts fit₀ i₀ fit i = n - i
@@ -69,11 +70,20 @@ unfolding ordered-columns
 loop-again c =
     let a = c .before .before .before .before .before .before .args in
     let f = came (c .before .before .before .before .before .before) in
-    let l = c .before .before .before .before .before .loop in
-    (omega arith, rw (every-next (l .i) (λ i. ltb (f i .age) (a .depth) && leb (f i .plays) (f i .turns) && leb (f i .turns) (f i .named) && leb (f i .named) (a .accepted)), ← l .inv .1) (simp and-assoc))
+    let l = c .before .before .before .before .before .loop in (
+      omega arith,
+      rw (
+        every-next (l .i)
+            (λ i. ltb (f i .age) (a .depth) && leb (f i .plays) (f i .turns) && leb (f i .turns) (f i .named) && leb
+            (f i .named) (a .accepted)),
+        ← l .inv .1,
+      ) (simp and-assoc),
+    )
 
 returns : tie.Need-returns Inv-loop μ-loop
-returns c = let s = c .before .before in let e : c .before .loop .i ≡ s .args .n = omega arith in c .before .loop .inv .1 ∙ ap (λ (m : ℕ). ordered-columns (s .args .depth) (s .args .accepted) m (came s)) e
+returns c = let s = c .before .before in
+    let e : c .before .loop .i ≡ s .args .n = omega arith in c .before .loop .inv .1
+    ∙ ap (λ (m : ℕ). ordered-columns (s .args .depth) (s .args .accepted) m (came s)) e
 
 pub ordered-all-spec : {M : Type 1} → statement M
 ordered-all-spec =

@@ -50,11 +50,19 @@ loop-again : tie.Need-loop-again Inv-loop μ-loop
 unfolding priced-columns
 loop-again c =
     let f = came (c .before .before .before .before) in
-    let l = c .before .before .before .loop in
-    (omega arith, rw (every-next (l .i) (λ i. price-fits (f i .price) && budget-fits (f i .price) (f i .budget)), ← l .inv .1) (simp and-assoc))
+    let l = c .before .before .before .loop in (
+      omega arith,
+      rw (
+        every-next (l .i) (λ i. price-fits (f i .price) && budget-fits (f i .price) (f i .budget)),
+        ← l
+            .inv .1,
+      ) (simp and-assoc),
+    )
 
 returns : tie.Need-returns Inv-loop μ-loop
-returns c = let s = c .before .before in let e : c .before .loop .i ≡ s .args .n = omega arith in c .before .loop .inv .1 ∙ ap (λ (m : ℕ). priced-columns m (came s)) e
+returns c = let s = c .before .before in
+    let e : c .before .loop .i ≡ s .args .n = omega arith in c .before .loop .inv .1
+    ∙ ap (λ (m : ℕ). priced-columns m (came s)) e
 
 pub priced-all-spec : {M : Type 1} → statement M
 priced-all-spec =

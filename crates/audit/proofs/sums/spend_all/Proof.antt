@@ -19,7 +19,12 @@ use Rattle.audit.proofs.sums.spend_all.Statement.{statement}
 use Rattle.audit.proofs.sums.spend_all.Tie as tie
 
 abbrev Inv-loop : tie.InvT-loop
-Inv-loop n terms counts all₀ takings₀ turned₀ i₀ all takings turned i = (i ≤ n) × (paid-columns i (campaign-at terms counts) ≡ true) × (all ≡ sum i (λ j. campaign-at terms counts j .budget)) × (takings ≡ sum i (λ j. campaign-at terms counts j .price * campaign-at terms counts j .plays)) × (turned ≡ sum i (λ j. campaign-at terms counts j .price * campaign-at terms counts j .turns)) × (all ≤ i * 4_294_967_296) × (takings ≤ i * 281_474_976_710_656) × (turned ≤ i * 281_474_976_710_656)
+Inv-loop n terms counts all₀ takings₀ turned₀ i₀ all takings turned i =
+    (i ≤ n) × (paid-columns i (campaign-at terms counts) ≡ true)
+    × (all ≡ sum i (λ j. campaign-at terms counts j .budget))
+    × (takings ≡ sum i (λ j. campaign-at terms counts j .price * campaign-at terms counts j .plays))
+    × (turned ≡ sum i (λ j. campaign-at terms counts j .price * campaign-at terms counts j .turns))
+    × (all ≤ i * 4_294_967_296) × (takings ≤ i * 281_474_976_710_656) × (turned ≤ i * 281_474_976_710_656)
 
 abbrev μ-loop : tie.MeasureT-loop
 μ-loop n terms counts all₀ takings₀ turned₀ i₀ all takings turned i = n - i
@@ -31,21 +36,35 @@ abbrev paid : tie.Start Inv-loop μ-loop → ℕ → ℕ
 paid s i = came s i .price * came s i .plays
 
 -- price × plays of the campaign at hand
-spent-is : (c : tie.After-wide16 Inv-loop μ-loop) → c .before .before .before .before .wide32 .result * c .wide16 .result ≡ paid (c .before .before .before .before .before .before .before .before) (c .before .before .before .before .before .before .before .loop .i)
+spent-is : (c : tie.After-wide16 Inv-loop μ-loop)
+    → c .before .before .before .before .wide32 .result * c .wide16 .result ≡ paid
+    (c .before .before .before .before .before .before .before .before)
+    (c .before .before .before .before .before .before .before .loop .i)
 spent-is c = ap₂ (λ (x y : ℕ). x * y) (c .before .before .before .before .wide32 .ensures .0) (c .wide16 .ensures .0)
 
-spent-most : (c : tie.After-wide16 Inv-loop μ-loop) → c .before .before .before .before .wide32 .result * c .wide16 .result ≤ 281_474_976_710_656
+spent-most : (c : tie.After-wide16 Inv-loop μ-loop)
+    → c .before .before .before .before .wide32 .result * c .wide16 .result ≤ 281_474_976_710_656
 spent-most c =
-    let x : c .before .before .before .before .wide32 .result ≤ 4_294_967_296 = omega (arith, c .before .before .before .before .wide32 .ensures .1) in
+    let x : c .before .before .before .before .wide32 .result ≤ 4_294_967_296 =
+    omega (arith, c .before .before .before .before .wide32 .ensures .1) in
     let y : c .wide16 .result ≤ 65_536 = omega (arith, c .wide16 .ensures .1) in
     mul-le-mul x y
 
-turned-is : (c : tie.After-wide162 Inv-loop μ-loop) → c .before .before .before .before .before .before .before .wide32 .result * c .wide162 .result ≡ came (c .before .before .before .before .before .before .before .before .before .before .before) (c .before .before .before .before .before .before .before .before .before .before .loop .i) .price * came (c .before .before .before .before .before .before .before .before .before .before .before) (c .before .before .before .before .before .before .before .before .before .before .loop .i) .turns
-turned-is c = ap₂ (λ (x y : ℕ). x * y) (c .before .before .before .before .before .before .before .wide32 .ensures .0) (c .wide162 .ensures .0)
+turned-is : (c : tie.After-wide162 Inv-loop μ-loop)
+    → c .before .before .before .before .before .before .before .wide32 .result * c .wide162 .result ≡ came
+    (c .before .before .before .before .before .before .before .before .before .before .before)
+    (c .before .before .before .before .before .before .before .before .before .before .loop .i) .price * came
+    (c .before .before .before .before .before .before .before .before .before .before .before)
+    (c .before .before .before .before .before .before .before .before .before .before .loop .i) .turns
+turned-is c = ap₂ (λ (x y : ℕ). x * y) (c .before .before .before .before .before .before .before .wide32 .ensures .0)
+    (c .wide162 .ensures .0)
 
-turned-most : (c : tie.After-wide162 Inv-loop μ-loop) → c .before .before .before .before .before .before .before .wide32 .result * c .wide162 .result ≤ 281_474_976_710_656
+turned-most : (c : tie.After-wide162 Inv-loop μ-loop)
+    → c .before .before .before .before .before .before .before .wide32 .result * c .wide162 .result ≤
+    281_474_976_710_656
 turned-most c =
-    let x : c .before .before .before .before .before .before .before .wide32 .result ≤ 4_294_967_296 = omega (arith, c .before .before .before .before .before .before .before .wide32 .ensures .1) in
+    let x : c .before .before .before .before .before .before .before .wide32 .result ≤ 4_294_967_296 =
+    omega (arith, c .before .before .before .before .before .before .before .wide32 .ensures .1) in
     let y : c .wide162 .result ≤ 65_536 = omega (arith, c .wide162 .ensures .1) in
     mul-le-mul x y
 
@@ -91,7 +110,9 @@ unfolding spent-of
 returns c =
     let s = c .before .before .before .before .before .before .before .before .before in
     let i = c .before .before .before .before .before .before .before .before .loop .i in
-    rw (every-not (s .args .n) (λ j. leb (paid s j) (came s j .budget)) i (omega arith) (lt-leb (paid s i) (came s i .budget) (omega (arith, spent-is (c .before), c .before .before .before .wide322 .ensures .0))))
+    rw (every-not (s .args .n) (λ j. leb (paid s j) (came s j .budget)) i (omega arith)
+    (lt-leb (paid s i) (came s i .budget)
+    (omega (arith, spent-is (c .before), c .before .before .before .wide322 .ensures .0))))
 
 add-all : tie.Need-add-all Inv-loop μ-loop
 add-all c = omega (arith, c .before .before .before .wide322 .ensures .1)
@@ -131,7 +152,9 @@ loop-again c =
     let b = c .before .before .before .before .before .wide322 .ensures .0 in (
       omega arith,
       every-next (l .i) (λ j. leb (paid s j) (came s j .budget))
-          ∙ both-join (every (l .i) (λ j. leb (paid s j) (came s j .budget))) (leb (paid s (l .i)) (came s (l .i) .budget)) (l .inv .1) (le-leb (paid s (l .i)) (came s (l .i) .budget) (omega (arith, e, b, c .before .before .if1 .left))),
+          ∙ both-join (every (l .i) (λ j. leb (paid s j) (came s j .budget)))
+          (leb (paid s (l .i)) (came s (l .i) .budget)) (l .inv .1)
+          (le-leb (paid s (l .i)) (came s (l .i) .budget) (omega (arith, e, b, c .before .before .if1 .left))),
       omega (arith, sum-next (l .i) (λ j. came s j .budget), l .inv .2, b),
       omega (arith, sum-next (l .i) (paid s), l .inv .3, e),
       omega (arith, sum-next (l .i) (λ j. came s j .price * came s j .turns), l .inv .4, turned-is c),

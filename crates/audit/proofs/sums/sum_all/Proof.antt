@@ -1,5 +1,6 @@
 -- The sums without weights and the one with them are `summed`; where a campaign has paid too much, both say none.
-use Rattle.audit.specs.Contracts.{waiting, sums-of, paid-columns, spendings, no-spending, spent-of, waited-of, summed}
+use Rattle.audit.specs.Contracts.{sums-of, paid-columns, spendings, no-spending, spent-of, waited-of}
+use Rattle.audit.specs.Contracts.{summed}
 use Rattle.audit.specs.declared.sums.Spent.{Spent}
 use borrow.Author.Tests.{not-true, not-false}
 use mathlib.Core.Bool.{Bool, true, false, cond}
@@ -23,10 +24,13 @@ within-is n f = go (paid-columns n f)
     go false = refl
 
 -- whether each campaign has paid at most its budget
-paid-is : (c : tie.After-spend-all) → paid-columns (c .before .args .n) (came (c .before)) ≡ c .spend-all .result .within
-paid-is c = sym (ap (λ (x : Spent). x .within) (c .spend-all .ensures) ∙ within-is (c .before .args .n) (came (c .before)))
+paid-is : (c : tie.After-spend-all)
+    → paid-columns (c .before .args .n) (came (c .before)) ≡ c .spend-all .result .within
+paid-is c = sym (ap (λ (x : Spent). x .within) (c .spend-all .ensures)
+    ∙ within-is (c .before .args .n) (came (c .before)))
 
-spent-is : (c : tie.After-spend-all) → c .spend-all .result .within ≡ true → c .spend-all .result ≡ spendings (c .before .args .n) (came (c .before))
+spent-is : (c : tie.After-spend-all) → c .spend-all .result .within ≡ true
+    → c .spend-all .result ≡ spendings (c .before .args .n) (came (c .before))
 unfolding spent-of
 spent-is c e = c .spend-all .ensures ∙ rw (paid-is c ∙ e)
 
@@ -38,7 +42,9 @@ none-requires c κs = search needs
 
 returns : tie.Need-returns
 unfolding summed
-returns c = c .none .ensures ∙ sym (rw (paid-is (c .before .before .before) ∙ not-true (c .before .before .before .spend-all .result .within) (c .before .if1 .taken)))
+returns c = c .none .ensures
+    ∙ sym (rw (paid-is (c .before .before .before) ∙ not-true (c .before .before .before .spend-all .result .within)
+    (c .before .if1 .taken)))
 
 wait-all-requires : tie.Need-wait-all-requires
 wait-all-requires c κs = search needs
@@ -49,7 +55,14 @@ returns-2 c =
     let d = c .before .before .before in
     let e = not-false (d .spend-all .result .within) (c .before .if1 .left) in
     rw (paid-is d ∙ e)
-    (ap₂ (λ (x : Spent) (w : ℕ). record { within = true; budgets = x .budgets; takings = x .takings; turned = x .turned; waited = w }) (spent-is d e) (c .wait-all .ensures))
+    (ap₂ (λ (x : Spent) (w : ℕ). record {
+      within = true;
+      budgets = x .budgets;
+      takings = x .takings;
+      turned =
+          x .turned;
+      waited = w;
+    }) (spent-is d e) (c .wait-all .ensures))
 
 pub sum-all-spec : {M : Type 1} → statement M
 sum-all-spec =

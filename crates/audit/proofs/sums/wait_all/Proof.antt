@@ -18,7 +18,8 @@ use Rattle.audit.proofs.sums.wait_all.Statement.{statement}
 use Rattle.audit.proofs.sums.wait_all.Tie as tie
 
 abbrev Inv-loop : tie.InvT-loop
-Inv-loop n plan weights terms counts low sum₀ i₀ sum i = (i ≤ n) × (sum ≡ waited-of plan i (campaign-at terms counts)) × (sum ≤ i * 4_294_967_296_000_000)
+Inv-loop n plan weights terms counts low sum₀ i₀ sum i = (i ≤ n) × (sum ≡ waited-of plan i (campaign-at terms counts))
+    × (sum ≤ i * 4_294_967_296_000_000)
 
 abbrev μ-loop : tie.MeasureT-loop
 μ-loop n plan weights terms counts low sum₀ i₀ sum i = n - i
@@ -32,23 +33,52 @@ weighed s a = weight (s .args .plan .depth) (s .args .plan .width) a
 abbrev gain : tie.Start Inv-loop μ-loop → ℕ → ℕ
 gain s i = came s i .price * waiting (s .args .plan) (came s i)
 
-weight-is : (c : tie.After-wide32 Inv-loop μ-loop) → c .before .before .weigh2 .result ≡ weighed (c .before .before .before .before .before .before .before .before) (came (c .before .before .before .before .before .before .before .before) (c .before .before .before .before .before .before .loop .i) .age)
-weight-is c = c .before .before .weigh2 .ensures .0 ∙ ap (weighed (c .before .before .before .before .before .before .before .before)) (c .before .before .before .wide16 .ensures .0)
+weight-is : (c : tie.After-wide32 Inv-loop μ-loop)
+    → c .before .before .weigh2 .result ≡ weighed (c .before .before .before .before .before .before .before .before)
+    (came (c .before .before .before .before .before .before .before .before)
+    (c .before .before .before .before .before .before .loop .i) .age)
+weight-is c = c .before .before .weigh2 .ensures .0
+    ∙ ap (weighed (c .before .before .before .before .before .before .before .before))
+    (c .before .before .before .wide16 .ensures .0)
 
-rising : (c : tie.After-wide32 Inv-loop μ-loop) → c .before .before .before .before .before .before .before .weigh .result ≤ c .before .before .weigh2 .result
+rising : (c : tie.After-wide32 Inv-loop μ-loop)
+    → c .before .before .before .before .before .before .before .weigh .result ≤ c .before .before .weigh2 .result
 rising c =
     let s = c .before .before .before .before .before .before .before .before in
     let i = c .before .before .before .before .before .before .loop .i in
     let z = plan-sized (s .args .plan) (s .pre .1 .0 .plan-sound) in
-    omega (arith, weight-is c, c .before .before .before .before .before .before .before .weigh .ensures .0, weight-mono (s .args .plan .depth) (s .args .plan .width) (z .wide) (came s i .age) (s .pre .1 .1 .age-most i (c .before .before .before .before .before .loop-test .taken)))
+    omega (
+      arith,
+      weight-is c,
+      c .before .before .before .before .before .before .before .weigh .ensures .0,
+      weight-mono (s .args .plan .depth) (s .args .plan .width) (z .wide) (came s i .age)
+          (s .pre .1 .1 .age-most i (c .before .before .before .before .before .loop-test .taken)),
+    )
 
-gained-is : (c : tie.After-wide32 Inv-loop μ-loop) → c .wide32 .result * (c .before .before .weigh2 .result - c .before .before .before .before .before .before .before .weigh .result) ≡ gain (c .before .before .before .before .before .before .before .before) (c .before .before .before .before .before .before .loop .i)
-gained-is c = ap₂ (λ (x y : ℕ). x * y) (c .wide32 .ensures .0) (ap₂ (λ (x y : ℕ). x - y) (weight-is c) (c .before .before .before .before .before .before .before .weigh .ensures .0))
+gained-is : (c : tie.After-wide32 Inv-loop μ-loop)
+    → c .wide32 .result *
+    (c .before .before .weigh2 .result - c .before .before .before .before .before .before .before .weigh .result) ≡
+    gain (c .before .before .before .before .before .before .before .before)
+    (c .before .before .before .before .before .before .loop .i)
+gained-is c = ap₂ (λ (x y : ℕ). x * y) (c .wide32 .ensures .0)
+    (ap₂ (λ (x y : ℕ). x - y) (weight-is c)
+    (c .before .before .before .before .before .before .before .weigh .ensures .0))
 
-gained-most : (c : tie.After-wide32 Inv-loop μ-loop) → c .wide32 .result * (c .before .before .weigh2 .result - c .before .before .before .before .before .before .before .weigh .result) ≤ 4_294_967_296_000_000
+gained-most : (c : tie.After-wide32 Inv-loop μ-loop)
+    → c .wide32 .result *
+    (c .before .before .weigh2 .result - c .before .before .before .before .before .before .before .weigh .result) ≤
+    4_294_967_296_000_000
 gained-most c =
-    let x : c .wide32 .result ≤ 1_000_000 = omega (arith, c .wide32 .ensures .0, c .before .before .before .before .before .before .before .before .pre .1 .1 .price-most (c .before .before .before .before .before .before .loop .i) (c .before .before .before .before .before .loop-test .taken)) in
-    let y : c .before .before .weigh2 .result - c .before .before .before .before .before .before .before .weigh .result ≤ 4_294_967_296 = omega (arith, c .before .before .weigh2 .ensures .1) in
+    let x : c .wide32 .result ≤ 1_000_000 =
+    omega (
+      arith,
+      c .wide32 .ensures .0,
+      c .before .before .before .before .before .before .before .before .pre .1
+          .1 .price-most (c .before .before .before .before .before .before .loop .i)
+          (c .before .before .before .before .before .loop-test .taken),
+    ) in
+    let y : c .before .before .weigh2 .result - c .before .before .before .before .before .before .before .weigh
+    .result ≤ 4_294_967_296 = omega (arith, c .before .before .weigh2 .ensures .1) in
     mul-le-mul x y
 
 weigh-requires : tie.Need-weigh-requires Inv-loop μ-loop
@@ -71,7 +101,15 @@ wide16-requires : tie.Need-wide16-requires Inv-loop μ-loop
 wide16-requires c κs = search needs
 
 weigh-requires-2 : tie.Need-weigh-requires-2 Inv-loop μ-loop
-weigh-requires-2 c κs = (c .before .before .before .before .before .pre .1 .0, omega (arith, c .wide16 .ensures .0, c .before .before .before .before .before .pre .1 .1 .age-most (c .before .before .before .loop .i) (omega arith)))
+weigh-requires-2 c κs = (
+  c .before .before .before .before .before .pre .1 .0,
+  omega (
+    arith,
+    c .wide16 .ensures .0,
+    c .before .before .before .before .before .pre .1 .1 .age-most
+        (c .before .before .before .loop .i) (omega arith),
+  ),
+)
 
 mul-wide32 : tie.Need-mul-wide32 Inv-loop μ-loop
 mul-wide32 c = omega arith
@@ -108,7 +146,9 @@ loop-again c =
     )
 
 returns : tie.Need-returns Inv-loop μ-loop
-returns c = let s = c .before .before .before in let e : c .before .loop .i ≡ s .args .n = omega arith in c .before .loop .inv .1 ∙ ap (λ (m : ℕ). waited-of (s .args .plan) m (came s)) e
+returns c = let s = c .before .before .before in
+    let e : c .before .loop .i ≡ s .args .n = omega arith in c .before .loop .inv .1
+    ∙ ap (λ (m : ℕ). waited-of (s .args .plan) m (came s)) e
 
 pub wait-all-spec : {M : Type 1} → statement M
 wait-all-spec =

@@ -14,7 +14,9 @@ audited-requires : tie.Need-audited-requires
 audited-requires c κs = search needs
 
 returns : tie.Need-returns
-returns c = let s = c .before .before .before .before .before .args .t1 in c .audited .ensures ∙ ap (λ (h : Head). audited (state-of h (s .terms) (s .counts))) (c .before .before .before .before .head .ensures)
+returns c = let s = c .before .before .before .before .before .args .t1 in
+    c .audited .ensures ∙ ap (λ (h : Head). audited (state-of h (s .terms) (s .counts)))
+    (c .before .before .before .before .head .ensures)
 
 pub audit-spec : {M : Type 1} → statement M
 audit-spec = tie.close (tie.spec head-requires audited-requires returns)

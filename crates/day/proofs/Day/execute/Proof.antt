@@ -15,7 +15,10 @@ execute-requires : tie.Need-execute-requires
 execute-requires c κs = search needs
 
 returns : tie.Need-returns
-returns c = let a = c .before .before .before .before .before .before .before .before .args in c .before .before .execute .ensures ∙ ap (λ (h : Head). call (state-of h (a .self .terms) (a .self .counts)) (asked (a .ask))) (c .before .before .before .before .before .before .before .head .ensures)
+returns c = let a = c .before .before .before .before .before .before .before .before .args in
+    c .before .before .execute .ensures
+    ∙ ap (λ (h : Head). call (state-of h (a .self .terms) (a .self .counts)) (asked (a .ask)))
+    (c .before .before .before .before .before .before .before .head .ensures)
 
 pub execute-spec : {M : Type 1} → statement M
 execute-spec = tie.close (tie.spec head-requires execute-requires returns)

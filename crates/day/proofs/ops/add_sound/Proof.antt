@@ -1,8 +1,6 @@
 -- An accepted adding: question 7 leaves room for the entry, 8 and 9 make its terms fit 32 bits, and the two writes are
 -- the campaigns with one more.
-use borrow.Author.Tests.{not-true, not-false}
-use mathlib.Core.Bool.{true, false}
-use mathlib.Core.Path.{_≡_, refl, ap, sym, _∙_}
+use mathlib.Core.Path.{_≡_, ap, sym, _∙_}
 use native.Mathlib.Omega.{arith}
 use Rattle.day.specs.declared.Day.{Day}
 use Rattle.day.specs.Day.{state-of, total-budgets}
@@ -12,7 +10,6 @@ use lib.Dec.{leb}
 use borrow.Author.Tests.{leb-true, ltb-true}
 use Rattle.finite.proofs.Tests.{both-right}
 use Rattle.day.specs.declared.Answer.the-variants.{Done}
-use Rattle.day.specs.declared.Outcome.{Outcome}
 use Rattle.questions.specs.Questions.{first-failed}
 use Rattle.day.specs.Calls.{questions}
 use Rattle.day.specs.Calls.Call.{add-campaign}
@@ -27,23 +24,34 @@ use Rattle.day.proofs.ops.add_sound.Tie as tie
 abbrev state : tie.Start → Day
 state s = state-of (s .args .head) (s .args .terms .now) (s .args .counts .now)
 
-asked : (c : tie.After-add-question) → c .add-question .result ≡ first-failed (questions (state (c .before .before .before)) (add-campaign (c .before .before .before .args .t)))
+asked : (c : tie.After-add-question)
+    → c .add-question .result ≡ first-failed
+    (questions (state (c .before .before .before)) (add-campaign (c .before .before .before .args .t)))
 unfolding total-budgets
 asked c =
     let a = c .before .before .before .args in
-    c .add-question .ensures ∙ ap (λ (b : ℕ). first-failed (add-questions (a .head) (a .t) b)) (c .before .total-budgets .ensures .0) ∙ own-asks (state (c .before .before .before)) (add-campaign (a .t)) (c .before .before .before .pre .is-sound)
+    c .add-question .ensures ∙ ap (λ (b : ℕ). first-failed (add-questions (a .head) (a .t) b))
+    (c .before .total-budgets .ensures .0) ∙ own-asks (state (c .before .before .before)) (add-campaign (a .t))
+    (c .before .before .before .pre .is-sound)
 
-yes : (c : tie.Else1) → Yes (questions (state (c .before .before .before .before)) (add-campaign (c .before .before .before .before .args .t)))
-yes c = asked-yes (state (c .before .before .before .before)) (add-campaign (c .before .before .before .before .args .t)) (c .before .add-question .result) (asked (c .before)) (c .if1 .left)
+yes : (c : tie.Else1)
+    → Yes (questions (state (c .before .before .before .before))
+    (add-campaign (c .before .before .before .before .args .t)))
+yes c = asked-yes (state (c .before .before .before .before))
+    (add-campaign (c .before .before .before .before .args .t)) (c .before .add-question .result) (asked (c .before))
+    (c .if1 .left)
 
 room : (c : tie.Else1) → c .before .before .before .before .args .head .count < 64
 room c = ltb-true (c .before .before .before .before .args .head .count) 64 (yes c .1 .1 .0)
 
 price-narrow : (c : tie.Else1) → c .before .before .before .before .args .t .price ≤ max-price
-price-narrow c = let t = c .before .before .before .before .args .t in leb-true (t .price) max-price (both-right (leb 1 (t .price)) (leb (t .price) max-price) (yes c .1 .1 .1 .0))
+price-narrow c = let t = c .before .before .before .before .args .t in
+    leb-true (t .price) max-price (both-right (leb 1 (t .price)) (leb (t .price) max-price) (yes c .1 .1 .1 .0))
 
 budget-narrow : (c : tie.Else1) → c .before .before .before .before .args .t .budget ≤ max-budget
-budget-narrow c = let t = c .before .before .before .before .args .t in leb-true (t .budget) max-budget (both-right (leb (t .price) (t .budget)) (leb (t .budget) max-budget) (yes c .1 .1 .1 .1 .0))
+budget-narrow c = let t = c .before .before .before .before .args .t in
+    leb-true (t .budget) max-budget
+    (both-right (leb (t .price) (t .budget)) (leb (t .budget) max-budget) (yes c .1 .1 .1 .1 .0))
 
 total-budgets-requires : tie.Need-total-budgets-requires
 total-budgets-requires c κs = sound-facts (state (c .before)) (c .before .pre .is-sound) .few
@@ -55,7 +63,10 @@ refused-requires : tie.Need-refused-requires
 refused-requires c κs = search needs
 
 returns : tie.Need-returns
-returns c = let s = c .before .before .before .before .before in steps-refused (s .args .head) (s .args .terms .now) (s .args .counts .now) (add-campaign (s .args .t)) (c .refused .result) (c .before .before .add-question .result) (c .refused .ensures) (asked (c .before .before)) (c .before .if1 .taken)
+returns c = let s = c .before .before .before .before .before in
+    steps-refused (s .args .head) (s .args .terms .now) (s .args .counts .now) (add-campaign (s .args .t))
+    (c .refused .result) (c .before .before .add-question .result) (c .refused .ensures) (asked (c .before .before))
+    (c .before .if1 .taken)
 
 cast-terms : tie.Need-cast-terms
 cast-terms c = omega (arith, price-narrow (c .before))
@@ -85,7 +96,9 @@ returns-2 : tie.Need-returns-2
 returns-2 c =
     let s = c .before .before .before .before .before .before .before .before in
     let y = yes (c .before .before .before .before) in
-    ap (λ (d : Day). record { day = d; answer = Done }) (joined-is (state s) (s .args .t) (s .pre .room) (sound-facts (state s) (s .pre .is-sound)) (room (c .before .before .before .before)) (y .1 .0))
+    ap (λ (d : Day). record { day = d; answer = Done })
+    (joined-is (state s) (s .args .t) (s .pre .room) (sound-facts (state s) (s .pre .is-sound))
+    (room (c .before .before .before .before)) (y .1 .0))
     ∙ sym (call-yes (state s) (add-campaign (s .args .t)) y)
 
 pub add-sound-spec : {M : Type 1} → statement M

@@ -1,7 +1,7 @@
 -- The limits first, since only a plan that passes them has weights; then the rest of the tests. Both are `audited`.
 use borrow.Author.Tests.{not-true, not-false}
-use mathlib.Core.Bool.{true, false}
-use mathlib.Core.Path.{_≡_, refl, ap, sym, _∙_}
+use mathlib.Core.Bool.{true}
+use mathlib.Core.Path.{_≡_, sym, _∙_}
 use Prim.Native.Nat.{ℕ}
 use Rattle.campaigns.specs.declared.Campaign.{Campaign}
 use Rattle.campaigns.specs.Campaign.{campaign-at}
@@ -30,7 +30,8 @@ returns c =
     let s = c .before .before .before in
     let limits-hold = c .before .before .limits-hold in
     c .unsound .ensures
-    ∙ sym (audit-outside (s .args .head) (came s) (sym (limits-hold .ensures) ∙ not-true (limits-hold .result) (c .before .if1 .taken)))
+    ∙ sym (audit-outside (s .args .head) (came s)
+    (sym (limits-hold .ensures) ∙ not-true (limits-hold .result) (c .before .if1 .taken)))
 
 weights-requires : tie.Need-weights-requires
 weights-requires c κs = let s = c .before .before .before in plan-of (s .args .head) (came s) (limited (c .before))

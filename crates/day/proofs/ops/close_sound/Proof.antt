@@ -1,7 +1,7 @@
 -- The figures of the audit, which of a sound state are the takings, the total claim and full.
 use borrow.Author.Tests.{not-true, not-false}
-use mathlib.Core.Bool.{true, false}
-use mathlib.Core.Path.{_≡_, refl, ap, sym, _∙_}
+use mathlib.Core.Bool.{true}
+use mathlib.Core.Path.{_≡_, ap, sym, _∙_}
 use native.Mathlib.Omega.{arith}
 use Rattle.day.specs.declared.Day.{Day}
 use Rattle.day.specs.Day.{state-of}
@@ -26,7 +26,11 @@ state s = state-of (s .args .head) (s .args .terms .now) (s .args .counts .now)
 
 asked-11 : (c : tie.Then1) → 11 ≡ first-failed (questions (state (c .before .before)) close-day)
 unfolding first-failed
-asked-11 c = rw (c .before .before .pre .1 .is-sound, sym (c .before .running .ensures) ∙ not-true (c .before .running .result) (c .if1 .taken))
+asked-11 c = rw (
+  c .before .before .pre .1 .is-sound,
+  sym (c .before .running .ensures)
+      ∙ not-true (c .before .running .result) (c .if1 .taken),
+)
 
 runs : (c : tie.Else1) → is-running (c .before .before .args .head .phase) ≡ true
 runs c = sym (c .before .running .ensures) ∙ not-false (c .before .running .result) (c .if1 .left)
@@ -41,7 +45,9 @@ refused-requires : tie.Need-refused-requires
 refused-requires c κs = search needs
 
 returns : tie.Need-returns
-returns c = let s = c .before .before .before in steps-refused (s .args .head) (s .args .terms .now) (s .args .counts .now) close-day (c .refused .result) 11 (c .refused .ensures) (asked-11 (c .before)) (λ e. omega arith)
+returns c = let s = c .before .before .before in
+    steps-refused (s .args .head) (s .args .terms .now) (s .args .counts .now) close-day (c .refused .result) 11
+    (c .refused .ensures) (asked-11 (c .before)) (λ e. omega arith)
 
 audit-parts-requires : tie.Need-audit-parts-requires
 unfolding sound
@@ -55,7 +61,8 @@ returns-2 c =
     let s = c .before .before .before .before in
     let a = c .audit-parts in
     let k = s .pre .1 .is-sound in
-    ap (closing (state s)) (audit-figures (s .args .head) (campaign (state s)) (a .result) (a .ensures) k) ∙ sym (call-yes (state s) close-day (k, (runs (c .before .before), tt)))
+    ap (closing (state s)) (audit-figures (s .args .head) (campaign (state s)) (a .result) (a .ensures) k)
+    ∙ sym (call-yes (state s) close-day (k, (runs (c .before .before), tt)))
 
 pub close-sound-spec : {M : Type 1} → statement M
 close-sound-spec =

@@ -1,5 +1,5 @@
 -- A call of a state that is not sound gets 1; any other goes to the operations of a sound state.
-use mathlib.Core.Path.{_≡_, ap, _∙_}
+use mathlib.Core.Path.{ap, _∙_}
 use borrow.Author.Needs.{needs}
 use borrow.Author.Tests.{not-true, not-false}
 use Rattle.day.specs.declared.Step.{Step}
@@ -24,7 +24,8 @@ returns c =
     let a = known .before .before .before .before .before .before .before .args in
     let p = known .prepare in
     ap (λ (x : Step). outcome-of x (a .terms .now) (a .counts .now)) (c .refused .ensures)
-    ∙ unsound-refused (state-of (a .head) (a .terms .now) (a .counts .now)) (asked (a .ask)) (p .ensures .sound-is ∙ not-true (p .result) (c .before .if1 .taken))
+    ∙ unsound-refused (state-of (a .head) (a .terms .now) (a .counts .now)) (asked (a .ask))
+    (p .ensures .sound-is ∙ not-true (p .result) (c .before .if1 .taken))
 
 execute-sound-requires : tie.Need-execute-sound-requires
 execute-sound-requires c κs =

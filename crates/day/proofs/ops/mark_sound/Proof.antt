@@ -23,7 +23,8 @@ state s = state-of (s .args .head) (s .args .terms .now) (s .args .counts .now)
 abbrev ask : tie.Start → Call
 ask s = mark-campaign (s .args .paused) (s .args .campaign)
 
-asked : (c : tie.After-mark-question) → c .mark-question .result ≡ first-failed (questions (state (c .before)) (ask (c .before)))
+asked : (c : tie.After-mark-question)
+    → c .mark-question .result ≡ first-failed (questions (state (c .before)) (ask (c .before)))
 asked c = c .mark-question .ensures ∙ own-asks (state (c .before)) (ask (c .before)) (c .before .pre .is-sound)
 
 yes : (c : tie.Else1) → Yes (questions (state (c .before .before)) (ask (c .before .before)))

@@ -1,5 +1,5 @@
 -- The mark is set by `including`, and cleared by taking out the set of i alone.
-use mathlib.Core.Path.{_≡_, ap, _∙_}
+use mathlib.Core.Path.{ap, _∙_}
 use borrow.Author.Needs.{needs}
 use Rattle.sets.specs.Set.{without}
 use Rattle.day.specs.Calls.{marked}

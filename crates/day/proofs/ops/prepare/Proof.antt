@@ -35,7 +35,8 @@ returns c =
     }
 
 weights-requires : tie.Need-weights-requires
-weights-requires c κs = let s = c .before .before .before in plan-of (s .args .head) (came s) (within-limits (c .before))
+weights-requires c κs =
+    let s = c .before .before .before in plan-of (s .args .head) (came s) (within-limits (c .before))
 
 audit-parts-requires : tie.Need-audit-parts-requires
 audit-parts-requires c κs = (c .before .weights .ensures, within-limits (c .before .before .before))

@@ -1,7 +1,7 @@
 -- Question 6 is the only one that is left of a sound state; where it is answered yes, the phase alone changes.
 use borrow.Author.Tests.{not-true, not-false}
-use mathlib.Core.Bool.{true, false}
-use mathlib.Core.Path.{_≡_, refl, ap, sym, _∙_}
+use mathlib.Core.Bool.{true}
+use mathlib.Core.Path.{_≡_, sym, _∙_}
 use native.Mathlib.Omega.{arith}
 use Rattle.day.specs.declared.Day.{Day}
 use Rattle.day.specs.Day.{state-of}
@@ -20,7 +20,11 @@ state s = state-of (s .args .head) (s .args .terms .now) (s .args .counts .now)
 
 asked-6 : (c : tie.Then1) → 6 ≡ first-failed (questions (state (c .before .before)) start-day)
 unfolding first-failed
-asked-6 c = rw (c .before .before .pre .is-sound, sym (c .before .filling .ensures) ∙ not-true (c .before .filling .result) (c .if1 .taken))
+asked-6 c = rw (
+  c .before .before .pre .is-sound,
+  sym (c .before .filling .ensures)
+      ∙ not-true (c .before .filling .result) (c .if1 .taken),
+)
 
 fills : (c : tie.Else1) → is-filling (c .before .before .args .head .phase) ≡ true
 fills c = sym (c .before .filling .ensures) ∙ not-false (c .before .filling .result) (c .if1 .left)
@@ -32,10 +36,13 @@ refused-requires : tie.Need-refused-requires
 refused-requires c κs = search needs
 
 returns : tie.Need-returns
-returns c = let s = c .before .before .before in steps-refused (s .args .head) (s .args .terms .now) (s .args .counts .now) start-day (c .refused .result) 6 (c .refused .ensures) (asked-6 (c .before)) (λ e. omega arith)
+returns c = let s = c .before .before .before in
+    steps-refused (s .args .head) (s .args .terms .now) (s .args .counts .now) start-day (c .refused .result) 6
+    (c .refused .ensures) (asked-6 (c .before)) (λ e. omega arith)
 
 returns-2 : tie.Need-returns-2
-returns-2 c = let s = c .before .before .before in sym (call-yes (state s) start-day (s .pre .is-sound, (fills (c .before), tt)))
+returns-2 c = let s = c .before .before .before in
+    sym (call-yes (state s) start-day (s .pre .is-sound, (fills (c .before), tt)))
 
 pub start-sound-spec : {M : Type 1} → statement M
 start-sound-spec = tie.close (tie.spec filling-requires refused-requires returns returns-2)

@@ -1,7 +1,5 @@
 -- Question 15 puts the campaign below the count, thus in the arrays; its four counts are the answer.
-use borrow.Author.Tests.{not-true, not-false}
-use mathlib.Core.Bool.{true, false}
-use mathlib.Core.Path.{_≡_, refl, ap, sym, _∙_}
+use mathlib.Core.Path.{_≡_, ap, sym, _∙_}
 use native.Mathlib.Omega.{arith}
 use Rattle.day.specs.declared.Day.{Day}
 use Rattle.day.specs.Day.{state-of}
@@ -21,9 +19,14 @@ use Rattle.day.proofs.ops.tally_sound.Tie as tie
 abbrev state : tie.Start → Day
 state s = state-of (s .args .head) (s .args .terms .now) (s .args .counts .now)
 
-asked-15 : (c : tie.Then1) → 15 ≡ first-failed (questions (state (c .before .before)) (ask-tally (c .before .before .args .campaign)))
+asked-15 : (c : tie.Then1)
+    → 15 ≡ first-failed (questions (state (c .before .before)) (ask-tally (c .before .before .args .campaign)))
 unfolding first-failed
-asked-15 c = rw (c .before .before .pre .is-sound, le-ltb (c .before .before .args .campaign) (c .before .before .args .head .count) (c .if1 .taken))
+asked-15 c = rw (
+  c .before .before .pre .is-sound,
+  le-ltb (c .before .before .args .campaign)
+      (c .before .before .args .head .count) (c .if1 .taken),
+)
 
 abbrev tallied : Day → Campaign → Outcome
 tallied s x = record { day = s; answer = tally-of x }
@@ -32,13 +35,18 @@ refused-requires : tie.Need-refused-requires
 refused-requires c κs = search needs
 
 returns : tie.Need-returns
-returns c = let s = c .before .before .before in steps-refused (s .args .head) (s .args .terms .now) (s .args .counts .now) (ask-tally (s .args .campaign)) (c .refused .result) 15 (c .refused .ensures) (asked-15 (c .before)) (λ e. omega arith)
+returns c = let s = c .before .before .before in
+    steps-refused (s .args .head) (s .args .terms .now) (s .args .counts .now) (ask-tally (s .args .campaign))
+    (c .refused .result) 15 (c .refused .ensures) (asked-15 (c .before)) (λ e. omega arith)
 
 entry-requires : tie.Need-entry-requires
-entry-requires c κs = let h = sound-facts (state (c .before .before)) (c .before .before .pre .is-sound) in omega (arith, h .few, c .if1 .left)
+entry-requires c κs = let h = sound-facts (state (c .before .before)) (c .before .before .pre .is-sound) in
+    omega (arith, h .few, c .if1 .left)
 
 returns-2 : tie.Need-returns-2
-returns-2 c = let s = c .before .before .before in ap (tallied (state s)) (c .entry .ensures .0) ∙ sym (call-yes (state s) (ask-tally (s .args .campaign)) (s .pre .is-sound, (lt-ltb (s .args .campaign) (s .args .head .count) (c .before .if1 .left), tt)))
+returns-2 c = let s = c .before .before .before in ap (tallied (state s)) (c .entry .ensures .0)
+    ∙ sym (call-yes (state s) (ask-tally (s .args .campaign))
+    (s .pre .is-sound, (lt-ltb (s .args .campaign) (s .args .head .count) (c .before .if1 .left), tt)))
 
 pub tally-sound-spec : {M : Type 1} → statement M
 tally-sound-spec = tie.close (tie.spec refused-requires returns entry-requires returns-2)

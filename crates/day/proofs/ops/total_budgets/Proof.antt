@@ -10,7 +10,8 @@ use Rattle.day.proofs.ops.total_budgets.Statement.{statement}
 use Rattle.day.proofs.ops.total_budgets.Tie as tie
 
 abbrev Inv-loop : tie.InvT-loop
-Inv-loop n terms counts all₀ i₀ all i = (i ≤ n) × (all ≡ sum i (λ j. campaign-at terms counts j .budget)) × (all ≤ i * 4_294_967_296)
+Inv-loop n terms counts all₀ i₀ all i = (i ≤ n) × (all ≡ sum i (λ j. campaign-at terms counts j .budget))
+    × (all ≤ i * 4_294_967_296)
 
 abbrev μ-loop : tie.MeasureT-loop
 μ-loop n terms counts all₀ i₀ all i = n - i
@@ -44,10 +45,21 @@ loop-less : tie.Need-loop-less Inv-loop μ-loop
 loop-less c = omega arith
 
 loop-again : tie.Need-loop-again Inv-loop μ-loop
-loop-again c = let l = c .before .before .before .loop in (omega arith, omega (arith, sum-next (l .i) (budget (c .before .before .before .before)), l .inv .1, c .wide32 .ensures .0), omega (arith, c .wide32 .ensures .1, l .inv .2))
+loop-again c = let l = c .before .before .before .loop in (
+  omega arith,
+  omega (
+    arith,
+    sum-next (l .i) (budget (c .before .before .before .before)),
+    l .inv .1,
+    c .wide32
+        .ensures .0,
+  ),
+  omega (arith, c .wide32 .ensures .1, l .inv .2),
+)
 
 returns : tie.Need-returns Inv-loop μ-loop
-returns c = let s = c .before .before in let e : c .before .loop .i ≡ s .args .n = omega arith in (c .before .loop .inv .1 ∙ ap (λ (m : ℕ). sum m (budget s)) e, omega (arith, c .before .loop .inv .2))
+returns c = let s = c .before .before in let e : c .before .loop .i ≡ s .args .n = omega arith in
+    (c .before .loop .inv .1 ∙ ap (λ (m : ℕ). sum m (budget s)) e, omega (arith, c .before .loop .inv .2))
 
 pub total-budgets-spec : {M : Type 1} → statement M
 total-budgets-spec =

@@ -1,6 +1,6 @@
 -- The answer's first line and, on closing, the tallies behind it are the reply to the line (`Serving`); what `respond`
 -- left is ready.
-use mathlib.Core.Path.{_≡_, sym, _∙_}
+use mathlib.Core.Path.{sym, _∙_}
 use native.Mathlib.Omega.{arith}
 use borrow.Author.Needs.{needs}
 use Rattle.day.specs.declared.Day.{Day}

@@ -3,7 +3,7 @@
 use mathlib.Core.Path.{_≡_, refl, ap, sym, subst, _∙_}
 use mathlib.Core.Bool.{Bool, true, false}
 use mathlib.Core.List.{[], _∷_}
-use mathlib.Core.Logic.{_⊎_, inl, inr}
+use mathlib.Core.Logic.{inl, inr}
 use Prim.Native.Nat.{ℕ, _≤_}
 use native.Mathlib.Omega.{arith}
 use types.Run.{OneOf}
@@ -173,12 +173,14 @@ returns-6 c =
 returns-7 : tie.Need-returns-7
 returns-7 c =
     let arm = c .before .before .before .before in
-    marking (arm .before .before) false _ (c .mark-sound2 .result) (arm .input5 .given .1) refl (c .mark-sound2 .ensures)
+    marking (arm .before .before) false _ (c .mark-sound2 .result) (arm .input5 .given .1) refl
+    (c .mark-sound2 .ensures)
 
 returns-8 : tie.Need-returns-8
 returns-8 c =
     let s = c .before .before in
-    no-call s 17 (c .refused .result) refl (output-fails (s .args .input) (c .before .match .keys8)) (c .refused .ensures)
+    no-call s 17 (c .refused .result) refl (output-fails (s .args .input) (c .before .match .keys8))
+    (c .refused .ensures)
 
 pub execute-spec : {M : Type 1} → statement M
 execute-spec =

@@ -1,10 +1,9 @@
 -- Byte 10 ends a line that has bytes pending; else there is nothing to end.
-use mathlib.Core.Path.{_≡_}
 use native.Mathlib.Omega.{arith}
 use lib.ListN.{length-take}
 use borrow.Author.Needs.{needs}
 use Rattle.stream.specs.declared.feed.Stream.{Stream}
-use Rattle.stream.specs.Stream.{stream-at, fed-at}
+use Rattle.stream.specs.Stream.{stream-at}
 use Rattle.stream.proofs.Streams.{finishes-idle, finishes-fed}
 use Rattle.stream.proofs.feed.finish_in_place.Statement.{statement}
 use Rattle.stream.proofs.feed.finish_in_place.Tie as tie

@@ -1,6 +1,6 @@
 -- After the batch the input is used up, there is no room, or no line ends in what is left, which is then kept.
 use mathlib.Core.Bool.{Bool, true, false, _||_}
-use mathlib.Core.Path.{_≡_, refl, sym, subst, _∙_}
+use mathlib.Core.Path.{_≡_, refl, sym, subst}
 use Prim.Native.Nat.{ℕ, _+_, _-_, _≤_}
 use native.Mathlib.Omega.{arith}
 use lib.Dec.{eqb, ltb}
@@ -10,7 +10,7 @@ use borrow.Author.Tests.{ltb-false}
 use Rattle.finite.proofs.Tests.{never}
 use Rattle.day.specs.Day.{state-of}
 use Rattle.reply.specs.Session.{Session}
-use Rattle.batch.specs.Contracts.{Position, position, Progress}
+use Rattle.batch.specs.Contracts.{position, Progress}
 use Rattle.stream.specs.Stream.{session}
 use Rattle.stream.proofs.Runs.{rest-stands, stands-first, runs-through, runs-ended}
 use Rattle.stream.proofs.feed.run.Statement.{statement}

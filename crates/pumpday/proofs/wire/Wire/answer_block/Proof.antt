@@ -1,6 +1,6 @@
 -- The block, part by part. The loop's invariant: the bytes before the place were taken and their answers told
 -- (`Tells`). With room for the longest answer a part takes a byte at least, so that fewer and fewer bytes are left.
-use mathlib.Core.Path.{_≡_, refl, sym, _∙_}
+use mathlib.Core.Path.{_≡_, refl, _∙_}
 use Prim.Native.Nat.{_≤_, _-_}
 use native.Mathlib.Omega.{arith}
 use lib.ListN.{length, take}
