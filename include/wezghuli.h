@@ -60,7 +60,8 @@ extern "C" {
 
 /* A state, in memory of the caller. It may be copied, stored and sent as it is; its numbers are in the machine's byte
  * order. A state whose bytes were changed by somebody else is refused with 1 or 100 by every operation but
- * wezghuli_blank, unless what it then says is sound. */
+ * wezghuli_blank, unless what it then says is sound; a stream with such a state answers each call among its lines with
+ * (refused 1), or is refused with 100. */
 typedef struct {
     uint64_t head[7];     /* see WEZGHULI_HEAD_.. */
     uint32_t terms[128];  /* campaign i: its price at i, its budget at i + WEZGHULI_TERMS_BUDGET */

@@ -11,9 +11,9 @@ use Rattle.day.specs.Day.{sound}
 use Rattle.questions.specs.Questions.{first-failed, width-holds}
 use Rattle.day.specs.Calls.{marked, call}
 use Rattle.demands.specs.Transcript.{transcript, final}
-use Rattle.demands.specs.Cases.{All-hold, cases}
+use Rattle.demands.specs.Cases.{Cases-hold}
 
-pub cases-hold : All-hold cases
+pub cases-hold : Cases-hold
 unfolding transcript final call first-failed sound sound-record blank sum count every table within size member
     collect without including marked
     width-holds weight share whole claim total-takings total-claim total-budgets sound-plan priced counted uncounted

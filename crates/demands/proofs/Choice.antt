@@ -16,7 +16,7 @@ use Rattle.day.specs.declared.Day.{Day}
 use Rattle.day.specs.Day.{campaign}
 use Rattle.day.specs.Calls.{found, player}
 use Rattle.demands.specs.Choice.{Right}
-use Rattle.demands.specs.Demands.{Plays-right}
+use Rattle.demands.specs.Demands.{Always-right}
 
 -- a law on both sides of m and at m
 by-order : (P : ℕ → Type 0) (m i : ℕ) → (i < m → P i) → P m → (m < i → P i) → P i
@@ -154,7 +154,7 @@ choice-eq n a b f g h q = choice-only n b g (choice n a f) (go (choice n a f) (c
 
 -- who plays a view: of the named campaigns that are not paused and can pay the one with the greatest score, the lowest
 -- such
-pub player-right : (s : Day) (w : View) → Plays-right s w
+pub player-right : Always-right
 player-right s w =
     let v = found s w in
     choice-right (s .count) (able (s .plan) v (campaign s)) (λ i. figure (s .plan) v i (campaign s i))

@@ -7,7 +7,7 @@ use Rattle.day.specs.declared.Day.{Day}
 use Rattle.day.specs.declared.Outcome.{Outcome}
 use Rattle.day.specs.Calls.{values, Call, view-answer, offers, player, result}
 use Rattle.day.specs.Calls.Call.{open-plan, add-campaign, start-day, show-view, ask-tally, close-day, mark-campaign}
-use Rattle.demands.specs.Demands.{view-values, accepted-values, Answers}
+use Rattle.demands.specs.Demands.{view-values, accepted-values, Always-answers}
 use Rattle.demands.proofs.Refusals.{call-number, refused-unchanged, accepted-result}
 use Rattle.demands.proofs.Sound.{sound-kept}
 
@@ -24,7 +24,7 @@ result-values s (ask-tally i) = refl
 result-values s close-day = refl
 result-values s (mark-campaign b i) = refl
 
-pub answers : (s : Day) (c : Call) → Answers s c
+pub answers : Always-answers
 answers s c = record {
   number-is = call-number s c;
   refusal = λ h. let r = refused-unchanged s c h in (r .0, ap values (r .1));

@@ -159,3 +159,6 @@ cases =
     resumed (state-marked (Closed 0) 1 0 2) (ask-tally 0 gives Refused 1 ∷ plan 1 1 gives Refused 1 ∷ []) ∷
     resumed (state-marked (Closed 0) 1 0 1) (ask-tally 0 gives Tallied 0 0 0 0 ∷ plan 1 1 gives Done ∷ []) ∷
     []
+
+abbrev pub Cases-hold : Type 0
+Cases-hold = All-hold cases

@@ -45,10 +45,17 @@ pub record Answers (s : Day) (c : Call) : Type 0 where
   pub values-are : number (call s c .answer) ≡ 0 → values (call s c .answer) ≡ accepted-values s c
   pub keeps-sound : sound s ≡ true → sound (call s c .day) ≡ true
 
+-- of every call on every state, whoever made it
+abbrev pub Always-answers : Type 0
+Always-answers = (s : Day) (c : Call) → Answers s c
+
 -- the player of a view is rule 1's, among the named campaigns that are not paused and can pay
 abbrev pub Plays-right : Day → View → Type 0
 Plays-right s w = let v = found s w in
     Right (s .count) (able (s .plan) v (campaign s)) (λ i. figure (s .plan) v i (campaign s i)) (player s w)
+
+abbrev pub Always-right : Type 0
+Always-right = (s : Day) (w : View) → Plays-right s w
 
 -- A view that finds nobody, since it names no campaign (document 02, request 2) or none but paused ones (request 3): it
 -- is answered nobody and counted, and all else stays.

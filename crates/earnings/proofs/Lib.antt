@@ -1,2 +1,3 @@
 pub mod Divisors
 pub mod Told
+pub mod Numbers

@@ -1,7 +1,9 @@
 -- What the day took beside what it could have earned, and its line.
-use mathlib.Core.List.{List, _++_}
+use mathlib.Core.Path.{_≡_}
+use mathlib.Core.List.{List, [], _∷_, _++_}
 use Prim.Native.Nat.{ℕ, zero, suc}
-use Rattle.lines.specs.Form.{bytes}
+use Rattle.lines.specs.declared.Record.the-variants as lines
+use Rattle.lines.specs.Form.{bytes, text}
 use Rattle.lines.specs.Numeral.{numeral}
 use Rattle.day.specs.declared.Day.{Day}
 use Rattle.day.specs.Day.{total-takings}
@@ -23,6 +25,22 @@ question-of s views = first-failed (questions s views max-handed-in 64 max-hande
 unfoldable pub earned : Day → (views : List ℕ) → Earnings
 earned s views = earnings-of (question-of s views) (total-takings s) (most-of s views)
 
+-- the number of an answer, 0 where it is accepted, and its values
+abbrev pub number : Earnings → ℕ
+number (Refused q) = q
+number (Figures t g) = 0
+
+abbrev pub values : Earnings → List ℕ
+values (Refused q) = q ∷ []
+values (Figures t g) = t ∷ g ∷ []
+
+pub record Tells (s : Day) (views : List ℕ) : Type 0 where
+  pub number-is : number (earned s views) ≡ question-of s views
+  pub values-are : question-of s views ≡ 0 → values (earned s views) ≡ total-takings s ∷ most-of s views ∷ []
+
+abbrev pub Always-tells : Type 0
+Always-tells = (s : Day) (views : List ℕ) → Tells s views
+
 -- room for every line
 abbrev pub report-room : ℕ
 report-room = 128
@@ -33,8 +51,9 @@ figures-text t g =
     bytes "(takings " ++ (numeral t ++ (bytes ") (greatest " ++ (numeral g ++ (bytes ") (ratio " ++
     (numeral (ratio-of t g .numerator) ++ (bytes "/" ++ (numeral (ratio-of t g .denominator) ++ bytes ")\n")))))))
 
+-- that of a refusal is document 01's
 unfoldable pub refusal-text : (question : ℕ) → List ℕ
-refusal-text q = bytes "(refused " ++ (numeral q ++ bytes ")\n")
+refusal-text q = text (lines.Refused q) ++ (10 ∷ [])
 
 abbrev pub earnings-text : Earnings → List ℕ
 earnings-text (Refused q) = refusal-text q

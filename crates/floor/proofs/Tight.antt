@@ -25,7 +25,7 @@ use Rattle.demands.specs.Transcript.{transcript}
 use Rattle.floor.specs.History.{History, day-takings, continued, history}
 use Rattle.floor.specs.History.Starts.{from-blank}
 use Rattle.floor.specs.Floor.{price-of, whole-of, falls-short, names-at, Allotted, takings-of}
-use Rattle.floor.specs.Tight.{Met, Exact, exact-days, calls-of, Tight}
+use Rattle.floor.specs.Tight.{Met, Exact, exact-days, calls-of, Tight, Exact-days-tight}
 
 -- the tests that a computed day passes
 abbrev met-tests : History → (ℕ → ℕ) → List Bool
@@ -89,7 +89,7 @@ tight-of (x ∷ xs) c = (
   tight-of xs (c .1),
 )
 
-pub tight : Tight exact-days
+pub tight : Exact-days-tight
 unfolding day-of transcript continued call first-failed sound sound-record blank sum count every table total within
     size member width-holds weight share whole claim total-takings total-claim total-budgets sound-plan priced counted
     uncounted empty sound-campaign best choice times takings collect without including marked

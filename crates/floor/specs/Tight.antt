@@ -100,3 +100,6 @@ abbrev pub Tight : List Exact → Type 0
 Tight [] = Unit {0}
 Tight (x ∷ xs) = (Starts blank (calls-of x) × Met (history (transcript blank (calls-of x))) (λ j. getD (x .to) j 64))
     × Tight xs
+
+abbrev pub Exact-days-tight : Type 0
+Exact-days-tight = Tight exact-days

@@ -63,7 +63,8 @@ fn everyone(count: u64) -> u64
     (1 << count) - 1
 }
 
-// Of the campaigns not served, of which there is one, the dearest; the lowest of equals.
+// Of the campaigns not served, of which there is one, a dearest. Which of equals is free: any gives the greatest
+// takings.
 fn dearest(prices: &[u32; 128], unserved: u64) -> u64
     requires { ⌜ (unserved ≡ 0 → ⊥) ⌝ }
     ensures { λ r. ⌜ Dearest (now (prices .entry)) unserved r ⌝ }

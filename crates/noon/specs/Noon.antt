@@ -1,4 +1,5 @@
 -- The figures that an owner can compare at noon, or at any other moment of a day (document 02, request 1).
+use mathlib.Core.Path.{_≡_}
 use mathlib.Core.List.{List, [], _∷_}
 use Prim.Native.Nat.{ℕ, zero, suc, _*_, _/_, min}
 use Rattle.finite.specs.Finite.{sum}
@@ -47,3 +48,11 @@ figures-of s = Figures (full (s .plan) (total-takings s)) (total-claim s) (floor
 
 unfoldable pub at-noon : Day → Noon
 at-noon s = answered (first-failed (noon-questions s)) (figures-of s)
+
+pub record Tells (s : Day) : Type 0 where
+  pub number-is : number (at-noon s) ≡ first-failed (noon-questions s)
+  pub values-are : first-failed (noon-questions s) ≡ 0
+      → values (at-noon s) ≡ full (s .plan) (total-takings s) ∷ total-claim s ∷ floor-figure s ∷ []
+
+abbrev pub Always-tells : Type 0
+Always-tells = (s : Day) → Tells s

@@ -20,7 +20,7 @@ use Rattle.optimum.specs.declared.Verdict.the-variants as verdict
 use Rattle.optimum.specs.Optimum.{price-of, whole-of, questions, failed, Fits, fits, most-of, takings-of}
 use Rattle.optimum.specs.Optimum.{number, values, found, takings-questions, takings-answer}
 use Rattle.optimum.specs.Optimum.{verdict-of, Accepts-exactly, Accepted-is-best, Search-accepted, Search-taken}
-use Rattle.optimum.specs.Optimum.{verdict-number, verdict-values, Tells}
+use Rattle.optimum.specs.Optimum.{verdict-number, verdict-values, Always-tells}
 use Rattle.optimum.proofs.Asked.{Granted, granted, few-campaigns}
 
 -- an accepting answer: no question failed and the test passed
@@ -119,7 +119,7 @@ values-told : (b : Bool) → verdict-values (verdict-of 0 b) ≡ one-if b ∷ []
 values-told true = refl
 values-told false = refl
 
-pub tells : (s : Day) (views allotment surplus worth : List ℕ) → Tells s views allotment surplus worth
+pub tells : Always-tells
 tells s views allotment surplus worth =
     let q = failed s views allotment surplus worth in
     let b = fits s views allotment surplus worth in

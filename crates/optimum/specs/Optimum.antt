@@ -1,5 +1,5 @@
--- What the day could have earned: the questions of the search and of the check, and what each gives. Of the state only
--- the plan counts: prices, budgets and the number of campaigns. A view is its set of unpaused names.
+-- What the day could have earned: the questions of the search and of the check, and what each gives. Beyond question 1
+-- only the plan of the state counts: prices, budgets and the number of campaigns. A view is its set of unpaused names.
 use mathlib.Core.Path.{_≡_}
 use mathlib.Core.Bool.{Bool, true, false, _&&_}
 use mathlib.Core.List.{List, [], _∷_}
@@ -157,3 +157,6 @@ pub record Tells (s : Day) (views allotment surplus worth : List ℕ) : Type 0 w
   pub check-values : failed s views allotment surplus worth ≡ 0
       → verdict-values (checked s views allotment surplus worth)
       ≡ one-if (fits s views allotment surplus worth) ∷ []
+
+abbrev pub Always-tells : Type 0
+Always-tells = (s : Day) (views allotment surplus worth : List ℕ) → Tells s views allotment surplus worth

@@ -14,7 +14,7 @@ ghost use Rattle.lines.specs.Limits.{line-buffer};
 ghost use Rattle.lines.specs.Reading.{reading};
 ghost use Rattle.reply.specs.Reply.{request, request-of};
 ghost use Rattle.reply.specs.Session.{reply-room, upto};
-ghost use Rattle.stream.specs.Stream.{finished, session-of};
+ghost use Rattle.stream.specs.Stream.{finished, session-of, stream-of};
 ghost use Rattle.recording.specs.Recording.{shown-in, noted};
 ghost use Rattle.recording.specs.Contracts.{Took};
 
@@ -103,7 +103,8 @@ fn take_line(stream: Stream, line: &[u8], views: &mut [u64], out: &mut [u8]) -> 
     last.stream
 }
 
-// A block of the day's input.
+// A block of the day's input. The lent bytes `out` are room for its answers, which nobody is told: what stands in them
+// afterwards is free, here and at the end.
 pub fn take_block(stream: Stream, block: &[u8], views: &mut [u64], out: &mut [u8]) -> Stream
     requires { ⌜ reply-room ≤ length (now out) ⌝ }
     ensures { λ r. ⌜ Took stream (now (views .entry)) (now (block .entry)) r (now (views .exit)) ⌝ }
@@ -124,7 +125,7 @@ pub fn take_block(stream: Stream, block: &[u8], views: &mut [u64], out: &mut [u8
 // The end of the input: a last line without byte 10 counts if it has bytes.
 pub fn take_end(stream: Stream, views: &mut [u64], out: &mut [u8]) -> Stream
     requires { ⌜ reply-room ≤ length (now out) ⌝ }
-    ensures { λ r. ⌜ (r .day ≡ finished (session-of stream) .day)
+    ensures { λ r. ⌜ (r ≡ stream-of (finished (session-of stream)))
         × (now (views .exit) ≡ noted (stream .day) (session-of stream .pending) (now (views .entry))) ⌝ }
 {
     note(stream, views);

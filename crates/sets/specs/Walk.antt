@@ -37,3 +37,6 @@ pub record One-way (set : ℕ) : Type 0 where
   pub as-many : length (members set) ≡ size set
   pub only : (rs : List ℕ) → Steps set 0 rs → rs ≡ members set
   pub one-step : next set 0 < 64 → members set ≡ next set 0 ∷ members (beyond set (next set 0))
+
+abbrev pub Always-one-way : Type 0
+Always-one-way = (set : ℕ) → One-way set

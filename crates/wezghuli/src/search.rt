@@ -1,5 +1,5 @@
 // What the day could have earned, its check, and the takings of an allotment, for a state in lent memory, of which only
-// the plan counts.
+// the plan counts once it is sound.
 use encoding::STATUS_ACCEPTED;
 use encoding::STATUS_NO_FIT;
 use encoding::STATUS_NO_HEAD;

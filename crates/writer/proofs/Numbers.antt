@@ -8,9 +8,9 @@ use lib.ListN.{length}
 use borrow.Author.Tests.{eqb-true}
 use Rattle.lines.specs.declared.Record.{Record}
 use Rattle.writer.specs.declared.Writing.the-variants.{Length, Refusal}
-use Rattle.writer.specs.Writing.{line, question, writing, number, values, Number-and-values}
+use Rattle.writer.specs.Writing.{line, question, writing, number, values, Always-number-and-values}
 
-pub number-and-values : (r : Record) (d : List ℕ) → Number-and-values r d
+pub number-and-values : Always-number-and-values
 unfolding writing
 number-and-values r d = record {
   number-is = numbered (eqb (question r d) 0) refl;

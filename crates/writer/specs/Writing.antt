@@ -39,3 +39,6 @@ values (Refusal q) = q ∷ []
 pub record Number-and-values (r : Record) (d : List ℕ) : Type 0 where
   pub number-is : number (writing r d) ≡ question r d
   pub values-are : values (writing r d) ≡ cond (eqb (question r d) 0) (length (line r) ∷ []) (question r d ∷ [])
+
+abbrev pub Always-number-and-values : Type 0
+Always-number-and-values = (r : Record) (d : List ℕ) → Number-and-values r d

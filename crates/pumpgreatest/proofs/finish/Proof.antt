@@ -5,6 +5,7 @@ use native.Mathlib.Omega.{arith}
 use lib.ListN.{take}
 use lib.Seq.{length-take-le}
 use borrow.Author.Needs.{needs}
+use Rattle.stream.specs.declared.feed.Stream.{Stream}
 use Rattle.earnings.specs.declared.Earnings.{Earnings}
 use Rattle.earnings.specs.Earnings.{earned}
 use Rattle.pumpgreatest.specs.Wires.{Tells}
@@ -38,7 +39,7 @@ returns c =
     let w = t .last .1 .0 in
     let told : f .result ≡ earned-at-end (s .args .stream) (s .args .views .now) =
     f .ensures ∙ ap (λ (i : ℕ). earned d (take i w)) (n .at-most .ensures)
-    ∙ ap₂ earned-of (t .ensures .0) (t .ensures .1) in
+    ∙ ap₂ earned-of (ap (λ (k : Stream). k .day) (t .ensures .0)) (t .ensures .1) in
     subst (λ (x : Earnings). Tells (s .args .wire) x (c .tell .result)) told (c .tell .ensures)
 
 pub finish-spec : {M : Type 1} → statement M

@@ -6,7 +6,7 @@ use borrow.Author.Tests.{le-leb}
 use lib.ListN.{length}
 use Rattle.reply.specs.Session.{reply-room}
 use Rattle.stream.specs.declared.feed.Fed.{Fed}
-use Rattle.stream.specs.Stream.{finished, session-of}
+use Rattle.stream.specs.Stream.{finished, session-of, stream-of}
 use Rattle.recording.proofs.take_end.Statement.{statement}
 use Rattle.recording.proofs.take_end.Tie as tie
 
@@ -16,8 +16,8 @@ returns c =
     let n = f .before .before .before .before in
     let s = n .before .before .before .before in
     let x = session-of (s .args .stream) in (
-      ap (λ (b : Fed). b .stream .day) (f .finish .ensures .back-is)
-          ∙ ap (λ (b : Bool). cond b (finished x) x .day) (le-leb reply-room (length (s .args .out .now)) (s .pre)),
+      ap (λ (b : Fed). b .stream) (f .finish .ensures .back-is)
+          ∙ ap (λ (b : Bool). stream-of (cond b (finished x) x)) (le-leb reply-room (length (s .args .out .now)) (s .pre)),
       n .note .ensures,
     )
 
