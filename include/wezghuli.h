@@ -131,7 +131,8 @@ typedef struct {
 
 /* Writes the blank state, whatever was there: Closed, depth 1, width 1, no campaigns, no views, no marks, no takings. A
  * day begins with it, or with any sound state that is Closed. It cannot fail and has no status.
- * Every other function that takes a head gives WEZGHULI_STATUS_NO_HEAD, before any question, where its words are none. */
+ * Every other function that takes a head gives WEZGHULI_STATUS_NO_HEAD, before any question, where its words are
+ * none. */
 void wezghuli_blank(uint64_t head[7], uint32_t terms[128], uint16_t counts[256]);
 
 /* Opens a plan: the state becomes Filling, with no campaigns, zero counts and none paused. Answers DONE.
