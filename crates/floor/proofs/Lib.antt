@@ -1,5 +1,6 @@
 pub mod Trace
 pub mod Reach
+pub mod Own
 pub mod Noon
 pub mod Floor
 pub mod Moments

@@ -92,7 +92,7 @@ with-view h v a = record {
 abbrev Keeps : History → Call → Outcome → Type 0
 Keeps h c o = Tracks (o .day) (entered h (record { made = c; answer = o .answer }))
 
-refused-not : (q : ℕ) → accepted (Refused (suc q)) ≡ false
+pub refused-not : (q : ℕ) → accepted (Refused (suc q)) ≡ false
 refused-not q = ne-eqb (suc q) 0 (λ z. omega arith)
 
 view-answer-paid : (x : ℕ → ℕ) (ch : Choice) → paid-in (view-answer x ch) ≡ paid x ch
@@ -240,12 +240,19 @@ pub record Reached (s : Day) (h : History) : Type 0 where
   pub is-sound : sound s ≡ true
   pub tracks : Tracks s h
 
+-- a call more
+pub reach-call : (s : Day) (h : History) → Reached s h → (c : Call)
+    → Reached (call s c .day) (entered h (record { made = c; answer = call s c .answer }))
+reach-call s h r c = record {
+  is-sound = sound-kept s c (r .is-sound);
+  tracks = keeps s h (r .is-sound) (r .tracks) c;
+}
+
 reach : (cs : List Call) (s : Day) (h : History) → Reached s h → Reached (final s cs) (continued h (transcript s cs))
 unfolding final transcript continued
 reach [] s h r = r
 reach (c ∷ cs) s h r =
-    reach cs (call s c .day) (entered h (record { made = c; answer = call s c .answer }))
-    (record { is-sound = sound-kept s c (r .is-sound); tracks = keeps s h (r .is-sound) (r .tracks) c })
+    reach cs (call s c .day) (entered h (record { made = c; answer = call s c .answer })) (reach-call s h r c)
 
 -- an accepted opening, from any state
 reach-opening : (s : Day) (pl : Plan) → accepted (call s (open-plan pl) .answer) ≡ true

@@ -27,16 +27,18 @@ use Rattle.demands.specs.Transcript.{transcript, final}
 use Rattle.floor.specs.History.{History, day-takings, history}
 use Rattle.floor.specs.Floor.{price-of, whole-of, falls-short, unstruck, no-view, Allotted, takings-of}
 use Rattle.floor.specs.Floor.{Covered, Floor}
+use Rattle.floor.specs.Own.{own-allotment}
 use Rattle.floor.proofs.Reach.{Reached, reached}
 use Rattle.floor.proofs.Floor.{demand-3}
+use Rattle.floor.proofs.Own.{own-allotted}
 use Rattle.optimum.specs.Optimum as optimum
 use Rattle.optimum.specs.Optimum.{failed, most-of, checked}
 use Rattle.optimum.specs.declared.Verdict.the-variants as verdict
 use Rattle.optimum.proofs.Greatest.{accepted-is-best, search-accepted}
 use Rattle.floor.specs.History.{own-views}
 use Rattle.hindsight.specs.Hindsight.{given-short, Takes-most, Against-greatest, Greatest-figure}
-use Rattle.hindsight.specs.Hindsight.{Floor-against-greatest, Always-greatest, Floor-against-accepted}
-use Rattle.hindsight.specs.Hindsight.{Own-views-taken, Room, Floor-against-searched}
+use Rattle.hindsight.specs.Hindsight.{Floor-against-greatest, Always-greatest, Takings-at-most}
+use Rattle.hindsight.specs.Hindsight.{Floor-against-accepted, Own-views-taken, Room, Floor-against-searched}
 
 -- the day's views, as a list of sets
 own-at : (vs : List View) (j : ℕ) → at (map (λ w. w .set) vs) j ≡ getD vs j no-view .set
@@ -173,6 +175,15 @@ floor-against-greatest s cs st to t = against-greatest (final s cs) (history (tr
 
 pub always-greatest : Always-greatest
 always-greatest s cs st = greatest-figure (final s cs) (history (transcript s cs)) (reached s cs st)
+
+pub takings-at-most : Takings-at-most
+takings-at-most s cs st =
+    let o = own-allotted s cs st in
+    omega (
+      arith,
+      always-greatest s cs st .no-more (own-allotment (history (transcript s cs))) (o .allotted),
+      o .takings-are,
+    )
 
 pub floor-against-accepted : Floor-against-accepted
 floor-against-accepted s cs st allotment surplus worth e =

@@ -50,6 +50,11 @@ pub record Greatest-figure (h : History) (s : Day) : Type 0 where
 abbrev pub Always-greatest : Type 0
 Always-greatest = (s : Day) (cs : List Call) → Starts s cs → Greatest-figure (history (transcript s cs)) (final s cs)
 
+-- what the day took is at most that: its own answers are one of those allotments (`floor/specs/Own`)
+abbrev pub Takings-at-most : Type 0
+Takings-at-most = (s : Day) (cs : List Call) → Starts s cs
+    → day-takings (history (transcript s cs)) ≤ most-of (final s cs) (own-views (history (transcript s cs)))
+
 -- whatever the check accepts for the day's own views is such an allotment
 abbrev pub Floor-against-accepted : Type 0
 Floor-against-accepted = (s : Day) (cs : List Call) → Starts s cs → (allotment surplus worth : List ℕ)
