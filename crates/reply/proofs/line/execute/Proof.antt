@@ -2,19 +2,11 @@
 -- opening changes the plan, so that otherwise the list keeps the weights of the plan.
 use mathlib.Core.Path.{_≡_, refl, ap, sym, subst, _∙_}
 use mathlib.Core.Bool.{Bool, true, false}
-use mathlib.Core.List.{[], _∷_}
-use mathlib.Core.Logic.{inl, inr}
-use Prim.Native.Nat.{ℕ, _≤_}
-use native.Mathlib.Omega.{arith}
-use types.Run.{OneOf}
-use denote.Enum.Declared.{tagOf}
+use Prim.Native.Nat.{ℕ}
 use Rattle.day.specs.declared.Day.{Day}
 use Rattle.day.specs.declared.Step.{Step}
 use Rattle.day.specs.Day.{state-of}
 use Rattle.lines.specs.declared.Record.{Record}
-use Rattle.lines.specs.declared.Record.the-variants.{Plan, Campaign, Start, View, Close, Done, Play, Nobody, Refused}
-use Rattle.lines.specs.declared.Record.the-variants.{Closed, Tally, Pause, Resume}
-use Rattle.lines.proofs.Record.{the-type}
 use Rattle.day.specs.declared.Outcome.{Outcome}
 use Rattle.day.specs.Calls.Call.{add-campaign, start-day, show-view, close-day, mark-campaign}
 use Rattle.day.specs.Calls.{call}
@@ -65,8 +57,41 @@ enum-told-2 c = search needs
 close-sound-requires : tie.Need-close-sound-requires
 close-sound-requires c κs = search needs
 
+enum-told-3 : tie.Need-enum-told-3
+enum-told-3 c = search needs
+
 refused-requires : tie.Need-refused-requires
 refused-requires c κs = search needs
+
+enum-told-4 : tie.Need-enum-told-4
+enum-told-4 c = search needs
+
+refused-requires-2 : tie.Need-refused-requires-2
+refused-requires-2 c κs = search needs
+
+enum-told-5 : tie.Need-enum-told-5
+enum-told-5 c = search needs
+
+refused-requires-3 : tie.Need-refused-requires-3
+refused-requires-3 c κs = search needs
+
+enum-told-6 : tie.Need-enum-told-6
+enum-told-6 c = search needs
+
+refused-requires-4 : tie.Need-refused-requires-4
+refused-requires-4 c κs = search needs
+
+enum-told-7 : tie.Need-enum-told-7
+enum-told-7 c = search needs
+
+refused-requires-5 : tie.Need-refused-requires-5
+refused-requires-5 c κs = search needs
+
+enum-told-8 : tie.Need-enum-told-8
+enum-told-8 c = search needs
+
+refused-requires-6 : tie.Need-refused-requires-6
+refused-requires-6 c κs = search needs
 
 enum-known-input-4 : tie.Need-enum-known-input-4
 enum-known-input-4 c = search needs
@@ -79,30 +104,6 @@ enum-known-input-5 c = search needs
 
 mark-sound-requires-2 : tie.Need-mark-sound-requires-2
 mark-sound-requires-2 c κs = search needs
-
--- the records that are left, by their places in the enum, are the output lines
-left-places : (x : ℕ) → OneOf (5 ∷ 6 ∷ 7 ∷ 8 ∷ 9 ∷ 10 ∷ []) x → (5 ≤ x) × (x ≤ 10)
-left-places x (inl e) = omega (arith, e)
-left-places x (inr (inl e)) = omega (arith, e)
-left-places x (inr (inr (inl e))) = omega (arith, e)
-left-places x (inr (inr (inr (inl e)))) = omega (arith, e)
-left-places x (inr (inr (inr (inr (inl e))))) = omega (arith, e)
-left-places x (inr (inr (inr (inr (inr e))))) = omega (arith, e)
-
-output-fails : (r : Record) → OneOf (5 ∷ 6 ∷ 7 ∷ 8 ∷ 9 ∷ 10 ∷ []) (tagOf the-type r) → request r ≡ fails 17
-output-fails (Plan d w) k = absurd (omega (arith, left-places 0 k .0))
-output-fails (Campaign p b) k = absurd (omega (arith, left-places 1 k .0))
-output-fails Start k = absurd (omega (arith, left-places 2 k .0))
-output-fails (View v) k = absurd (omega (arith, left-places 3 k .0))
-output-fails Close k = absurd (omega (arith, left-places 4 k .0))
-output-fails Done k = refl
-output-fails (Play i p) k = refl
-output-fails Nobody k = refl
-output-fails (Refused q) k = refl
-output-fails (Closed t c f) k = refl
-output-fails (Tally i p t a n) k = refl
-output-fails (Pause i) k = absurd (omega (arith, left-places 11 k .1))
-output-fails (Resume i) k = absurd (omega (arith, left-places 12 k .1))
 
 -- a record that is no call is refused, and the weights stay
 no-call : (s : tie.Start) {t : Record} (q : ℕ) (r : Step) → s .args .input ≡ t → request t ≡ fails q → r
@@ -154,6 +155,30 @@ returns-5 c =
           (state s) close-day (s .args .list .now) tt (c .close-sound .ensures) (s .pre .0),
     )
 
+returns-6 : tie.Need-returns-6
+returns-6 c = no-call (c .before .before .before) 17 (c .refused .result) (c .before .enum-told3 .given .1) refl
+    (c .refused .ensures)
+
+returns-7 : tie.Need-returns-7
+returns-7 c = no-call (c .before .before .before) 17 (c .refused2 .result) (c .before .enum-told4 .given .1) refl
+    (c .refused2 .ensures)
+
+returns-8 : tie.Need-returns-8
+returns-8 c = no-call (c .before .before .before) 17 (c .refused3 .result) (c .before .enum-told5 .given .1) refl
+    (c .refused3 .ensures)
+
+returns-9 : tie.Need-returns-9
+returns-9 c = no-call (c .before .before .before) 17 (c .refused4 .result) (c .before .enum-told6 .given .1) refl
+    (c .refused4 .ensures)
+
+returns-10 : tie.Need-returns-10
+returns-10 c = no-call (c .before .before .before) 17 (c .refused5 .result) (c .before .enum-told7 .given .1) refl
+    (c .refused5 .ensures)
+
+returns-11 : tie.Need-returns-11
+returns-11 c = no-call (c .before .before .before) 17 (c .refused6 .result) (c .before .enum-told8 .given .1) refl
+    (c .refused6 .ensures)
+
 -- a marking keeps the plan
 marking : (s : tie.Start) {t : Record} (b : Bool) (i : ℕ) (r : Step) → s .args .input ≡ t
     → request t ≡ makes (mark-campaign b i)
@@ -165,22 +190,16 @@ marking s {t} b i r e f p = (
   same-weights (state s) (mark-campaign b i) (s .args .list .now) tt p (s .pre .0),
 )
 
-returns-6 : tie.Need-returns-6
-returns-6 c =
+returns-12 : tie.Need-returns-12
+returns-12 c =
     let arm = c .before .before .before .before in
     marking (arm .before .before) true _ (c .mark-sound .result) (arm .input4 .given .1) refl (c .mark-sound .ensures)
 
-returns-7 : tie.Need-returns-7
-returns-7 c =
+returns-13 : tie.Need-returns-13
+returns-13 c =
     let arm = c .before .before .before .before in
     marking (arm .before .before) false _ (c .mark-sound2 .result) (arm .input5 .given .1) refl
     (c .mark-sound2 .ensures)
-
-returns-8 : tie.Need-returns-8
-returns-8 c =
-    let s = c .before .before in
-    no-call s 17 (c .refused .result) refl (output-fails (s .args .input) (c .before .match .keys8))
-    (c .refused .ensures)
 
 pub execute-spec : {M : Type 1} → statement M
 execute-spec =
@@ -196,11 +215,22 @@ execute-spec =
     show-sound-requires
     enum-told-2
     close-sound-requires
+    enum-told-3
+    refused-requires
+    enum-told-4
+    refused-requires-2
+    enum-told-5
+    refused-requires-3
+    enum-told-6
+    refused-requires-4
+    enum-told-7
+    refused-requires-5
+    enum-told-8
+    refused-requires-6
     enum-known-input-4
     mark-sound-requires
     enum-known-input-5
     mark-sound-requires-2
-    refused-requires
     returns
     returns-2
     returns-3
@@ -208,4 +238,9 @@ execute-spec =
     returns-5
     returns-6
     returns-7
-    returns-8)
+    returns-8
+    returns-9
+    returns-10
+    returns-11
+    returns-12
+    returns-13)
