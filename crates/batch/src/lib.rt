@@ -4,7 +4,7 @@ use reply::ROOM;
 use reply::line::Turn;
 use reply::line::answer_at;
 ghost use mathlib.Core.Path.{_≡_};
-ghost use mathlib.Core.Bool.{cond};
+ghost use mathlib.Core.Bool.{cond, false};
 ghost use Prim.Native.Nat.{_+_, _≤_};
 ghost use lib.ListN.{length, take, drop};
 ghost use Rattle.lines.specs.Limits.{line-buffer};
@@ -32,6 +32,46 @@ pub fn line_end(s: &[u8], at: usize) -> usize
         i += 1;
     }
     i
+}
+
+// Does a byte 10 stand among 32 bytes? All are looked at, so that the compiler compares many at once.
+fn ends_in_block(s: &[u8], at: usize) -> bool
+    requires { ⌜ at + 32 ≤ length (now s) ⌝ }
+    ensures { λ r. ⌜ (r ≡ false → upto (drop at (now (s .entry))) ≡ 32 + upto (drop (at + 32) (now (s .entry)))) ⌝ }
+{
+    let mut any = false;
+    let mut k = 0;
+    while k < 32 {
+        any = any | (s[at + k] == b'\n');
+        k += 1;
+    }
+    any
+}
+
+// Blocks of 32 bytes without byte 10 are passed over.
+fn past_blocks(s: &[u8], at: usize) -> usize
+    requires { ⌜ at ≤ length (now s) ⌝ }
+    ensures { λ r. ⌜ (at + upto (drop at (now (s .entry))) ≡ r + upto (drop r (now (s .entry))))
+        × (r ≤ length (now (s .entry))) ⌝ }
+{
+    let mut i = at;
+    while 32 <= s.len() - i {
+        if ends_in_block(s, i) {
+            return i;
+        }
+        i += 32;
+    }
+    i
+}
+
+// The same place as `line_end`, found faster where the line is long: a block of input begins with this, and may have no
+// byte 10 at all.
+fn first_line_end(s: &[u8], at: usize) -> usize
+    requires { ⌜ at ≤ length (now s) ⌝ }
+    ensures { λ r. ⌜ (r ≡ at + upto (drop at (now (s .entry)))) × (r ≤ length (now (s .entry))) ⌝ }
+{
+    let from = past_blocks(s, at);
+    line_end(s, from)
 }
 
 // The bytes of s behind those that are kept, as far as a line is held.
@@ -95,7 +135,7 @@ pub fn run_batch<'a>(
     let mut turn = t.turn;
     let mut kept = t.kept;
     let mut from = t.from;
-    let mut end = line_end(input, from);
+    let mut end = first_line_end(input, from);
     while (end < input.len()) & (ROOM <= out.len() - turn.at) {
         let n = complete(pending, kept, &input[from..end]);
         let line = choose(kept == 0, &input[from..end], &pending[..n]);

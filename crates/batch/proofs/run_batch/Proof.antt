@@ -55,8 +55,8 @@ room c =
     (both-right (ltb (l .end) n) (leb 16384 (length (l .out) - l .turn .at)) (c .if1 .taken)) in
     omega arith
 
-line-end-requires : tie.Need-line-end-requires Inv-loop μ-loop
-line-end-requires c κs = let s = c .before .before .before .before in s .pre .0 .2
+first-line-end-requires : tie.Need-first-line-end-requires Inv-loop μ-loop
+first-line-end-requires c κs = let s = c .before .before .before .before in s .pre .0 .2
 
 loop-holds : tie.Need-loop-holds Inv-loop μ-loop
 loop-holds c =
@@ -68,8 +68,8 @@ loop-holds c =
         wide = s .pre .0 .1;
         inside = s .pre .0 .2;
         fits = s .pre .0 .3;
-        end-is = c .line-end .ensures .0;
-        end-most = c .line-end .ensures .1;
+        end-is = c .first-line-end .ensures .0;
+        end-most = c .first-line-end .ensures .1;
       },
       refl,
     )
@@ -121,8 +121,8 @@ add-from c =
     let b = near-b .before .before .before .before .before .before .before .before in
     omega (arith, ends b, bounded (b .before .before .before .before .before .before))
 
-line-end-requires-2 : tie.Need-line-end-requires-2 Inv-loop μ-loop
-line-end-requires-2 c κs =
+line-end-requires : tie.Need-line-end-requires Inv-loop μ-loop
+line-end-requires c κs =
     let near-b = c .before .before .before .before .before .before .before in
     let b = near-b .before .before .before .before .before .before .before .before in omega (arith, ends b)
 
@@ -145,7 +145,7 @@ loop-again c =
       going-next (a .input .now) (first (at-start b)) (a .pending .now) (a .out .now) (l .turn) (l .list) (l .terms)
           (l .counts) (l .kept) (l .from) (l .pending) (l .out) (l .end) (l .inv .0)
           (ends b) (room b) _ (k .result) (k .ensures) (r .result) _ _ _ _ (same-line (q .ensures) (r .ensures .0))
-          (r .ensures .1) (c .line-end2 .result) (c .line-end2 .ensures),
+          (r .ensures .1) (c .line-end .result) (c .line-end .ensures),
       r .ensures .0 .put .same ∙ l .inv .1,
     )
 
@@ -182,7 +182,7 @@ run-batch-spec =
     (tie.spec
     Inv-loop
     μ-loop
-    line-end-requires
+    first-line-end-requires
     loop-holds
     sub-if1
     sub-complete
@@ -197,7 +197,7 @@ run-batch-spec =
     choose-requires
     answer-at-requires
     add-from
-    line-end-requires-2
+    line-end-requires
     loop-less
     loop-again
     same-length
