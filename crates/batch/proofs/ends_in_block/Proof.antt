@@ -50,9 +50,11 @@ loop-again : tie.Need-loop-again Inv-loop μ-loop
 loop-again c =
     let b = c .before .before in
     let s = b .before .args .s .now in
-    let o = b .loop in
-    (one-more s (b .before .args .at) (o .k) (omega (arith, c .before .loop-test .taken, b .before .pre)) (o .any)
-    (o .inv .0), omega arith)
+    let o = b .loop in (
+      one-more s (b .before .args .at) (o .k) (omega (arith, c .before .loop-test .taken, b .before .pre)) (o .any)
+          (o .inv .0),
+      omega arith,
+    )
 
 returns : tie.Need-returns Inv-loop μ-loop
 returns c e =
