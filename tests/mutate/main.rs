@@ -18,25 +18,32 @@ use std::io::Write;
 use std::path::{Path, PathBuf};
 use std::process::Command;
 
-const CRATES: [&str; 20] = [
+const CRATES: [&str; 27] = [
     "sets",
     "powers",
+    "exchange",
+    "matching",
+    "certificate",
     "campaigns",
     "audit",
     "choice",
     "questions",
     "day",
     "noon",
+    "optimum",
     "lines",
     "print",
     "writer",
     "page",
+    "earnings",
     "reply",
     "batch",
     "stream",
+    "recording",
     "replay",
     "pumpday",
     "pumppage",
+    "pumpgreatest",
     "encoding",
     "wezghuli",
 ];
