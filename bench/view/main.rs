@@ -1,5 +1,6 @@
 //! `view` of the proved library against plain Rust: a day of 4,096 views, each with the whole state's soundness, at
-//! several numbers of campaigns. Both show the same views in turn, in one run; what they answer is compared by a checksum.
+//! several numbers of campaigns. Both show the same views in turn, in one run; what they answer is compared by a
+//! checksum.
 
 mod checksum;
 mod library;

@@ -243,7 +243,7 @@ take-least k l = go (leb k (length l)) refl
         let m : min k (length l) ≡ length l = omega arith in
         ap (λ (i : ℕ). take i l) m ∙ take-all (length l) l (omega arith) ∙ sym (take-all k l (omega arith))
 
--- the session after an input, and what is recorded of it
+-- the state and the pending bytes after an input, and what is recorded of it
 module _ (input : List ℕ) (i : Split input) (v : List ℕ) where
   session-is : last-session input
       ≡ record { day = after-lines blank (i .lines); pending = take 201 (i .rest); output = [] }

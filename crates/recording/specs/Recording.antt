@@ -1,4 +1,4 @@
--- The accepted views of a day, kept beside the session that its bytes are fed to.
+-- The accepted views of a day, kept beside the stream that its bytes are fed to.
 use mathlib.Core.Path.{_≡_}
 use mathlib.Core.Bool.{cond}
 use mathlib.Core.List.{List, [], _∷_}

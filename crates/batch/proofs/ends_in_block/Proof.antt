@@ -1,4 +1,5 @@
--- The loop keeps: if no byte 10 was seen, the first one from the place on stands behind the k bytes that were looked at.
+-- The loop keeps: if no byte 10 was seen, the first one from the place on stands behind the k bytes that were looked
+-- at.
 use mathlib.Core.Path.{_≡_, refl, ap}
 use mathlib.Core.Bool.{Bool, true, false, _||_}
 use Prim.Native.Nat.{ℕ, suc, _+_, _-_, _≤_, _<_}
