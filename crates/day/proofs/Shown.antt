@@ -1,16 +1,13 @@
 -- A view's outcome by the candidate that the walk found and the counts that it left: with every name in the plan, the
 -- choice among all places is that among the campaigns of the plan.
 use mathlib.Core.Path.{_≡_, refl, ap, ap₂, sym, _∙_}
-use mathlib.Core.Bool.{true, false}
+use mathlib.Core.Bool.{true}
 use mathlib.Core.List.{List}
 use Prim.Native.Nat.{ℕ, _+_, _≤_, _<_}
 use native.Mathlib.Omega.{arith}
-use Rattle.finite.proofs.Tests.{never}
 use Rattle.sets.specs.Set.{within}
 use Rattle.sets.proofs.Bounds.{within-member, within-without}
 use Rattle.campaigns.specs.declared.Head.{Head}
-use Rattle.campaigns.specs.declared.Phase.{Phase}
-use Rattle.campaigns.specs.declared.Phase.the-variants.{Filling, Running, Closed}
 use Rattle.campaigns.specs.declared.View.{View}
 use Rattle.choice.specs.declared.Candidate.{Candidate}
 use Rattle.campaigns.specs.Campaign.{campaign-at}
@@ -25,18 +22,12 @@ use Rattle.choice.proofs.Candidates.{choice-within}
 use Rattle.day.specs.declared.Answer.{Answer}
 use Rattle.day.specs.declared.Day.{Day}
 use Rattle.day.specs.Day.{campaign, state-of, state-with}
-use Rattle.campaigns.specs.Phase.{is-running}
 use Rattle.day.specs.Calls.{questions, found, player, offers, head-shown, shown, view-answer, call}
 use Rattle.day.specs.Calls.Call.{show-view}
 use Rattle.questions.specs.Questions.{unpaused}
 use Rattle.day.specs.Contracts.{answer-of}
 use Rattle.day.proofs.State.{Sound, sound-facts, held-at, state-with-is}
 use Rattle.day.proofs.Questions.{Yes, call-yes}
-
-running-is : (p : Phase) → is-running p ≡ true → p ≡ Running
-running-is Filling e = absurd (never false refl e)
-running-is Running e = refl
-running-is (Closed t) e = absurd (never false refl e)
 
 -- a choice among the campaigns of a state as a candidate
 abbrev chosen : Day → View → Choice → Candidate
@@ -94,22 +85,11 @@ module _ (h : Head) (t n : List ℕ) (w : View) (b : Candidate) (y : Yes (questi
   becomes-shown i =
       ap (λ (x : Candidate). after-view (s .plan) (found s w) x (campaign s) i) plays-is ∙ made s w (player s w) i
 
-  -- the head with one view more
-  abbrev one-more : Phase → Head
-  one-more p = record {
-    phase = p;
-    plan = h .plan;
-    count = h .count;
-    accepted = h .accepted + 1;
-    paused = h .paused;
-  }
-
   pub accepted-shows : (m : List ℕ) (r : Answer) → Counts (after-view (h .plan) (found s w) b (campaign-at t n)) t m
-      → r ≡ answer-of b → record { day = state-of (one-more (h .phase)) t m; answer = r } ≡ call s (show-view w)
+      → r ≡ answer-of b → record { day = state-of (head-shown s) t m; answer = r } ≡ call s (show-view w)
   accepted-shows m r c e =
-      let a : state-of (one-more (h .phase)) t m ≡ state-with (head-shown s) (shown s w) =
-      state-with-is (state-of (one-more (h .phase)) t m) (shown s w) (c .room) (λ i k. c .at i k ∙ becomes-shown i)
-      ∙ ap (λ (p : Phase). state-with (one-more p) (shown s w)) (running-is (h .phase) (y .1 .0)) in
+      let a : state-of (head-shown s) t m ≡ state-with (head-shown s) (shown s w) =
+      state-with-is (state-of (head-shown s) t m) (shown s w) (c .room) (λ i k. c .at i k ∙ becomes-shown i) in
       ap₂ (λ (x : Day) (z : Answer). record { day = x; answer = z }) a
       (e ∙ ap answer-of plays-is ∙ answered s w (player s w))
       ∙ sym (call-yes s (show-view w) y)

@@ -106,11 +106,10 @@ pub fn add_sound<'a>(
     }
     terms[at] = t.price as u32;
     terms[at + 64] = t.budget as u32;
-    let phase = head.phase;
     let plan = head.plan;
     Step {
         head: Head {
-            phase: phase,
+            phase: Phase::Filling,
             plan: plan,
             count: head.count + 1,
             accepted: head.accepted,
@@ -240,7 +239,7 @@ pub fn mark_sound<'a>(
     if question != 0 {
         return Step::refused(head, question);
     }
-    let phase = head.phase;
+    let phase = Phase::Running;
     let plan = head.plan;
     Step {
         head: Head {

@@ -2,6 +2,7 @@
 use crate::Answer;
 use crate::Step;
 use campaigns::Head;
+use campaigns::Phase;
 use campaigns::View;
 use choice::Candidate;
 use choice::play;
@@ -45,7 +46,6 @@ pub fn show_sound<'a>(
     if question != 0 {
         return Step::refused(head, question);
     }
-    let phase = head.phase;
     let plan = head.plan;
     let found = View {
         set: sets::without(view.set, head.paused),
@@ -54,7 +54,7 @@ pub fn show_sound<'a>(
     let answer = view_answer(chosen);
     Step {
         head: Head {
-            phase: phase,
+            phase: Phase::Running,
             plan: plan,
             count: head.count,
             accepted: head.accepted + 1,

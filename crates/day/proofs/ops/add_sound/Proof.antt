@@ -98,7 +98,7 @@ returns-2 c =
     let y = yes (c .before .before .before .before) in
     ap (λ (d : Day). record { day = d; answer = Done })
     (joined-is (state s) (s .args .t) (s .pre .room) (sound-facts (state s) (s .pre .is-sound))
-    (room (c .before .before .before .before)) (y .1 .0))
+    (room (c .before .before .before .before)))
     ∙ sym (call-yes (state s) (add-campaign (s .args .t)) y)
 
 pub add-sound-spec : {M : Type 1} → statement M

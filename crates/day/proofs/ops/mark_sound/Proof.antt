@@ -1,17 +1,18 @@
 -- Questions 11 and 15; where both are answered yes, the marks alone change.
-use mathlib.Core.Path.{_≡_, ap, sym, _∙_}
+use mathlib.Core.Path.{_≡_, ap₂, sym, _∙_}
 use Prim.Native.Nat.{ℕ}
 use native.Mathlib.Omega.{arith}
 use borrow.Author.Needs.{needs}
 use borrow.Author.Tests.{ltb-true}
+use Rattle.campaigns.specs.declared.Phase.{Phase}
 use Rattle.questions.specs.Questions.{first-failed}
 use Rattle.day.specs.declared.Answer.the-variants.{Done}
 use Rattle.day.specs.declared.Day.{Day}
 use Rattle.day.specs.declared.Outcome.{Outcome}
-use Rattle.day.specs.Day.{state-of}
+use Rattle.day.specs.Day.{state-of, in-phase}
 use Rattle.day.specs.Calls.{Call, questions, head-marked}
 use Rattle.day.specs.Calls.Call.{mark-campaign}
-use Rattle.day.proofs.State.{sound-facts}
+use Rattle.day.proofs.State.{running-is, sound-facts}
 use Rattle.day.proofs.Questions.{Yes, asked-yes, call-yes}
 use Rattle.day.proofs.Steps.{steps-refused, own-asks}
 use Rattle.day.proofs.ops.mark_sound.Statement.{statement}
@@ -52,15 +53,19 @@ marked-requires c κs =
     let h = sound-facts (state s) (s .pre .is-sound) in
     omega (arith, h .few, ltb-true (s .args .campaign) (s .args .head .count) (yes d .1 .1 .0))
 
--- the outcome with the marks m
-abbrev marks : Day → ℕ → Outcome
-marks s m = record { day = state-of (head-marked s m) (s .terms) (s .counts); answer = Done }
+-- the outcome with the phase p and the marks m
+abbrev marks : Day → Phase → ℕ → Outcome
+marks s p m = record {
+  day = state-of (head-marked (in-phase s p) m) (s .terms) (s .counts);
+  answer = Done;
+}
 
 returns-2 : tie.Need-returns-2
 returns-2 c =
     let d = c .before .before in
     let s = d .before .before in
-    ap (marks (state s)) (c .marked .ensures) ∙ sym (call-yes (state s) (ask s) (yes d))
+    ap₂ (marks (state s)) (sym (running-is (s .args .head .phase) (yes d .1 .0))) (c .marked .ensures)
+    ∙ sym (call-yes (state s) (ask s) (yes d))
 
 pub mark-sound-spec : {M : Type 1} → statement M
 mark-sound-spec =

@@ -75,8 +75,8 @@ play-requires c κs =
 view-answer-requires : tie.Need-view-answer-requires
 view-answer-requires c κs = search needs
 
-add-t13 : tie.Need-add-t13
-add-t13 c =
+add-t12 : tie.Need-add-t12
+add-t12 c =
     let d = c .before .before .before .before .before .before in
     omega (arith, ltb-true (d .before .before .args .head .accepted) max-views (yes d .1 .1 .0))
 
@@ -108,5 +108,5 @@ show-sound-spec =
     without-requires
     play-requires
     view-answer-requires
-    add-t13
+    add-t12
     returns-2)
