@@ -187,15 +187,7 @@ pub fn close_sound<'a>(
     }
     let plan = head.plan;
     let marks = head.paused;
-    // a copy made here, so that no other operation has to keep its head in memory
-    let copy = Head {
-        phase: phase,
-        plan: plan,
-        count: head.count,
-        accepted: head.accepted,
-        paused: head.paused,
-    };
-    let audit = audit::audit_parts(copy, list, terms, counts);
+    let audit = audit::audit_parts(head, list, terms, counts);
     Step {
         head: Head {
             phase: Phase::Closed(audit.takings),
