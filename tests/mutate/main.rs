@@ -9,6 +9,7 @@ mod change;
 mod prover;
 mod report;
 mod source;
+mod verdict;
 
 use change::{Changer, Scope};
 use prover::Prover;
