@@ -2,16 +2,21 @@
 -- opening changes the plan, so that otherwise the list keeps the weights of the plan.
 use mathlib.Core.Path.{_≡_, refl, ap, sym, subst, _∙_}
 use mathlib.Core.Bool.{Bool, true, false}
+use mathlib.Core.List.{List, _∷_, []}
 use Prim.Native.Nat.{ℕ}
+use denote.Enum.Declared.{tagOf}
+use types.Run.{OneOf, miss}
 use Rattle.day.specs.declared.Day.{Day}
 use Rattle.day.specs.declared.Step.{Step}
 use Rattle.day.specs.Day.{state-of}
+use Rattle.lines.proofs.Record.{the-type}
 use Rattle.lines.specs.declared.Record.{Record}
+use Rattle.lines.specs.declared.Record.the-variants.{Plan, Campaign, Start, View, Close, Done, Play, Nobody, Refused, Closed}
+use Rattle.lines.specs.declared.Record.the-variants.{Tally, Pause, Resume}
 use Rattle.day.specs.declared.Outcome.{Outcome}
 use Rattle.day.specs.Calls.Call.{add-campaign, start-day, show-view, close-day, mark-campaign}
 use Rattle.day.specs.Calls.{call}
 use Rattle.day.specs.InPlace.{outcome-of}
-use Rattle.day.specs.Contracts.{refusing}
 use Rattle.campaigns.specs.Contracts.{Weights}
 use Rattle.reply.specs.Reply.{request, executed}
 use Rattle.reply.specs.Reply.Request.{makes, fails}
@@ -57,42 +62,6 @@ enum-told-2 c = search needs
 close-sound-requires : tie.Need-close-sound-requires
 close-sound-requires c κs = search needs
 
-enum-told-3 : tie.Need-enum-told-3
-enum-told-3 c = search needs
-
-refused-requires : tie.Need-refused-requires
-refused-requires c κs = search needs
-
-enum-told-4 : tie.Need-enum-told-4
-enum-told-4 c = search needs
-
-refused-requires-2 : tie.Need-refused-requires-2
-refused-requires-2 c κs = search needs
-
-enum-told-5 : tie.Need-enum-told-5
-enum-told-5 c = search needs
-
-refused-requires-3 : tie.Need-refused-requires-3
-refused-requires-3 c κs = search needs
-
-enum-told-6 : tie.Need-enum-told-6
-enum-told-6 c = search needs
-
-refused-requires-4 : tie.Need-refused-requires-4
-refused-requires-4 c κs = search needs
-
-enum-told-7 : tie.Need-enum-told-7
-enum-told-7 c = search needs
-
-refused-requires-5 : tie.Need-refused-requires-5
-refused-requires-5 c κs = search needs
-
-enum-told-8 : tie.Need-enum-told-8
-enum-told-8 c = search needs
-
-refused-requires-6 : tie.Need-refused-requires-6
-refused-requires-6 c κs = search needs
-
 enum-known-input-4 : tie.Need-enum-known-input-4
 enum-known-input-4 c = search needs
 
@@ -105,16 +74,8 @@ enum-known-input-5 c = search needs
 mark-sound-requires-2 : tie.Need-mark-sound-requires-2
 mark-sound-requires-2 c κs = search needs
 
--- a record that is no call is refused, and the weights stay
-no-call : (s : tie.Start) {t : Record} (q : ℕ) (r : Step) → s .args .input ≡ t → request t ≡ fails q → r
-    ≡ refusing (s .args .head) q
-    → (outcome-of r (s .args .terms .now) (s .args .counts .now) ≡ executed (state s) (request (s .args .input)))
-    × Weights (r .head .plan) (s .args .list .now)
-no-call s {t} q r e f p = (
-  made (state s) e (ap (λ (x : Step). outcome-of x (s .args .terms .now) (s .args .counts .now)) p
-      ∙ ap (executed (state s)) (sym f)),
-  refused-weights (s .args .head) (s .args .list .now) r q p (s .pre .0),
-)
+refused-requires : tie.Need-refused-requires
+refused-requires c κs = search needs
 
 returns : tie.Need-returns
 returns c =
@@ -155,30 +116,6 @@ returns-5 c =
           (state s) close-day (s .args .list .now) tt (c .close-sound .ensures) (s .pre .0),
     )
 
-returns-6 : tie.Need-returns-6
-returns-6 c = no-call (c .before .before .before) 17 (c .refused .result) (c .before .enum-told3 .given .1) refl
-    (c .refused .ensures)
-
-returns-7 : tie.Need-returns-7
-returns-7 c = no-call (c .before .before .before) 17 (c .refused2 .result) (c .before .enum-told4 .given .1) refl
-    (c .refused2 .ensures)
-
-returns-8 : tie.Need-returns-8
-returns-8 c = no-call (c .before .before .before) 17 (c .refused3 .result) (c .before .enum-told5 .given .1) refl
-    (c .refused3 .ensures)
-
-returns-9 : tie.Need-returns-9
-returns-9 c = no-call (c .before .before .before) 17 (c .refused4 .result) (c .before .enum-told6 .given .1) refl
-    (c .refused4 .ensures)
-
-returns-10 : tie.Need-returns-10
-returns-10 c = no-call (c .before .before .before) 17 (c .refused5 .result) (c .before .enum-told7 .given .1) refl
-    (c .refused5 .ensures)
-
-returns-11 : tie.Need-returns-11
-returns-11 c = no-call (c .before .before .before) 17 (c .refused6 .result) (c .before .enum-told8 .given .1) refl
-    (c .refused6 .ensures)
-
 -- a marking keeps the plan
 marking : (s : tie.Start) {t : Record} (b : Bool) (i : ℕ) (r : Step) → s .args .input ≡ t
     → request t ≡ makes (mark-campaign b i)
@@ -190,16 +127,44 @@ marking s {t} b i r e f p = (
   same-weights (state s) (mark-campaign b i) (s .args .list .now) tt p (s .pre .0),
 )
 
-returns-12 : tie.Need-returns-12
-returns-12 c =
+returns-6 : tie.Need-returns-6
+returns-6 c =
     let arm = c .before .before .before .before in
     marking (arm .before .before) true _ (c .mark-sound .result) (arm .input4 .given .1) refl (c .mark-sound .ensures)
 
-returns-13 : tie.Need-returns-13
-returns-13 c =
+returns-7 : tie.Need-returns-7
+returns-7 c =
     let arm = c .before .before .before .before in
     marking (arm .before .before) false _ (c .mark-sound2 .result) (arm .input5 .given .1) refl
     (c .mark-sound2 .ensures)
+
+-- the tags of the output forms
+abbrev output-forms : List ℕ
+output-forms = 5 ∷ 6 ∷ 7 ∷ 8 ∷ 9 ∷ 10 ∷ []
+
+no-call : (r : Record) → OneOf output-forms (tagOf the-type r) → request r ≡ fails 17
+no-call (Plan d w) e = absurd (miss output-forms 0 tt e)
+no-call (Campaign p b) e = absurd (miss output-forms 1 tt e)
+no-call Start e = absurd (miss output-forms 2 tt e)
+no-call (View v) e = absurd (miss output-forms 3 tt e)
+no-call Close e = absurd (miss output-forms 4 tt e)
+no-call Done e = refl
+no-call (Play i p) e = refl
+no-call Nobody e = refl
+no-call (Refused q) e = refl
+no-call (Closed t c f) e = refl
+no-call (Tally i p t a n) e = refl
+no-call (Pause i) e = absurd (miss output-forms 11 tt e)
+no-call (Resume i) e = absurd (miss output-forms 12 tt e)
+
+-- a record that is no call is refused, and the weights stay
+returns-8 : tie.Need-returns-8
+returns-8 c =
+    let s = c .before .before in (
+      ap (λ (x : Step). outcome-of x (s .args .terms .now) (s .args .counts .now)) (c .refused .ensures)
+          ∙ ap (executed (state s)) (sym (no-call (s .args .input) (c .before .match .keys8))),
+      refused-weights (s .args .head) (s .args .list .now) (c .refused .result) 17 (c .refused .ensures) (s .pre .0),
+    )
 
 pub execute-spec : {M : Type 1} → statement M
 execute-spec =
@@ -215,22 +180,11 @@ execute-spec =
     show-sound-requires
     enum-told-2
     close-sound-requires
-    enum-told-3
-    refused-requires
-    enum-told-4
-    refused-requires-2
-    enum-told-5
-    refused-requires-3
-    enum-told-6
-    refused-requires-4
-    enum-told-7
-    refused-requires-5
-    enum-told-8
-    refused-requires-6
     enum-known-input-4
     mark-sound-requires
     enum-known-input-5
     mark-sound-requires-2
+    refused-requires
     returns
     returns-2
     returns-3
@@ -238,9 +192,4 @@ execute-spec =
     returns-5
     returns-6
     returns-7
-    returns-8
-    returns-9
-    returns-10
-    returns-11
-    returns-12
-    returns-13)
+    returns-8)
