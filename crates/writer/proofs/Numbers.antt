@@ -1,12 +1,10 @@
 -- The number of an answer is that of the first question that fails, or 0: each answer is one arm of one test.
 use mathlib.Core.Path.{_≡_, refl, sym}
 use mathlib.Core.Bool.{Bool, true, false, cond}
-use mathlib.Core.List.{List, [], _∷_}
-use Prim.Native.Nat.{ℕ}
+use mathlib.Core.List.{[], _∷_}
 use lib.Dec.{eqb}
 use lib.ListN.{length}
 use borrow.Author.Tests.{eqb-true}
-use Rattle.lines.specs.declared.Record.{Record}
 use Rattle.writer.specs.declared.Writing.the-variants.{Length, Refusal}
 use Rattle.writer.specs.Writing.{line, question, writing, number, values, Always-number-and-values}
 

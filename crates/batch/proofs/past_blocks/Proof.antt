@@ -1,10 +1,8 @@
 -- The loop keeps: no byte 10 stands from the first place up to i, so the first one from i on is the first of all.
-use mathlib.Core.Path.{_≡_, ap}
-use mathlib.Core.Bool.{false}
-use Prim.Native.Nat.{ℕ, _+_, _-_, _≤_}
+use mathlib.Core.Path.{_≡_}
+use Prim.Native.Nat.{_+_, _-_, _≤_}
 use native.Mathlib.Omega.{arith}
 use lib.ListN.{length, drop}
-use borrow.Author.Needs.{needs}
 use Rattle.reply.specs.Session.{upto}
 use Rattle.batch.proofs.past_blocks.Statement.{statement}
 use Rattle.batch.proofs.past_blocks.Tie as tie
