@@ -97,14 +97,11 @@ fn wide(x: u16) -> u64 {
     x as u64
 }
 
-// The counts of the campaigns.
+// The counts of the campaigns, four for each in turn: they stand in four columns of 64.
 fn fold_counts(start: u64, day: Day) -> u64 {
     let mut sum = start;
-    for i in 0..64 {
-        sum = fold(sum, wide(day.counts[i]));
-        sum = fold(sum, wide(day.counts[i + 64]));
-        sum = fold(sum, wide(day.counts[i + 128]));
-        sum = fold(sum, wide(day.counts[i + 192]));
+    for i in 0..256 {
+        sum = fold(sum, wide(day.counts[i % 4 * 64 + i / 4]));
     }
     sum
 }

@@ -1,20 +1,19 @@
 -- What the exported search and check, and the takings of an allotment, leave: everything as it was where the words are
 -- no head, and else what the operation on a state leaves.
-use mathlib.Core.Path.{_≡_, refl, ap, sym, _∙_, subst}
+use mathlib.Core.Path.{_≡_, refl, ap, _∙_, subst}
 use mathlib.Core.Bool.{true, false}
-use mathlib.Core.List.{List, [], _∷_}
+use mathlib.Core.List.{List}
 use Prim.Native.Nat.{ℕ}
 use Rattle.finite.proofs.Tests.{never}
 use Rattle.campaigns.specs.declared.Head.{Head}
 use Rattle.day.specs.Day.{state-of}
 use Rattle.optimum.specs.declared.Optimum.{Optimum}
-use Rattle.optimum.specs.declared.Optimum.the-variants.{Refused, Takings}
 use Rattle.optimum.specs.declared.Verdict.{Verdict}
 use Rattle.optimum.specs.Optimum.{number, search-answer, Searched, takings-answer, checked}
 use Rattle.encoding.specs.Encoding.{no-head, is-head, head-of}
 use Rattle.wezghuli.specs.Search.{lent-state, search-status, Search-leaves, verdict-status, check-status}
 use Rattle.wezghuli.specs.Search.{takings-in, takings-status, takings-into, takings-after}
-use Rattle.wezghuli.proofs.Stored.{pick-first, pick-second}
+use Rattle.wezghuli.proofs.Stored.{pick-first, pick-second, answered, told, untold}
 
 module _ (h t n views a u v : List ℕ) where
   pub search-misused : is-head h ≡ false → (no-head ≡ search-status h t n views a u v) × Search-leaves h t n views a a
@@ -55,30 +54,16 @@ module _ (h t n views a u v : List ℕ) where
         (e ∙ ap verdict-status (done ∙ ap (λ (x : Head). checked (state-of x t n) views a u v) head-is))
 
 -- the takings of an allotment: a status, and the lent word afterwards
-abbrev Told : (h t n a l : List ℕ) → ℕ → (l' : List ℕ) → Type 0
+abbrev pub Told : (h t n a l : List ℕ) → ℕ → (l' : List ℕ) → Type 0
 Told h t n a l q l' = (q ≡ takings-status h t n a) × (l' ≡ takings-after h t n a l)
 
 pub takings-misused : (h t n a l : List ℕ) → is-head h ≡ false → Told h t n a l no-head l
-takings-misused h t n a l e = (
-  pick-second (is-head h) (number (takings-in h t n a)) no-head no-head e refl,
-  pick-second (is-head h) (takings-into (takings-in h t n a) l) l l e refl,
-)
+takings-misused h t n a l e = untold number no-head takings-into (is-head h) (takings-in h t n a) l e
 
 -- words that are a head: x is what asking the state answers
-module _ (h t n a l : List ℕ) (given : is-head h ≡ true) (head : Head) (head-is : head ≡ head-of h) (x : Optimum)
-    (done : x ≡ takings-answer (state-of head t n) a) where
-  asked : (y : Optimum) → x ≡ y → takings-in h t n a ≡ y
-  asked y e = sym (done ∙ ap (λ (k : Head). takings-answer (state-of k t n) a) head-is) ∙ e
-
-  told : (y : Optimum) → x ≡ y → Told h t n a l (number y) (takings-into y l)
-  told y e = (
-    pick-first (is-head h) (number (takings-in h t n a)) no-head (number y) given (ap number (sym (asked y e))),
-    pick-first (is-head h) (takings-into (takings-in h t n a) l) l (takings-into y l) given
-        (ap (λ (z : Optimum). takings-into z l) (sym (asked y e))),
-  )
-
-  pub takings-refused : (q : ℕ) → x ≡ Refused q → Told h t n a l q l
-  takings-refused q e = told (Refused q) e
-
-  pub takings-told : (k : ℕ) → x ≡ Takings k → Told h t n a l 0 (k ∷ [])
-  takings-told k e = told (Takings k) e
+pub takings-told : (h t n a l : List ℕ) → is-head h ≡ true → (head : Head) → head ≡ head-of h → (x : Optimum)
+    → x ≡ takings-answer (state-of head t n) a → (y : Optimum) → x ≡ y
+    → Told h t n a l (number y) (takings-into y l)
+takings-told h t n a l given head head-is x done y e =
+    told number no-head takings-into (is-head h) (takings-in h t n a) l y given
+    (answered (λ (k : Head). takings-answer (state-of k t n) a) head-is done e)

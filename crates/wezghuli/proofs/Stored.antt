@@ -1,6 +1,6 @@
 -- What an exported operation leaves: everything as it was where the words are no head, and else the outcome of the
 -- call, stored. Each operation's contract is one of the two, so that its proof only names where the facts stand.
-use mathlib.Core.Path.{_≡_, refl, ap, _∙_}
+use mathlib.Core.Path.{_≡_, refl, ap, sym, _∙_}
 use mathlib.Core.Bool.{Bool, true, false, cond}
 use mathlib.Core.List.{List}
 use Prim.Native.Nat.{ℕ}
@@ -18,6 +18,20 @@ pick-first b x y z e h = rw e h
 
 pub pick-second : {A : Type 0} (b : Bool) (x y z : A) → b ≡ false → z ≡ y → z ≡ cond b x y
 pick-second b x y z e h = rw e h
+
+-- an answer y to words that pass a test b, as a status and as what an array l becomes; and words that do not pass it
+pub answered : {H X : Type 0} (answer : H → X) {h h' : H} {x y : X} → h ≡ h' → x ≡ answer h → x ≡ y → y ≡ answer h'
+answered answer h-is done e = sym e ∙ done ∙ ap answer h-is
+
+module _ {X : Type 0} (number : X → ℕ) (none : ℕ) (into : X → List ℕ → List ℕ) (b : Bool) (x : X) (l : List ℕ) where
+  pub told : (y : X) → b ≡ true → y ≡ x → (number y ≡ cond b (number x) none) × (into y l ≡ cond b (into x l) l)
+  told y given e = (
+    pick-first b (number x) none (number y) given (ap number e),
+    pick-first b (into x l) l (into y l) given (ap (λ (z : X). into z l) e),
+  )
+
+  pub untold : b ≡ false → (none ≡ cond b (number x) none) × (l ≡ cond b (into x l) l)
+  untold e = (pick-second b (number x) none none e refl, pick-second b (into x l) l l e refl)
 
 pub misused : (k : Call) (m : Memory) → is-head (m .head) ≡ false → (no-head ≡ status k m) × (m ≡ after k m)
 unfolding status after

@@ -31,17 +31,19 @@ pub has-room : (m : Lent) → status-in m ≡ 0 → leb reply-room (length (m .o
 unfolding stream-status
 has-room m e = conds-room (is-head (m .head)) (is-stream (m .words)) (leb reply-room (length (m .out))) e
 
--- Misuse.
+-- Misuse: the memory stays, whatever x would be stored otherwise.
+stays : (m x : Lent) (r : ℕ) → r ≡ status-in m → (r ≡ 0 → ⊥) → m ≡ cond (eqb (status-in m) 0) x m
+stays m x r e none =
+    pick-second (eqb (status-in m) 0) x m m (ne-eqb (status-in m) 0 (λ z. none (e ∙ z))) refl
+
 pub fed-misused : (l : List ℕ) (m : Lent) (r : ℕ) → r ≡ status-in m → (r ≡ 0 → ⊥)
     → (r ≡ status-in m) × (m ≡ feed-after l m)
 unfolding feed-after
-fed-misused l m r e none =
-    (e, pick-second (eqb (status-in m) 0) _ m m (ne-eqb (status-in m) 0 (λ z. none (e ∙ z))) refl)
+fed-misused l m r e none = (e, stays m _ r e none)
 
 pub finish-misused : (m : Lent) (r : ℕ) → r ≡ status-in m → (r ≡ 0 → ⊥) → (r ≡ status-in m) × (m ≡ finish-after m)
 unfolding finish-after
-finish-misused m r e none =
-    (e, pick-second (eqb (status-in m) 0) _ m m (ne-eqb (status-in m) 0 (λ z. none (e ∙ z))) refl)
+finish-misused m r e none = (e, stays m _ r e none)
 
 -- what is handed back, stored
 abbrev stored-in : Fed → (out : List ℕ) → Lent

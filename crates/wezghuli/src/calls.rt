@@ -2,7 +2,9 @@
 use campaigns::Plan;
 use campaigns::Terms;
 use campaigns::View;
+use day::Call;
 use day::Step;
+use day::ops::execute;
 use encoding::STATUS_NO_HEAD;
 use encoding::answer_after;
 use encoding::head_of;
@@ -12,6 +14,7 @@ use encoding::number_of;
 ghost use mathlib.Core.Path.{_≡_};
 ghost use Rattle.day.specs.Day.{blank};
 ghost use Rattle.day.specs.Calls.{number};
+ghost use Rattle.day.specs.InPlace.{asked};
 ghost use Rattle.day.specs.Calls.Call.{start-day, ask-tally, close-day, mark-campaign};
 ghost use mathlib.Core.Bool.{true, false};
 ghost use Rattle.day.specs.Day.{head-of};
@@ -47,6 +50,27 @@ fn store<'a>(step: Step, head: &'a mut [u64; 7], answer: &'a mut [u64; 5]) -> u6
     number_of(given)
 }
 
+// A call of the state in lent memory, its outcome stored there; words that are no head leave everything as it was.
+fn answer_call<'a>(
+    head: &'a mut [u64; 7],
+    terms: &'a mut [u32; 128],
+    counts: &'a mut [u16; 256],
+    ask: Call,
+    answer: &'a mut [u64; 5],
+) -> u64
+    ensures { λ r. ⌜ r ≡ status (asked ask)
+        (memory (now (head .entry)) (now (terms .entry)) (now (counts .entry)) (now (answer .entry))) ⌝ }
+    ensures { λ _. ⌜ memory (now (head .exit)) (now (terms .exit)) (now (counts .exit)) (now (answer .exit))
+        ≡ after (asked ask)
+        (memory (now (head .entry)) (now (terms .entry)) (now (counts .entry)) (now (answer .entry))) ⌝ }
+{
+    if !is_head(head) {
+        return STATUS_NO_HEAD;
+    }
+    let step = execute(head_of(head), ask, terms, counts);
+    store(step, head, answer)
+}
+
 // Opens a plan, with no campaigns, in Filling.
 #[no_mangle]
 pub extern "C" fn wezghuli_open<'a>(
@@ -63,15 +87,11 @@ pub extern "C" fn wezghuli_open<'a>(
         ≡ after (opening depth width)
         (memory (now (head .entry)) (now (terms .entry)) (now (counts .entry)) (now (answer .entry))) ⌝ }
 {
-    if !is_head(head) {
-        return STATUS_NO_HEAD;
-    }
     let plan = Plan {
         depth: depth,
         width: width,
     };
-    let step = day::in_place::open(head_of(head), plan, terms, counts);
-    store(step, head, answer)
+    answer_call(head, terms, counts, Call::Open(plan), answer)
 }
 
 // Adds a campaign, with zero counts.
@@ -90,15 +110,11 @@ pub extern "C" fn wezghuli_add<'a>(
         ≡ after (adding price budget)
         (memory (now (head .entry)) (now (terms .entry)) (now (counts .entry)) (now (answer .entry))) ⌝ }
 {
-    if !is_head(head) {
-        return STATUS_NO_HEAD;
-    }
     let added = Terms {
         price: price,
         budget: budget,
     };
-    let step = day::in_place::add(head_of(head), added, terms, counts);
-    store(step, head, answer)
+    answer_call(head, terms, counts, Call::Add(added), answer)
 }
 
 // Starts the day: no campaign is added from now on.
@@ -115,11 +131,7 @@ pub extern "C" fn wezghuli_start<'a>(
         ≡ after start-day
         (memory (now (head .entry)) (now (terms .entry)) (now (counts .entry)) (now (answer .entry))) ⌝ }
 {
-    if !is_head(head) {
-        return STATUS_NO_HEAD;
-    }
-    let step = day::in_place::start(head_of(head), terms, counts);
-    store(step, head, answer)
+    answer_call(head, terms, counts, Call::Start, answer)
 }
 
 // Shows a view, bit i of the set naming campaign i: who plays, and what is paid.
@@ -137,11 +149,7 @@ pub extern "C" fn wezghuli_view<'a>(
         ≡ after (showing set)
         (memory (now (head .entry)) (now (terms .entry)) (now (counts .entry)) (now (answer .entry))) ⌝ }
 {
-    if !is_head(head) {
-        return STATUS_NO_HEAD;
-    }
-    let step = day::in_place::view(head_of(head), View { set: set }, terms, counts);
-    store(step, head, answer)
+    answer_call(head, terms, counts, Call::Show(View { set: set }), answer)
 }
 
 // The four counts of a campaign; the state stays.
@@ -159,11 +167,7 @@ pub extern "C" fn wezghuli_tally<'a>(
         ≡ after (ask-tally campaign)
         (memory (now (head .entry)) (now (terms .entry)) (now (counts .entry)) (now (answer .entry))) ⌝ }
 {
-    if !is_head(head) {
-        return STATUS_NO_HEAD;
-    }
-    let step = day::in_place::tally(head_of(head), campaign, terms, counts);
-    store(step, head, answer)
+    answer_call(head, terms, counts, Call::Tally(campaign), answer)
 }
 
 // Closes the day with its takings, total claim and full.
@@ -180,11 +184,7 @@ pub extern "C" fn wezghuli_close<'a>(
         ≡ after close-day
         (memory (now (head .entry)) (now (terms .entry)) (now (counts .entry)) (now (answer .entry))) ⌝ }
 {
-    if !is_head(head) {
-        return STATUS_NO_HEAD;
-    }
-    let step = day::in_place::close(head_of(head), terms, counts);
-    store(step, head, answer)
+    answer_call(head, terms, counts, Call::Close, answer)
 }
 
 // Pauses a campaign: it is as one that no view names, until it is resumed.
@@ -202,11 +202,7 @@ pub extern "C" fn wezghuli_pause<'a>(
         ≡ after (mark-campaign true campaign)
         (memory (now (head .entry)) (now (terms .entry)) (now (counts .entry)) (now (answer .entry))) ⌝ }
 {
-    if !is_head(head) {
-        return STATUS_NO_HEAD;
-    }
-    let step = day::in_place::pause(head_of(head), campaign, terms, counts);
-    store(step, head, answer)
+    answer_call(head, terms, counts, Call::Pause(campaign), answer)
 }
 
 // Resumes a campaign.
@@ -224,9 +220,5 @@ pub extern "C" fn wezghuli_resume<'a>(
         ≡ after (mark-campaign false campaign)
         (memory (now (head .entry)) (now (terms .entry)) (now (counts .entry)) (now (answer .entry))) ⌝ }
 {
-    if !is_head(head) {
-        return STATUS_NO_HEAD;
-    }
-    let step = day::in_place::resume(head_of(head), campaign, terms, counts);
-    store(step, head, answer)
+    answer_call(head, terms, counts, Call::Resume(campaign), answer)
 }

@@ -8,8 +8,30 @@ use encoding::is_head;
 use optimum::Optimum;
 use optimum::Verdict;
 ghost use mathlib.Core.Path.{_≡_};
-ghost use Rattle.wezghuli.specs.Search.{search-status, Search-leaves, check-status};
+ghost use Rattle.optimum.specs.Optimum.{number};
+ghost use Rattle.wezghuli.specs.Search.{search-status, Search-leaves, verdict-status, check-status};
 ghost use Rattle.wezghuli.specs.Search.{takings-status, takings-after};
+
+// The status of a search.
+fn number_of(found: Optimum) -> u64
+    ensures { λ r. ⌜ r ≡ number found ⌝ }
+{
+    match found {
+        Optimum::Takings(_) => STATUS_ACCEPTED,
+        Optimum::Refused(question) => question,
+    }
+}
+
+// The status of a check.
+fn status_of(verdict: Verdict) -> u64
+    ensures { λ r. ⌜ r ≡ verdict-status verdict ⌝ }
+{
+    match verdict {
+        Verdict::Accepted => STATUS_ACCEPTED,
+        Verdict::Rejected => STATUS_NO_FIT,
+        Verdict::Refused(question) => question,
+    }
+}
 
 // An allotment of the views with the greatest takings, with a figure for each campaign and for each view.
 // `wezghuli_takings` gives these takings: an eighth parameter here would be one too many.
@@ -32,7 +54,7 @@ pub extern "C" fn wezghuli_search<'a>(
     if !is_head(head) {
         return STATUS_NO_HEAD;
     }
-    match optimum::search(
+    let found = optimum::search(
         head_of(head),
         terms,
         counts,
@@ -40,10 +62,8 @@ pub extern "C" fn wezghuli_search<'a>(
         allotment,
         surplus,
         worth,
-    ) {
-        Optimum::Takings(_) => STATUS_ACCEPTED,
-        Optimum::Refused(question) => question,
-    }
+    );
+    number_of(found)
 }
 
 // Is this an allotment with figures that fit it, and so one with the greatest takings?
@@ -63,7 +83,7 @@ pub extern "C" fn wezghuli_check<'a>(
     if !is_head(head) {
         return STATUS_NO_HEAD;
     }
-    match optimum::check(
+    let verdict = optimum::check(
         head_of(head),
         terms,
         counts,
@@ -71,11 +91,8 @@ pub extern "C" fn wezghuli_check<'a>(
         allotment,
         surplus,
         worth,
-    ) {
-        Verdict::Accepted => STATUS_ACCEPTED,
-        Verdict::Rejected => STATUS_NO_FIT,
-        Verdict::Refused(question) => question,
-    }
+    );
+    status_of(verdict)
 }
 
 // The takings of an allotment: of what the search left, the greatest. The state stays, and a refusal leaves the takings

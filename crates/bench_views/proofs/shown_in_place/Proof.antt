@@ -12,49 +12,19 @@ Inv-loop views head₀ terms₀ counts₀ sum₀ i₀ i-end head terms counts su
 abbrev μ-loop : tie.MeasureT-loop
 μ-loop views head₀ terms₀ counts₀ sum₀ i₀ i-end head terms counts sum i = i-end - i
 
-head-requires : tie.Need-head-requires Inv-loop μ-loop
-head-requires c κs = search needs
-
-loop-holds : tie.Need-loop-holds Inv-loop μ-loop
-loop-holds c = search needs
-
-mul-t15 : tie.Need-mul-t15 Inv-loop μ-loop
-mul-t15 c = search needs
-
-shared-slice-read-t17 : tie.Need-shared-slice-read-t17 Inv-loop μ-loop
-shared-slice-read-t17 c = search needs
-
-view-requires : tie.Need-view-requires Inv-loop μ-loop
-view-requires c κs = search needs
-
-fold-answer-requires : tie.Need-fold-answer-requires Inv-loop μ-loop
-fold-answer-requires c κs = search needs
-
-add-i : tie.Need-add-i Inv-loop μ-loop
-add-i c = search needs
-
-loop-less : tie.Need-loop-less Inv-loop μ-loop
-loop-less c = search needs
-
-loop-again : tie.Need-loop-again Inv-loop μ-loop
-loop-again c = search needs
-
-returns : tie.Need-returns Inv-loop μ-loop
-returns c = search needs
-
 pub shown-in-place-spec : {M : Type 1} → statement M
 shown-in-place-spec =
     tie.close
     (tie.spec
     Inv-loop
     μ-loop
-    head-requires
-    loop-holds
-    mul-t15
-    shared-slice-read-t17
-    view-requires
-    fold-answer-requires
-    add-i
-    loop-less
-    loop-again
-    returns)
+    (λ c κs. search needs)
+    (λ c. search needs)
+    (λ c. search needs)
+    (λ c. search needs)
+    (λ c κs. search needs)
+    (λ c κs. search needs)
+    (λ c. search needs)
+    (λ c. search needs)
+    (λ c. search needs)
+    (λ c. search needs))

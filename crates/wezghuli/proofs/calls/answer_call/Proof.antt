@@ -1,14 +1,13 @@
--- `wezghuli_resume` meets its contract: words that are no head leave everything as it was, and else the call's outcome
--- is stored.
+-- `answer_call` meets its contract: words that are no head leave everything as it was, and else the call's outcome is
+-- stored.
 use mathlib.Core.Path.{sym, _∙_}
-use mathlib.Core.Bool.{false}
 use borrow.Author.Needs.{needs}
 use borrow.Author.Tests.{not-true, not-false}
-use Rattle.day.specs.Calls.Call.{mark-campaign}
+use Rattle.day.specs.InPlace.{asked}
 use Rattle.wezghuli.specs.Library.{memory}
 use Rattle.wezghuli.proofs.Stored.{misused, called}
-use Rattle.wezghuli.proofs.calls.wezghuli_resume.Statement.{statement}
-use Rattle.wezghuli.proofs.calls.wezghuli_resume.Tie as tie
+use Rattle.wezghuli.proofs.calls.answer_call.Statement.{statement}
+use Rattle.wezghuli.proofs.calls.answer_call.Tie as tie
 
 is-head-requires : tie.Need-is-head-requires
 is-head-requires c κs = search needs
@@ -16,15 +15,14 @@ is-head-requires c κs = search needs
 returns : tie.Need-returns
 returns c =
     let a = c .before .before .before .args in
-    misused (mark-campaign false (a .campaign))
-    (memory (a .head .now) (a .terms .now) (a .counts .now) (a .answer .now))
+    misused (asked (a .ask)) (memory (a .head .now) (a .terms .now) (a .counts .now) (a .answer .now))
     (sym (c .before .is-head .ensures) ∙ not-true (c .before .is-head .result) (c .if1 .taken))
 
 head-of-requires : tie.Need-head-of-requires
 head-of-requires c κs = search needs
 
-resume-requires : tie.Need-resume-requires
-resume-requires c κs = search needs
+execute-requires : tie.Need-execute-requires
+execute-requires c κs = search needs
 
 store-requires : tie.Need-store-requires
 store-requires c κs = search needs
@@ -35,14 +33,14 @@ returns-2 c =
     let head = step .before .before .before in
     let test = head .before .before in
     let a = test .before .before .before .args in
-    called (mark-campaign false (a .campaign)) (a .head .now) (a .terms .now) (a .counts .now) (a .answer .now)
+    called (asked (a .ask)) (a .head .now) (a .terms .now) (a .counts .now) (a .answer .now)
     (sym (test .before .is-head .ensures) ∙ not-false (test .before .is-head .result) (test .if1 .left))
     (head .head-of .result) (head .head-of .ensures)
-    (step .resume .result) (step .resume .last .1 .1 .0) (step .resume .last .1 .1 .1 .0)
+    (step .execute .result) (step .execute .last .1 .1 .0) (step .execute .last .1 .1 .1 .0)
     (c .store .last .1 .0) (c .store .last .1 .1 .0) (c .store .result)
-    (step .resume .ensures) (c .store .ensures)
+    (step .execute .ensures) (c .store .ensures)
 
-pub wezghuli-resume-spec : {M : Type 1} → statement M
-wezghuli-resume-spec =
+pub answer-call-spec : {M : Type 1} → statement M
+answer-call-spec =
     tie.close
-    (tie.spec is-head-requires returns head-of-requires resume-requires store-requires returns-2)
+    (tie.spec is-head-requires returns head-of-requires execute-requires store-requires returns-2)
