@@ -5,18 +5,20 @@
 //! an edit changes is checked again. First the crate is tried as it is, and must be proved: what is refused then is
 //! refused for the edit alone.
 
+mod kit;
 mod verdict;
 
+use kit::{fill, inner, Kit};
 use std::collections::VecDeque;
 use std::fs;
 use std::path::{Path, PathBuf};
 use std::process::Command;
 use std::sync::Mutex;
 use std::time::Instant;
-use verdict::{ended, verdict};
+use verdict::verdict;
 
 /// Seconds for one run of the prover.
-const LIMIT: &str = "300";
+const LIMIT: u64 = 300;
 /// The crate whose run shows where the prover keeps what it has checked, and that a change of a comment survives.
 const SMALLEST: &str = "sets";
 
@@ -34,8 +36,6 @@ struct Edit {
 
 struct Crate {
     name: String,
-    /// The crates that it names in crates.txt.
-    uses: Vec<String>,
     edits: Vec<Edit>,
 }
 
@@ -63,16 +63,13 @@ fn changed(text: &str, change: &Change) -> Result<String, String> {
     }
 }
 
-/// The crates in the order of crates.txt, each with its edits.
-fn crates(root: &Path) -> Vec<Crate> {
-    let list = fs::read_to_string(root.join("crates.txt")).expect("crates.txt");
-    let lines = list.lines().filter(|line| !line.starts_with('#')).filter_map(|line| line.split_once(':'));
-    let of_line = |(name, uses): (&str, &str)| Crate {
-        name: name.trim().into(),
-        uses: uses.split_whitespace().map(String::from).collect(),
-        edits: edits(&root.join("crates").join(name.trim()).join("must-fail")),
+/// The crates that have edits.
+fn crates(root: &Path, kit: &Kit) -> Vec<Crate> {
+    let of_name = |name: &String| Crate {
+        name: name.clone(),
+        edits: edits(&root.join("crates").join(name).join("must-fail")),
     };
-    lines.map(of_line).collect()
+    kit.uses.keys().map(of_name).filter(|c| !c.edits.is_empty()).collect()
 }
 
 fn edits(folder: &Path) -> Vec<Edit> {
@@ -89,64 +86,6 @@ fn edits(folder: &Path) -> Vec<Edit> {
 fn copy(from: &Path, to: &Path) {
     let done = Command::new("cp").arg("-r").arg(from).arg(to).status();
     assert!(done.expect("cp runs").success(), "{} is not copied", from.display());
-}
-
-/// The files of a folder in another, without their bytes copied: the prover replaces a file and never writes into one.
-fn link(from: &Path, to: &Path) {
-    fs::create_dir_all(to).expect("a folder");
-    let files = fs::read_dir(from).expect("a folder").map(|f| f.expect("a file"));
-    for file in files.filter(|f| f.path().is_file()) {
-        fs::hard_link(file.path(), to.join(file.file_name())).expect("a link");
-    }
-}
-
-/// The toolchain, and the libraries that it proved.
-struct Kit {
-    home: PathBuf,
-    /// What was compiled for this kind of machine.
-    own: PathBuf,
-    proved: PathBuf,
-}
-
-impl Kit {
-    fn of(root: &Path) -> Kit {
-        let said = |command: &str, word: &str| {
-            let output = Command::new(command).arg(word).output().expect("rt and uname are there");
-            String::from_utf8_lossy(&output.stdout).trim().to_string()
-        };
-        // rt doc prints HOME/docs/START-HERE.md
-        let home = PathBuf::from(said("rt", "doc")).ancestors().nth(2).expect("the kit's folder").to_path_buf();
-        Kit { own: home.join("on").join(said("uname", "-m")), home, proved: root.join("target/rlib") }
-    }
-
-    /// The words of `rt dev` for a crate that stands in a folder.
-    fn check(&self, c: &Crate, folder: &Path, incremental: &Path) -> Command {
-        let libraries = self.own.join("rlib");
-        let built = |name: &str| {
-            let file = format!("{name}.rlib");
-            let ours = self.proved.join(&file);
-            let path = if ours.is_dir() { ours } else { libraries.join(file) };
-            format!("{name}={}", path.display())
-        };
-        let sources = ["src/main.rt", "src/lib.rt"].map(|name| folder.join(name));
-        let mut command = Command::new("timeout");
-        command.arg(LIMIT).arg(self.own.join("bin/rattle")).args(["check", "--crate-name", &c.name]);
-        command.args(sources.iter().filter(|path| path.is_file()).take(1));
-        for name in ["std"].into_iter().chain(c.uses.iter().map(String::as_str)) {
-            command.args(["--extern", &built(name)]);
-        }
-        for folder in [&self.proved, &libraries] {
-            command.args(["-L", &format!("dependency={}", folder.display())]);
-        }
-        command.arg("--antt-project").arg(self.home.join("logic/antt-project.json"));
-        command.arg("--logic-built").arg(self.own.join("logic-built")).arg("--incremental").arg(incremental);
-        command
-    }
-
-    /// What was proved of a library, module by module.
-    fn checked(&self, name: &str) -> PathBuf {
-        self.proved.join(format!("{name}.rlib/toolchain/checked"))
-    }
 }
 
 /// Where one worker changes copies of crates.
@@ -177,8 +116,8 @@ impl Desk<'_> {
     }
 
     /// The prover's word on a crate with these changes, and the line that tells; it starts from what is checked there.
-    fn judge(&self, c: &Crate, changes: &[Change], checked: &Path) -> (String, String) {
-        let folder = self.lay(&c.name);
+    fn judge(&self, name: &str, changes: &[Change], checked: &Path) -> (String, String) {
+        let folder = self.lay(name);
         for change in changes {
             let path = folder.join(&change.file);
             let text = fs::read_to_string(&path).unwrap_or_default();
@@ -187,25 +126,14 @@ impl Desk<'_> {
                 Err(why) => return ("bad edit".into(), why),
             }
         }
-        let _ = fs::remove_dir_all(self.incremental());
-        if checked.is_dir() && !self.inner.is_empty() {
-            link(checked, &self.incremental().join(&self.inner));
-        }
-        fs::create_dir_all(self.incremental()).expect("a folder");
-        let run = ended(self.kit.check(c, &folder, &self.incremental()).output().expect("timeout is there"));
-        let (word, why) = verdict(&run);
+        fill(&self.incremental(), checked, &self.inner);
+        let (word, why) = verdict(&self.kit.check(name, &folder, &self.incremental(), LIMIT));
         (word.into(), why.replace(&format!("{}/", folder.display()), ""))
-    }
-
-    /// The name of the prover's folder, which its last run has made.
-    fn found(&self) -> String {
-        let inner = fs::read_dir(self.incremental()).expect("a folder").next();
-        inner.expect("the prover's folder").expect("a folder").file_name().to_string_lossy().into_owned()
     }
 
     /// The crate as it is must be proved; then each edit is tried over that.
     fn verdicts(&self, c: &Crate) -> Vec<(String, bool)> {
-        let (word, why) = self.judge(c, &[], &self.kit.checked(&c.name));
+        let (word, why) = self.judge(&c.name, &[], &self.kit.checked(&c.name));
         if word != "SURVIVED" {
             return vec![(format!("{} as it is: {word}: {why}", c.name), false)];
         }
@@ -213,7 +141,7 @@ impl Desk<'_> {
         fs::rename(self.incremental(), &kept).expect("a folder");
         let all = c.edits.iter().map(|edit| {
             let start = Instant::now();
-            let (word, why) = self.judge(c, &edit.changes, &kept.join(&self.inner));
+            let (word, why) = self.judge(&c.name, &edit.changes, &kept.join(&self.inner));
             let seconds = start.elapsed().as_secs();
             (format!("{}/{}: {word} ({seconds} s): {why}", c.name, edit.label), word == "refused")
         });
@@ -224,13 +152,13 @@ impl Desk<'_> {
 }
 
 /// Shows where the prover keeps what it has checked, and that a change that means nothing survives.
-fn first_run(desk: &mut Desk, c: &Crate) -> bool {
-    let text = fs::read_to_string(desk.root.join("crates").join(&c.name).join("src/lib.rt")).expect("a source file");
+fn first_run(desk: &mut Desk) -> bool {
+    let text = fs::read_to_string(desk.root.join("crates").join(SMALLEST).join("src/lib.rt")).expect("a source file");
     let line = text.lines().next().expect("a line").to_string();
     let comment = Change { file: "src/lib.rt".into(), new: format!("// another word\n{line}"), old: line };
-    let (word, why) = desk.judge(c, &[comment], Path::new(""));
-    desk.inner = desk.found();
-    println!("{}, with another comment: {word} {why}", c.name);
+    let (word, why) = desk.judge(SMALLEST, &[comment], Path::new(""));
+    desk.inner = inner(&desk.incremental());
+    println!("{SMALLEST}, with another comment: {word} {why}");
     word == "SURVIVED"
 }
 
@@ -244,12 +172,10 @@ fn main() {
     let (root, folder) = (PathBuf::from(&args[0]), PathBuf::from(&args[1]));
     let workers: usize = args[2].parse().expect("a number of workers");
     let kit = Kit::of(&root);
-    let mut all = crates(&root);
     let mut first = Desk { kit: &kit, root: &root, folder: folder.join("first"), inner: String::new() };
-    let smallest = all.iter().find(|c| c.name == SMALLEST).expect("the smallest crate");
-    let told = first_run(&mut first, smallest);
+    let told = first_run(&mut first);
     let counts = Mutex::new((usize::from(told), usize::from(!told)));
-    all.retain(|c| !c.edits.is_empty());
+    let mut all = crates(&root, &kit);
     all.sort_by_key(|c| std::cmp::Reverse(cost(&kit, c)));
     let queue = Mutex::new(VecDeque::from(all));
     std::thread::scope(|scope| {

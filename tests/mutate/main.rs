@@ -6,12 +6,14 @@
 //! ROOT/tests/mutate/MUTANTS.md is written anew.
 
 mod change;
+mod kit;
 mod prover;
 mod report;
 mod source;
 mod verdict;
 
 use change::{Changer, Scope};
+use kit::Kit;
 use prover::Prover;
 use std::collections::BTreeMap;
 use std::fs;
@@ -272,8 +274,9 @@ fn main() {
         return;
     }
     let results = folder.join("results");
-    let prover = Prover { work: folder.join("work"), limit: o.limit };
-    copy(&root, &prover.work);
+    let work = folder.join("work");
+    copy(&root, &work);
+    let prover = Prover { kit: Kit::of(&work), work, limit: o.limit };
     for name in &o.crates {
         let known = report::read(&results);
         let of_crate: Vec<&Mutant> = all.iter().filter(|m| m.name == *name || m.id == *name).collect();

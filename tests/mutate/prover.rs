@@ -1,5 +1,6 @@
 //! A copy of the project in which one line is changed at a time, and what the prover says of it.
 
+use crate::kit::{fill, inner, Kit};
 use crate::verdict::{ended, first, short, verdict, Run, PROGRAM};
 use std::fs::{self, File};
 use std::path::{Path, PathBuf};
@@ -9,7 +10,11 @@ use std::time::Instant;
 /// What the program reads and writes is not proved but tested, by these steps of the gate.
 const STEPS: [&[&str]; 2] = [&["tests/gate/pipe"], &["tests/gate/days", "50"]];
 
+/// The crate that is checked in the least time.
+const SMALLEST: &str = "finite";
+
 pub struct Prover {
+    pub kit: Kit,
     /// The copy.
     pub work: PathBuf,
     /// Seconds for one change.
@@ -31,15 +36,34 @@ impl Prover {
         ended(output.expect("timeout and rt are there"))
     }
 
+    fn incremental(&self) -> PathBuf {
+        self.work.join("incremental")
+    }
+
+    /// What is checked of the crate as it is.
+    fn kept(&self) -> PathBuf {
+        self.work.join("kept")
+    }
+
+    /// The crate's folder in the copy, checked as `rt dev` checks it over what is checked there.
+    fn quick(&self, name: &str, checked: &Path, folder: &str) -> Run {
+        fill(&self.incremental(), checked, folder);
+        self.kit.check(name, &self.work.join("crates").join(name), &self.incremental(), self.limit)
+    }
+
     /// The crate as it is must be proved, in whatever time (0), or nothing can be told of its changes.
     pub fn baseline(&self, name: &str) -> Result<(), String> {
-        for command in ["check", "dev"] {
-            let run = self.run(command, name, 0);
-            if run.status != Some(0) {
-                return Err(format!("rt {command} {name} fails without any change:\n{}", run.log));
-            }
-        }
-        Ok(())
+        let proved = |what: &str, run: Run| match run.status {
+            Some(0) => Ok(()),
+            _ => Err(format!("{what} fails without any change:\n{}", run.log)),
+        };
+        proved("rt check", self.run("check", name, 0))?;
+        // any run shows the name of the prover's folder
+        proved("rt dev", self.run("dev", SMALLEST, 0))?;
+        let folder = inner(&self.work.join("target/inc").join(SMALLEST));
+        proved("the check", self.quick(name, &self.kit.checked(name), &folder))?;
+        let _ = fs::remove_dir_all(self.kept());
+        fs::rename(self.incremental(), self.kept()).map_err(|error| error.to_string())
     }
 
     /// The crate's code as the compiler sees it, or its first error. It proves nothing and takes a second.
@@ -63,9 +87,10 @@ impl Prover {
         done
     }
 
-    /// `rt dev` refuses as `rt check` does, in less time; what it takes for proved is proved again by `rt check`.
+    /// This refuses as `rt check` does, in less time; what it takes for proved is proved again by `rt check`.
     fn proved(&self, name: &str) -> Run {
-        let quick = self.run("dev", name, self.limit);
+        let folder = inner(&self.kept());
+        let quick = self.quick(name, &self.kept().join(&folder), &folder);
         if quick.status == Some(0) {
             self.run("check", name, self.limit)
         } else {
