@@ -41,35 +41,41 @@ writes-more {w} {v} {u} a b t s = record {
   sent-before = λ e. t .sent-before (s .sent-before e);
 }
 
--- The wire w, after reads that gave blocks, with so many left.
-pub record Reached (w : Wire) (turns : ℕ) : Type 0 where
-  pub blocks : List (List ℕ)
+-- The wire w, after reads that gave these blocks, with so many left.
+pub record Reached (w : Wire) (blocks : List (List ℕ)) (turns : ℕ) : Type 0 where
   pub none-empty : None-empty blocks
   pub left : w .reads + turns ≡ 2 ^ 64 - 1
   pub got-is : w .got ≡ counted 0 (input-of blocks)
 
-pub reached-none : Reached new-wire (2 ^ 64 - 1)
-reached-none = record { blocks = []; none-empty = tt; left = omega arith; got-is = refl }
+pub reached-none : Reached new-wire [] (2 ^ 64 - 1)
+reached-none = record { none-empty = tt; left = omega arith; got-is = refl }
 
-module _ {w : Wire} {turns : ℕ} (a : Reached w turns) {l : List ℕ} {n : ℕ} {v : Wire} (r : Reads w l n v) where
-  pub more-got : v .got ≡ counted 0 (input-of (a .blocks) ++ take n l)
-  more-got =
-      r .got-is ∙ ap (λ (i : ℕ). counted i (take n l)) (a .got-is) ∙ counted-more 0 (input-of (a .blocks)) (take n l)
+-- writes change nothing of it
+pub reached-still : {w : Wire} {bs : List (List ℕ)} {turns : ℕ} → Reached w bs turns → {b : List ℕ} {v : Wire}
+    → Writes w b v → Reached v bs turns
+reached-still a t = record {
+  none-empty = a .none-empty;
+  left = omega (arith, a .left, t .reads-is);
+  got-is = t .got-is ∙ a .got-is;
+}
 
-  -- one that gave something, whatever was written after it
-  pub reached-more : v .ended ≡ false → {i : ℕ} → suc i ≡ turns → {b : List ℕ} {u : Wire} → Writes v b u → Reached u i
-  reached-more e {i} q {b} {u} t =
+-- One read more.
+module _ {w : Wire} {bs : List (List ℕ)} {turns : ℕ} (a : Reached w bs turns) {l : List ℕ} {n : ℕ} {v : Wire}
+    (r : Reads w l n v) where
+  pub more-got : v .got ≡ counted 0 (input-of bs ++ take n l)
+  more-got = r .got-is ∙ ap (λ (i : ℕ). counted i (take n l)) (a .got-is) ∙ counted-more 0 (input-of bs) (take n l)
+
+  -- it gave something
+  pub reached-more : v .ended ≡ false → {i : ℕ} → suc i ≡ turns → Reached v (take n l ∷ bs) i
+  reached-more e q =
       let some : n ≡ 0 → ⊥ = eqb-false n 0 (sym (r .ended-is) ∙ e) in
       let below : w .reads + 1 < 2 ^ 64 = omega (arith, a .left, q) in
       record {
-        blocks = take n l ∷ a .blocks;
         none-empty = (omega (arith, some, length-take-le n l (r .inside)), a .none-empty);
-        left = omega (arith, a .left, q, t .reads-is, r .reads-is, mod-eq-of-lt below);
-        got-is = t .got-is ∙ more-got;
+        left = omega (arith, a .left, q, r .reads-is, mod-eq-of-lt below);
+        got-is = more-got;
       }
 
-  -- one that gave nothing
-  pub no-more : v .ended ≡ true → input-of (a .blocks) ++ take n l ≡ input-of (a .blocks)
-  no-more e =
-      ap (λ (i : ℕ). input-of (a .blocks) ++ take i l) (eqb-true n 0 (sym (r .ended-is) ∙ e))
-      ∙ append-nil (input-of (a .blocks))
+  -- it gave nothing
+  pub no-more : v .ended ≡ true → input-of bs ++ take n l ≡ input-of bs
+  no-more e = ap (λ (i : ℕ). input-of bs ++ take i l) (eqb-true n 0 (sym (r .ended-is) ∙ e)) ∙ append-nil (input-of bs)

@@ -101,10 +101,7 @@ impl Wire {
         }
         if !self.sent {
             io::write_all(STDERR_FILENO, name);
-            io::write_all(
-                STDERR_FILENO,
-                b": standard output could not be written\n",
-            );
+            io::write_all(STDERR_FILENO, b": standard output could not be written\n");
         }
     }
 }
