@@ -5,13 +5,9 @@ use mathlib.Core.List.{List}
 use Prim.Native.Nat.{ℕ, _-_, _^_, _<_}
 use Rattle.day.specs.Day.{blank}
 use Rattle.stream.specs.Chunking.{after-lines, replies, Split}
-use Rattle.programs.specs.Lines.{with-rest, Of-lines}
+use Rattle.programs.specs.Lines.{all-lines, Of-lines}
 use Rattle.wire.specs.Wires.{counted, input-of, None-empty}
 use Rattle.pumpday.specs.declared.teller.Teller.{Teller}
-
--- all lines of an input, its rest among them
-abbrev pub lines-in : {l : List ℕ} → Split l → List (List ℕ)
-lines-in i = with-rest (i .lines) (i .rest)
 
 -- A whole run: reads gave blocks, which are lines and a rest. Unless a write failed or 2^64 − 1 reads were made, the
 -- last read gave nothing, the program's stream holds the state after the lines, and as many bytes were told as answer
@@ -26,7 +22,7 @@ pub record Runs (r : Teller) : Type 0 where
   pub failed-ends : r .wire .failed ≡ true → r .wire .ended ≡ true
   pub ended-is : r .wire .sent ≡ true → r .wire .reads < 2 ^ 64 - 1 → r .wire .ended ≡ true
   pub state-is : r .wire .sent ≡ true → r .wire .reads < 2 ^ 64 - 1
-      → r .stream .day ≡ after-lines blank (lines-in input)
+      → r .stream .day ≡ after-lines blank (all-lines input)
   pub told-is : r .wire .sent ≡ true → r .wire .reads < 2 ^ 64 - 1
-      → r .wire .told ≡ counted 0 (replies blank (lines-in input))
-  pub demands : Of-lines (lines-in input)
+      → r .wire .told ≡ counted 0 (replies blank (all-lines input))
+  pub demands : Of-lines (all-lines input)

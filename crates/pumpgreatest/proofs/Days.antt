@@ -1,6 +1,6 @@
 -- A run, block after block: what reads gave adds up to one input (`Reached`), whose day is the one that the stream and
 -- the entries for views have.
-use mathlib.Core.Path.{_≡_, refl, sym, ap, ap₂, _∙_, subst}
+use mathlib.Core.Path.{_≡_, refl, ap, ap₂, _∙_, subst}
 use mathlib.Core.Bool.{true, false}
 use mathlib.Core.List.{List, [], _∷_, _++_}
 use Prim.Native.Nat.{ℕ, suc, _-_, _^_, _≤_, _<_}
@@ -15,7 +15,8 @@ use Rattle.stream.specs.declared.feed.Stream.{Stream}
 use Rattle.stream.specs.Stream.{finished, new-stream}
 use Rattle.stream.specs.Chunking.{after-lines}
 use Rattle.stream.proofs.Chunking.{split}
-use Rattle.recording.specs.Recording.{all-lines, noted, last-views}
+use Rattle.programs.specs.Lines.{all-lines}
+use Rattle.recording.specs.Recording.{noted, last-views}
 use Rattle.recording.specs.Contracts.{Took}
 use Rattle.recording.proofs.Bytes.{took-none, took-more}
 use Rattle.recording.proofs.Views.{any-recording}

@@ -1,5 +1,4 @@
 -- Names for the contracts of inner functions: one read, and the end of input.
-use mathlib.Core.Path.{_≡_}
 use mathlib.Core.List.{List}
 use Prim.Native.Nat.{ℕ}
 use lib.ListN.{take}

@@ -9,9 +9,8 @@ use Rattle.day.specs.declared.Day.{Day}
 use Rattle.day.specs.Day.{blank, total-takings}
 use Rattle.optimum.specs.Optimum.{max-handed-in, most-of}
 use Rattle.stream.specs.Chunking.{after-lines, Split}
-use Rattle.programs.specs.Lines.{day-of}
+use Rattle.programs.specs.Lines.{day-of, all-lines}
 use Rattle.floor.specs.History.{own-views}
-use Rattle.recording.specs.Recording.{all-lines}
 use Rattle.earnings.specs.declared.Earnings.{Earnings}
 use Rattle.earnings.specs.declared.Earnings.the-variants.{Refused, Figures}
 use Rattle.earnings.specs.Earnings.{earnings-text}

@@ -2,28 +2,27 @@
 -- composes, a part and then a part is a part (`took-more`), and `Reached` carries the sum over the blocks that reads
 -- gave. Every line keeps a state sound, so that the page is never refused.
 use mathlib.Core.Path.{_≡_, refl, sym, ap, ap₂, _∙_, subst}
-use mathlib.Core.Bool.{Bool, true, false, cond}
+use mathlib.Core.Bool.{true, false}
 use mathlib.Core.List.{List, [], _∷_, _++_}
 use Prim.Native.Nat.{ℕ, suc, _+_, _-_, _^_, _≤_, _<_}
 use native.Mathlib.Omega.{arith}
-use lib.ListN.{length, take, drop, length-append, length-drop}
-use lib.Seq.{take-all, take-add, take-append-seam}
-use borrow.Author.Tests.{le-leb}
+use lib.ListN.{length, take, drop, length-append}
+use lib.Seq.{take-append-seam}
 use Rattle.finite.proofs.Tests.{never}
 use Rattle.day.specs.declared.Day.{Day}
 use Rattle.day.specs.Day.{blank, sound}
-use Rattle.demands.proofs.Sound.{blank-sound, sound-kept}
-use Rattle.lines.specs.Reading.{reading}
-use Rattle.reply.specs.Reply.{Request, request-of, executed, outcome, next}
-use Rattle.reply.specs.Reply.Request.{makes, fails}
-use Rattle.reply.specs.Session.{Session, reply-room, fed, consumed-count}
-use Rattle.reply.proofs.Sessions.{cut-next, fed-append}
+use Rattle.demands.proofs.Sound.{blank-sound}
+use Rattle.reply.specs.Reply.{next}
+use Rattle.reply.specs.Session.{Session, reply-room, fed}
+use Rattle.reply.proofs.Ranges.{next-sound}
+use Rattle.reply.proofs.Sessions.{cut-next}
 use Rattle.stream.specs.declared.feed.Stream.{Stream}
 use Rattle.stream.specs.declared.feed.Fed.{Fed}
 use Rattle.stream.specs.Stream.{ended-if, finished, new-stream, session, session-of, silent, Feeds, Finishes}
 use Rattle.stream.specs.Chunking.{after-lines, Split}
-use Rattle.stream.proofs.Chunking.{fed-said, session-next, taken-inside, fed-lines, split}
-use Rattle.wire.specs.Wires.{counted, Reads, Writes, input-of}
+use Rattle.stream.proofs.Chunking.{session-next, fed-lines, split}
+use Rattle.stream.proofs.Parts.{stream-more, part-fed, part-upto, part-inside, part-further, taken-further, last-comes}
+use Rattle.wire.specs.Wires.{counted, input-of}
 use Rattle.wire.proofs.Blocks as reads
 use Rattle.page.specs.declared.Printing.{Printing}
 use Rattle.page.specs.declared.Printing.the-variants.{Length, Refusal}
@@ -37,14 +36,6 @@ use Rattle.pumppage.specs.Prints.{after-rest, end-state, Prints}
 use Rattle.pumppage.specs.Contracts.{Took, Part, Taken}
 
 -- Every line keeps a state sound.
-
-next-sound : (s : Day) (l : List ℕ) → sound s ≡ true → sound (next s l) ≡ true
-unfolding next outcome
-next-sound s l h = go (request-of (reading l))
-  where
-    go : (q : Request) → sound (executed s q .day) ≡ true
-    go (makes c) = sound-kept s c h
-    go (fails q) = h
 
 lines-sound : (s : Day) (ls : List (List ℕ)) → sound s ≡ true → sound (after-lines s ls) ≡ true
 unfolding after-lines
@@ -66,54 +57,33 @@ unfolding fed
 took-none k = refl
 
 took-more : (k o q : Stream) (l m : List ℕ) → Took k l o → Took o m q → Took k (l ++ m) q
-took-more k o q l m t s =
-    let x = session-of k in
-    s ∙ ap (λ (y : Session). silent (fed y m)) t ∙ sym (ap silent (fed-append x l m ∙ fed-said (fed x l) m))
+took-more k o q l m t s = stream-more (session-of k) l m (session-of o) t (session-of q) s
 
 pub part-is : (k : Stream) (l d e : List ℕ) (from : ℕ) (r : Fed) → from ≤ length l
     → Feeds k (take (length l - from) (drop from l)) d e r
     → Part k l d from (record { stream = r .stream; from = from + r .consumed })
-part-is k l d e from r h f =
-    let g = subst (λ (m : List ℕ). Feeds k m d e r)
-    (take-all (length l - from) (drop from l) (omega (arith, length-drop from l))) f in
-    record {
-      upto-is = ap (λ (b : Fed). from + b .consumed) (g .back-is);
-      inside = omega (arith, taken-inside k (drop from l) d e r g, length-drop from l, h);
-      took = session-next g;
-    }
-
--- with room for the longest answer a byte at least is taken
-some-taken : (n : ℕ) (x : Session) (l : List ℕ) → length (x .output) + reply-room ≤ n → 0 < length l
-    → 0 < consumed-count n x l
-unfolding consumed-count
-some-taken n x [] h k = absurd (omega arith)
-some-taken n x (b ∷ l) h k = rw (le-leb (length (x .output) + reply-room) n h) (omega arith)
+part-is k l d e from r h f = record {
+  upto-is = part-upto k l d e from r h f;
+  inside = part-inside k l d e from r h f;
+  took = session-next (part-fed k l d e from r h f);
+}
 
 module _ (l d : List ℕ) (t r : Turn) (p : Part (t .stream) l d (t .from) r) where
   pub part-less : t .from < length l → reply-room ≤ length d → t .from < r .from
-  part-less h room =
-      omega (
-        arith,
-        p .upto-is,
-        some-taken (length d) (session-of (t .stream)) (drop (t .from) l) room
-            (omega (arith, length-drop (t .from) l)),
-      )
+  part-less = part-further (t .stream) l d (t .from) (r .from) (p .upto-is)
 
   pub part-more : (k : Stream) → Took k (take (t .from) l) (t .stream) → Took k (take (r .from) l) (r .stream)
   part-more k h =
-      let i = consumed-count (length d) (session-of (t .stream)) (drop (t .from) l) in
       subst (λ (m : List ℕ). Took k m (r .stream))
-      (sym (ap (λ (j : ℕ). take j l) (p .upto-is) ∙ take-add (t .from) i l))
-      (took-more k (t .stream) (r .stream) (take (t .from) l) (take i (drop (t .from) l)) h (p .took))
+      (taken-further (t .stream) l d (t .from) (r .from) (p .upto-is))
+      (took-more k (t .stream) (r .stream) (take (t .from) l) _ h (p .took))
 
 -- The page at the end: the state f of a stream k that has finished, and what printing it gave.
 
 module _ (k : Stream) (d d₁ d₂ : List ℕ) (r : Fed) (room : reply-room ≤ length d) (h : sound (k .day) ≡ true)
     (f : Finishes k d d₁ r) (same : length d₁ ≡ length d) where
   last-day : r .stream .day ≡ finished (session-of k) .day
-  last-day =
-      ap (λ (b : Fed). b .stream .day) (f .back-is)
-      ∙ ap (λ (b : Bool). cond b (finished (session-of k)) (session-of k) .day) (le-leb reply-room (length d) room)
+  last-day = ap (λ (b : Fed). b .stream .day) (last-comes k d d₁ r room f .back-is)
 
   last-sound : sound (r .stream .day) ≡ true
   last-sound = ap sound last-day ∙ finished-sound (session-of k) h

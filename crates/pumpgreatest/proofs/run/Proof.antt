@@ -1,6 +1,6 @@
--- A run, block after block. The loop's invariant: the stream, the entries for views and the teller stand where the blocks
--- that reads gave have led (`Reached`). A turn leaves it for a read that failed, for a read that gave nothing, or with
--- one block more.
+-- A run, block after block. The loop's invariant: the stream, the entries for views and the teller stand where the
+-- blocks that reads gave have led (`Reached`). A turn leaves it for a read that failed, for a read that gave nothing,
+-- or with one block more.
 use mathlib.Core.Path.{_≡_, refl, sym, _∙_, subst}
 use Prim.Native.Nat.{_-_, _^_}
 use native.Mathlib.Omega.{arith}

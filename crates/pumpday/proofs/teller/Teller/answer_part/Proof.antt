@@ -6,7 +6,8 @@ use lib.ListN.{length}
 use lib.Seq.{length-take-le}
 use borrow.Author.Needs.{needs}
 use Rattle.stream.proofs.Chunking.{written-inside}
-use Rattle.pumpday.proofs.Pumps.{part-due, part-next, part-inside, part-is}
+use Rattle.stream.proofs.Parts.{part-inside}
+use Rattle.pumpday.proofs.Pumps.{part-due, part-next, part-is}
 use Rattle.pumpday.proofs.teller.Teller.answer_part.Statement.{statement}
 use Rattle.pumpday.proofs.teller.Teller.answer_part.Tie as tie
 
@@ -18,7 +19,8 @@ inside : (c : tie.After-feed) → begin c .args .from + c .feed .result .consume
 inside c =
     let s = begin c in
     let a = s .args in
-    part-inside (a .self) (a .block .now) (a .out .now) _ (a .from) (c .feed .result) (s .pre) (c .feed .ensures)
+    part-inside (a .self .stream) (a .block .now) (a .out .now) _ (a .from) (c .feed .result) (s .pre)
+    (c .feed .ensures)
 
 add-to : tie.Need-add-to
 add-to c = omega (arith, inside (c .before .before .before .before))

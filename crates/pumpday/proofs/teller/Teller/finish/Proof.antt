@@ -4,7 +4,7 @@ use lib.Seq.{length-take-le}
 use borrow.Author.Needs.{needs}
 use Rattle.stream.specs.Stream.{finished, session-of, Comes-to}
 use Rattle.stream.proofs.Chunking.{front-said, session-next, written-inside}
-use Rattle.pumpday.proofs.Pumps.{last-comes}
+use Rattle.stream.proofs.Parts.{last-comes}
 use Rattle.pumpday.proofs.teller.Teller.finish.Statement.{statement}
 use Rattle.pumpday.proofs.teller.Teller.finish.Tie as tie
 

@@ -12,7 +12,9 @@ returns c =
     let s = c .before .before .before .before in
     record {
       stream-is = s .pre .1;
-      writes = subst (λ (b : List ℕ). Writes (s .args .self .wire) b (c .write .result)) (s .pre .0) (c .write .ensures);
+      writes =
+          subst (λ (b : List ℕ). Writes (s .args .self .wire) b (c .write .result)) (s .pre .0)
+          (c .write .ensures);
     }
 
 pub tell-spec : {M : Type 1} → statement M
