@@ -21,7 +21,7 @@ use std::io::Write;
 use std::path::{Path, PathBuf};
 use std::process::Command;
 
-const CRATES: [&str; 27] = [
+const CRATES: [&str; 28] = [
     "sets",
     "powers",
     "exchange",
@@ -44,6 +44,7 @@ const CRATES: [&str; 27] = [
     "stream",
     "recording",
     "replay",
+    "wire",
     "pumpday",
     "pumppage",
     "pumpgreatest",

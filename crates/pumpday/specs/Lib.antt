@@ -1,3 +1,3 @@
-pub mod Wires
+pub mod Tells
 pub mod Pump
 pub mod Contracts

@@ -1,40 +1,28 @@
 -- A whole run of the program: the input that reads gave, and what was told.
 use mathlib.Core.Path.{_≡_}
 use mathlib.Core.Bool.{true}
-use mathlib.Core.List.{List, [], _∷_, _++_}
+use mathlib.Core.List.{List}
 use Prim.Native.Nat.{ℕ, _-_, _^_, _<_}
-use lib.ListN.{length}
 use Rattle.day.specs.Day.{blank}
 use Rattle.stream.specs.Chunking.{after-lines, replies, Split}
-use Rattle.programs.specs.Lines.{with-rest, Of-lines}
-use Rattle.pumpday.specs.declared.wire.Wire.{Wire}
-use Rattle.pumpday.specs.Wires.{counted}
-
--- what reads gave, the latest first, and as one input
-abbrev pub input-of : List (List ℕ) → List ℕ
-input-of [] = []
-input-of (b ∷ bs) = input-of bs ++ b
-
-abbrev pub None-empty : List (List ℕ) → Type 0
-None-empty [] = Unit {0}
-None-empty (b ∷ bs) = (0 < length b) × None-empty bs
-
--- all lines of an input, its rest among them
-abbrev pub lines-in : {l : List ℕ} → Split l → List (List ℕ)
-lines-in i = with-rest (i .lines) (i .rest)
+use Rattle.programs.specs.Lines.{all-lines, Of-lines}
+use Rattle.wire.specs.Wires.{counted, input-of, None-empty}
+use Rattle.pumpday.specs.declared.teller.Teller.{Teller}
 
 -- A whole run: reads gave blocks, which are lines and a rest. Unless a write failed or 2^64 − 1 reads were made, the
 -- last read gave nothing, the program's stream holds the state after the lines, and as many bytes were told as answer
--- them from the blank state on; each call of `Wire::tell` tells what is due from that stream. Of the lines demand 3
+-- them from the blank state on; each call of `Teller::tell` tells what is due from that stream. Of the lines demand 3
 -- holds, and at widths above 1 Algorithm 4. `sent` and `failed` are free, being what C answered, but that a read that
 -- failed was the last, as one that gave nothing.
-pub record Runs (r : Wire) : Type 0 where
+pub record Runs (r : Teller) : Type 0 where
   pub blocks : List (List ℕ)
-  pub none-empty : r .sent ≡ true → None-empty blocks
+  pub none-empty : r .wire .sent ≡ true → None-empty blocks
   pub input : Split (input-of blocks)
-  pub got-is : r .got ≡ counted 0 (input-of blocks)
-  pub failed-ends : r .failed ≡ true → r .ended ≡ true
-  pub ended-is : r .sent ≡ true → r .reads < 2 ^ 64 - 1 → r .ended ≡ true
-  pub state-is : r .sent ≡ true → r .reads < 2 ^ 64 - 1 → r .stream .day ≡ after-lines blank (lines-in input)
-  pub told-is : r .sent ≡ true → r .reads < 2 ^ 64 - 1 → r .told ≡ counted 0 (replies blank (lines-in input))
-  pub demands : Of-lines (lines-in input)
+  pub got-is : r .wire .got ≡ counted 0 (input-of blocks)
+  pub failed-ends : r .wire .failed ≡ true → r .wire .ended ≡ true
+  pub ended-is : r .wire .sent ≡ true → r .wire .reads < 2 ^ 64 - 1 → r .wire .ended ≡ true
+  pub state-is : r .wire .sent ≡ true → r .wire .reads < 2 ^ 64 - 1
+      → r .stream .day ≡ after-lines blank (all-lines input)
+  pub told-is : r .wire .sent ≡ true → r .wire .reads < 2 ^ 64 - 1
+      → r .wire .told ≡ counted 0 (replies blank (all-lines input))
+  pub demands : Of-lines (all-lines input)

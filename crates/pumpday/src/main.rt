@@ -1,33 +1,33 @@
 // Standard input to standard output: each line is answered, and all answers are written before more input is waited
 // for. A read or a write that fails is told on standard error.
-mod wire;
+mod teller;
 
 ghost use Prim.Native.Nat.{_≤_};
 ghost use lib.ListN.{length};
 ghost use Rattle.reply.specs.Session.{reply-room};
 ghost use Rattle.pumpday.specs.Pump.{Runs};
-use wire::Wire;
+use teller::Teller;
 
 // Block after block, until a read gives nothing or a write fails. A proved loop has to end: this one counts down from a
 // number that no run uses up.
-fn run(block: &mut [u8], out: &mut [u8]) -> Wire
+fn run(block: &mut [u8], out: &mut [u8]) -> Teller
     requires { ⌜ reply-room ≤ length (now out) ⌝ }
     ensures { λ r. ⌜ Runs r ⌝ }
 {
-    let mut wire = Wire::new();
+    let mut teller = Teller::new();
     let mut turns = u64::MAX;
     while turns > 0 {
-        let w = wire.turn(block, out);
+        let w = teller.turn(block, out);
         if !w.sent() {
             return w;
         }
         if w.ended() {
             return w.finish(out);
         }
-        wire = w;
+        teller = w;
         turns -= 1;
     }
-    wire
+    teller
 }
 
 fn main() {

@@ -1,9 +1,7 @@
 -- Names for the contracts of inner functions: one read, and the end of input.
-use mathlib.Core.Path.{_≡_}
 use mathlib.Core.List.{List}
-use Prim.Native.Nat.{ℕ, _+_, _%_, _^_, _≤_}
-use lib.Dec.{eqb}
-use lib.ListN.{length, take}
+use Prim.Native.Nat.{ℕ}
+use lib.ListN.{take}
 use Rattle.day.specs.declared.Day.{Day}
 use Rattle.stream.specs.declared.feed.Stream.{Stream}
 use Rattle.stream.specs.Stream.{finished, session-of}
@@ -11,18 +9,14 @@ use Rattle.recording.specs.Recording.{noted, kept-views}
 use Rattle.recording.specs.Contracts.{Took}
 use Rattle.earnings.specs.declared.Earnings.{Earnings}
 use Rattle.earnings.specs.Earnings.{earned}
+use Rattle.wire.specs.Wires.{Reads}
 use Rattle.pumpgreatest.specs.declared.Read.{Read}
-use Rattle.pumpgreatest.specs.declared.wire.Wire.{Wire}
-use Rattle.pumpgreatest.specs.Wires.{counted}
+use Rattle.pumpgreatest.specs.declared.teller.Teller.{Teller}
 
 -- one read, which gave the first n bytes of l: they were taken, and the entries v for views became u
-pub record Taken (w : Wire) (k : Stream) (v l : List ℕ) (r : Read) (u : List ℕ) : Type 0 where
+pub record Taken (w : Teller) (k : Stream) (v l : List ℕ) (r : Read) (u : List ℕ) : Type 0 where
   pub n : ℕ
-  pub inside : n ≤ length l
-  pub reads-is : r .wire .reads ≡ (w .reads + 1) % 2 ^ 64
-  pub got-is : r .wire .got ≡ counted (w .got) (take n l)
-  pub told-is : r .wire .told ≡ w .told
-  pub ended-is : r .wire .ended ≡ eqb n 0
+  pub reads : Reads (w .wire) l n (r .teller .wire)
   pub took : Took k v (take n l) (r .stream) u
 
 -- the earnings of a state that has these entries for its views

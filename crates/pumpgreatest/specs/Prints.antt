@@ -1,7 +1,7 @@
 -- A whole run of the program: the input that reads gave, and what was told.
 use mathlib.Core.Path.{_≡_}
 use mathlib.Core.Bool.{true, false, cond}
-use mathlib.Core.List.{List, [], _∷_, _++_}
+use mathlib.Core.List.{List}
 use Prim.Native.Nat.{ℕ, _-_, _^_, _<_}
 use lib.Dec.{leb}
 use lib.ListN.{length}
@@ -9,23 +9,13 @@ use Rattle.day.specs.declared.Day.{Day}
 use Rattle.day.specs.Day.{blank, total-takings}
 use Rattle.optimum.specs.Optimum.{max-handed-in, most-of}
 use Rattle.stream.specs.Chunking.{after-lines, Split}
-use Rattle.programs.specs.Lines.{day-of}
+use Rattle.programs.specs.Lines.{day-of, all-lines}
 use Rattle.floor.specs.History.{own-views}
-use Rattle.recording.specs.Recording.{all-lines}
 use Rattle.earnings.specs.declared.Earnings.{Earnings}
 use Rattle.earnings.specs.declared.Earnings.the-variants.{Refused, Figures}
 use Rattle.earnings.specs.Earnings.{earnings-text}
-use Rattle.pumpgreatest.specs.declared.wire.Wire.{Wire}
-use Rattle.pumpgreatest.specs.Wires.{counted}
-
--- what reads gave, the latest first, and as one input
-abbrev pub input-of : List (List ℕ) → List ℕ
-input-of [] = []
-input-of (b ∷ bs) = input-of bs ++ b
-
-abbrev pub None-empty : List (List ℕ) → Type 0
-None-empty [] = Unit {0}
-None-empty (b ∷ bs) = (0 < length b) × None-empty bs
+use Rattle.wire.specs.Wires.{counted, input-of, None-empty}
+use Rattle.pumpgreatest.specs.declared.teller.Teller.{Teller}
 
 -- a state and the views of its day: what it took and the most that these views could have earned, or 19 for more than
 -- 256 of them
@@ -40,13 +30,14 @@ day-earnings ls = answer (after-lines blank ls) (own-views (day-of ls))
 -- failed or 2^64 − 1 reads were made, the last read gave nothing, the earnings that were told are those of the day that
 -- the lines record, and as many bytes were told as their line has; that they are its bytes is what `tell` requires.
 -- After a read that failed nothing is told.
-pub record Prints (r : Wire) : Type 0 where
+pub record Prints (r : Teller) : Type 0 where
   pub blocks : List (List ℕ)
-  pub none-empty : r .failed ≡ false → None-empty blocks
+  pub none-empty : r .wire .failed ≡ false → None-empty blocks
   pub input : Split (input-of blocks)
-  pub got-is : r .got ≡ counted 0 (input-of blocks)
-  pub ended-is : r .failed ≡ false → r .reads < 2 ^ 64 - 1 → r .ended ≡ true
-  pub earnings-is : r .failed ≡ false → r .reads < 2 ^ 64 - 1 → r .earnings ≡ day-earnings (all-lines input)
-  pub told-is : r .failed ≡ false → r .reads < 2 ^ 64 - 1
-      → r .told ≡ counted 0 (earnings-text (day-earnings (all-lines input)))
-  pub none-told : r .failed ≡ true → r .told ≡ 0
+  pub got-is : r .wire .got ≡ counted 0 (input-of blocks)
+  pub ended-is : r .wire .failed ≡ false → r .wire .reads < 2 ^ 64 - 1 → r .wire .ended ≡ true
+  pub earnings-is : r .wire .failed ≡ false → r .wire .reads < 2 ^ 64 - 1
+      → r .earnings ≡ day-earnings (all-lines input)
+  pub told-is : r .wire .failed ≡ false → r .wire .reads < 2 ^ 64 - 1
+      → r .wire .told ≡ counted 0 (earnings-text (day-earnings (all-lines input)))
+  pub none-told : r .wire .failed ≡ true → r .wire .told ≡ 0

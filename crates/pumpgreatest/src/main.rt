@@ -1,14 +1,14 @@
 // A recorded day from standard input, and to standard output one line: what it took, the most that it could have
 // earned, and their ratio. A read or a write that fails is told on standard error; nothing is printed of a day that
 // could not be read to its end.
-mod wire;
+mod teller;
 
 ghost use mathlib.Core.Path.{_≡_};
 ghost use Prim.Native.Nat.{min, _≤_, _<_};
 ghost use lib.ListN.{length};
 ghost use Rattle.optimum.specs.Optimum.{max-handed-in};
 ghost use Rattle.reply.specs.Session.{reply-room};
-ghost use Rattle.pumpgreatest.specs.Wires.{Tells};
+ghost use Rattle.pumpgreatest.specs.Tells.{Tells};
 ghost use Rattle.pumpgreatest.specs.Prints.{Prints};
 ghost use Rattle.pumpgreatest.specs.Contracts.{Taken, earned-at-end};
 use earnings::ROOM;
@@ -17,35 +17,35 @@ use earnings::put_earnings;
 use recording::take_block;
 use recording::take_end;
 use stream::feed::Stream;
-use wire::Wire;
+use teller::Teller;
 
 // One entry more than the search takes, so that a day of more views is refused there.
 const ENTRIES: usize = 257;
 
-// The stream, and the wire after a read.
+// The stream, and the teller after a read.
 struct Read {
     stream: Stream,
-    wire: Wire,
+    teller: Teller,
 }
 
 // One read, and what it gave.
 fn read_block(
-    wire: Wire,
+    teller: Teller,
     stream: Stream,
     block: &mut [u8],
     views: &mut [u64],
     out: &mut [u8],
 ) -> Read
     requires { ⌜ reply-room ≤ length (now out) ⌝ }
-    ensures { λ r. ⌜ Taken wire stream (now (views .entry)) (now (block .exit)) r (now (views .exit)) ⌝ }
+    ensures { λ r. ⌜ Taken teller stream (now (views .entry)) (now (block .exit)) r (now (views .exit)) ⌝ }
 {
-    let r = wire.read(block);
-    let w = r.wire;
+    let r = teller.read(block);
+    let w = r.teller;
     let n = r.n;
     let next = take_block(stream, &block[..n], views, out);
     Read {
         stream: next,
-        wire: w,
+        teller: w,
     }
 }
 
@@ -60,31 +60,31 @@ fn at_most(n: u64, most: usize) -> usize
 }
 
 // A last line without byte 10, and the day's line.
-fn finish(wire: Wire, stream: Stream, views: &mut [u64], out: &mut [u8]) -> Wire
+fn finish(teller: Teller, stream: Stream, views: &mut [u64], out: &mut [u8]) -> Teller
     requires { ⌜ reply-room ≤ length (now out) ⌝ }
-    ensures { λ r. ⌜ Tells wire (earned-at-end stream (now (views .entry))) r ⌝ }
+    ensures { λ r. ⌜ Tells teller (earned-at-end stream (now (views .entry))) r ⌝ }
 {
     let last = take_end(stream, views, out);
     let day = last.day;
     let n = at_most(day.accepted, views.len());
     let earnings = earned(day, &views[..n]);
     let at = put_earnings(out, earnings);
-    wire.tell(earnings, &out[at..ROOM])
+    teller.tell(earnings, &out[at..ROOM])
 }
 
 // Block after block, until a read gives nothing or fails. A proved loop has to end: this one counts down from a number
 // that no run uses up.
-fn run(block: &mut [u8], views: &mut [u64], out: &mut [u8]) -> Wire
+fn run(block: &mut [u8], views: &mut [u64], out: &mut [u8]) -> Teller
     requires { ⌜ (reply-room ≤ length (now out)) × (max-handed-in < length (now views)) ⌝ }
     ensures { λ r. ⌜ Prints r ⌝ }
 {
     let mut stream = Stream::new();
-    let mut wire = Wire::new();
+    let mut teller = Teller::new();
     let mut turns = u64::MAX;
     while turns > 0 {
-        let t = read_block(wire, stream, block, views, out);
+        let t = read_block(teller, stream, block, views, out);
         let next = t.stream;
-        let w = t.wire;
+        let w = t.teller;
         if w.failed() {
             return w;
         }
@@ -92,10 +92,10 @@ fn run(block: &mut [u8], views: &mut [u64], out: &mut [u8]) -> Wire
             return finish(w, next, views, out);
         }
         stream = next;
-        wire = w;
+        teller = w;
         turns -= 1;
     }
-    wire
+    teller
 }
 
 fn main() {

@@ -1,16 +1,15 @@
 -- Names for the contracts of inner functions: a part of a block, and one read.
 use mathlib.Core.Path.{_≡_}
 use mathlib.Core.List.{List}
-use Prim.Native.Nat.{ℕ, _+_, _%_, _^_, _≤_}
-use lib.Dec.{eqb}
+use Prim.Native.Nat.{ℕ, _+_, _≤_}
 use lib.ListN.{length, take, drop}
 use Rattle.reply.specs.Session.{fed, consumed-count}
 use Rattle.stream.specs.declared.feed.Stream.{Stream}
 use Rattle.stream.specs.Stream.{session-of, silent, consumed-bytes}
+use Rattle.wire.specs.Wires.{Reads}
 use Rattle.pumppage.specs.declared.Turn.{Turn}
 use Rattle.pumppage.specs.declared.Read.{Read}
-use Rattle.pumppage.specs.declared.wire.Wire.{Wire}
-use Rattle.pumppage.specs.Wires.{counted}
+use Rattle.pumppage.specs.declared.teller.Teller.{Teller}
 
 -- the stream k took the bytes l and became m
 abbrev pub Took : Stream → List ℕ → Stream → Type 0
@@ -23,11 +22,7 @@ pub record Part (k : Stream) (l d : List ℕ) (from : ℕ) (r : Turn) : Type 0 w
   pub took : Took k (consumed-bytes (session-of k) (drop from l) d) (r .stream)
 
 -- one read, which gave the first n bytes of l: they were taken
-pub record Taken (w : Wire) (k : Stream) (l : List ℕ) (r : Read) : Type 0 where
+pub record Taken (w : Teller) (k : Stream) (l : List ℕ) (r : Read) : Type 0 where
   pub n : ℕ
-  pub inside : n ≤ length l
-  pub reads-is : r .wire .reads ≡ (w .reads + 1) % 2 ^ 64
-  pub got-is : r .wire .got ≡ counted (w .got) (take n l)
-  pub told-is : r .wire .told ≡ w .told
-  pub ended-is : r .wire .ended ≡ eqb n 0
+  pub reads : Reads (w .wire) l n (r .teller .wire)
   pub took : Took k (take n l) (r .stream)

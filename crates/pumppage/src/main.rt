@@ -1,6 +1,6 @@
 // A recorded day from standard input, and the station's page of the state at its end to standard output. A read or a
 // write that fails is told on standard error; no page is printed of a day that could not be read to its end.
-mod wire;
+mod teller;
 
 ghost use mathlib.Core.Path.{_≡_};
 ghost use mathlib.Core.Bool.{true};
@@ -9,13 +9,13 @@ ghost use lib.ListN.{length};
 ghost use Rattle.day.specs.Day.{sound};
 ghost use Rattle.reply.specs.Session.{reply-room, fed};
 ghost use Rattle.stream.specs.Stream.{finished, session-of, silent};
-ghost use Rattle.pumppage.specs.Wires.{Tells};
+ghost use Rattle.pumppage.specs.Tells.{Tells};
 ghost use Rattle.pumppage.specs.Prints.{Prints};
 ghost use Rattle.pumppage.specs.Contracts.{Part, Taken};
 use page::Printing;
 use page::print_day;
 use stream::feed::Stream;
-use wire::Wire;
+use teller::Teller;
 
 // The stream, and the place in the block.
 struct Turn {
@@ -23,10 +23,10 @@ struct Turn {
     from: usize,
 }
 
-// The stream, and the wire after a read.
+// The stream, and the teller after a read.
 struct Read {
     stream: Stream,
-    wire: Wire,
+    teller: Teller,
 }
 
 // The block from a place on, as far as there is room for its answers, which nobody is told.
@@ -59,47 +59,47 @@ fn take_block(stream: Stream, block: &[u8], out: &mut [u8]) -> Stream
 }
 
 // One read, and what it gave.
-fn read_block(wire: Wire, stream: Stream, block: &mut [u8], out: &mut [u8]) -> Read
+fn read_block(teller: Teller, stream: Stream, block: &mut [u8], out: &mut [u8]) -> Read
     requires { ⌜ reply-room ≤ length (now out) ⌝ }
-    ensures { λ r. ⌜ Taken wire stream (now (block .exit)) r ⌝ }
+    ensures { λ r. ⌜ Taken teller stream (now (block .exit)) r ⌝ }
 {
-    let r = wire.read(block);
-    let w = r.wire;
+    let r = teller.read(block);
+    let w = r.teller;
     let n = r.n;
     let next = take_block(stream, &block[..n], out);
     Read {
         stream: next,
-        wire: w,
+        teller: w,
     }
 }
 
 // A last line without byte 10, and the page.
-fn finish(wire: Wire, stream: Stream, out: &mut [u8]) -> Wire
+fn finish(teller: Teller, stream: Stream, out: &mut [u8]) -> Teller
     requires { ⌜ (reply-room ≤ length (now out)) × (sound (stream .day) ≡ true) ⌝ }
-    ensures { λ r. ⌜ Tells wire (finished (session-of stream) .day) r ⌝ }
+    ensures { λ r. ⌜ Tells teller (finished (session-of stream) .day) r ⌝ }
 {
     let fed = stream.finish(out);
     let next = fed.stream;
     let day = next.day;
     match print_day(day, out) {
-        Printing::Length(n) => wire.tell(day, &out[..n]),
-        Printing::Refusal(_) => wire,
+        Printing::Length(n) => teller.tell(day, &out[..n]),
+        Printing::Refusal(_) => teller,
     }
 }
 
 // Block after block, until a read gives nothing or fails. A proved loop has to end: this one counts down from a number
 // that no run uses up.
-fn run(block: &mut [u8], out: &mut [u8]) -> Wire
+fn run(block: &mut [u8], out: &mut [u8]) -> Teller
     requires { ⌜ reply-room ≤ length (now out) ⌝ }
     ensures { λ r. ⌜ Prints r ⌝ }
 {
     let mut stream = Stream::new();
-    let mut wire = Wire::new();
+    let mut teller = Teller::new();
     let mut turns = u64::MAX;
     while turns > 0 {
-        let t = read_block(wire, stream, block, out);
+        let t = read_block(teller, stream, block, out);
         let next = t.stream;
-        let w = t.wire;
+        let w = t.teller;
         if w.failed() {
             return w;
         }
@@ -107,10 +107,10 @@ fn run(block: &mut [u8], out: &mut [u8]) -> Wire
             return finish(w, next, out);
         }
         stream = next;
-        wire = w;
+        teller = w;
         turns -= 1;
     }
-    wire
+    teller
 }
 
 fn main() {

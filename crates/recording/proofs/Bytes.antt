@@ -15,7 +15,8 @@ use Rattle.batch.proofs.Rests.{rest-fed, consumed-rest}
 use Rattle.stream.specs.declared.feed.Stream.{Stream}
 use Rattle.stream.specs.declared.feed.Fed.{Fed}
 use Rattle.stream.specs.Stream.{session-of, silent, Feeds}
-use Rattle.stream.proofs.Chunking.{fed-said, session-next}
+use Rattle.stream.proofs.Chunking.{session-next}
+use Rattle.stream.proofs.Parts.{stream-more}
 use Rattle.recording.specs.Recording.{noted, recorded}
 use Rattle.recording.specs.Contracts.{Took}
 
@@ -72,9 +73,7 @@ pub took-more : {k o q : Stream} {v w u l m : List ℕ} → Took k v l o w → T
 took-more {k} {o} {q} {v} {w} {u} {l} {m} t s =
     let x = session-of k in
     record {
-      session-is =
-          s .session-is ∙ ap (λ (y : Session). silent (fed y m)) (t .session-is)
-          ∙ sym (ap silent (fed-append x l m ∙ fed-said (fed x l) m));
+      session-is = stream-more x l m (session-of o) (t .session-is) (session-of q) (s .session-is);
       views-are =
           s .views-are
           ∙ ap₂ (λ (y : Session) (a : List ℕ). recorded y a m) (t .session-is) (t .views-are)

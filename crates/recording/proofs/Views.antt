@@ -31,12 +31,13 @@ use Rattle.reply.specs.Reply.Request.{makes, fails}
 use Rattle.reply.specs.Session.{Session, longer, ended, fed}
 use Rattle.reply.proofs.Sessions.{cut-reading, cut-next, byte-end}
 use Rattle.batch.proofs.Rests.{rest-fed}
-use Rattle.stream.specs.Stream.{finished, session, session-of, new-stream, silent}
+use Rattle.stream.specs.Stream.{session, session-of, new-stream, silent}
 use Rattle.stream.specs.Chunking.{joined, Plain, All-plain, after-lines, Split}
 use Rattle.stream.proofs.Chunking.{fed-lines}
-use Rattle.programs.specs.Lines.{with-exchange, exchanges, day-of, with-rest}
+use Rattle.programs.specs.Lines.{with-exchange, exchanges, day-of, with-rest, all-lines}
+use Rattle.programs.proofs.Lines.{state-at-end}
 use Rattle.floor.specs.History.{own-views}
-use Rattle.recording.specs.Recording.{all-lines, shown-by-call, shown-in, noted, recorded}
+use Rattle.recording.specs.Recording.{shown-by-call, shown-in, noted, recorded}
 use Rattle.recording.specs.Recording.{last-session, last-views, Any-recording}
 use Rattle.recording.proofs.Bytes.{recorded-append, recorded-plain}
 
@@ -197,11 +198,6 @@ unfolding noted-lines after-lines
 noted-last s v [] l = refl
 noted-last s v (k ∷ ls) l = noted-last (next s k) (noted s k v) ls l
 
-after-last : (s : Day) (ls : List (List ℕ)) (l : List ℕ) → after-lines s (ls ++ (l ∷ [])) ≡ next (after-lines s ls) l
-unfolding after-lines
-after-last s [] l = refl
-after-last s (k ∷ ls) l = after-last (next s k) ls l
-
 -- Bytes.
 
 cut-noted : (s : Day) (l v : List ℕ) → noted s (take 201 l) v ≡ noted s l v
@@ -263,21 +259,17 @@ module _ (input : List ℕ) (i : Split input) (v : List ℕ) where
 
 -- the end, where a rest that has bytes is a last line
 end-keeps : (n : ℕ) (ls : List (List ℕ)) (rest v : List ℕ) → Keeps n blank (opening blank-plan) v
-    → (finished (record { day = after-lines blank ls; pending = take 201 rest; output = [] }) .day
-    ≡ after-lines blank (with-rest ls rest))
-    × Keeps n (after-lines blank (with-rest ls rest)) (day-of (with-rest ls rest))
+    → Keeps n (after-lines blank (with-rest ls rest)) (day-of (with-rest ls rest))
     (noted (after-lines blank ls) rest (noted-lines blank v ls))
-unfolding finished noted
+unfolding noted
 end-keeps n ls [] v k =
     let s = after-lines blank ls in
     let z = lines-keep n ls blank (opening blank-plan) v k in
-    (refl, keeps-unshown n s (day-of ls) (noted-lines blank v ls) z _ s (day-of ls) refl refl (z .paused-is))
+    keeps-unshown n s (day-of ls) (noted-lines blank v ls) z _ s (day-of ls) refl refl (z .paused-is)
 end-keeps n ls (b ∷ l) v k =
-    let all = ls ++ ((b ∷ l) ∷ []) in (
-      cut-next (after-lines blank ls) (b ∷ l) ∙ sym (after-last blank ls (b ∷ l)),
-      subst (λ (w : List ℕ). Keeps n (after-lines blank all) (day-of all) w) (noted-last blank v ls (b ∷ l))
-          (lines-keep n all blank (opening blank-plan) v k),
-    )
+    let all = ls ++ ((b ∷ l) ∷ []) in
+    subst (λ (w : List ℕ). Keeps n (after-lines blank all) (day-of all) w) (noted-last blank v ls (b ∷ l))
+    (lines-keep n all blank (opening blank-plan) v k)
 
 pub any-recording : Any-recording
 any-recording input i v =
@@ -285,9 +277,9 @@ any-recording input i v =
     let w = last-views input v in
     let s = after-lines blank (all-lines i) in
     let z : Keeps (length v) s (day-of (all-lines i)) w =
-    subst⁻¹ (Keeps (length v) s (day-of (all-lines i))) (views-are input i v) (e .1) in
+    subst⁻¹ (Keeps (length v) s (day-of (all-lines i))) (views-are input i v) e in
     record {
-      day-is = ap (λ (x : Session). finished x .day) (session-is input i v) ∙ e .0;
+      day-is = state-at-end input i;
       views-are = take-least (s .accepted) w ∙ z .entries;
       count-is = z .counted;
     }

@@ -17,13 +17,9 @@ use Rattle.reply.specs.Reply.Request.{makes, fails}
 use Rattle.reply.specs.Session.{Session, after-byte, fed}
 use Rattle.stream.specs.Chunking.{after-lines, Split}
 use Rattle.stream.specs.Stream.{session-of, new-stream, silent, finished}
-use Rattle.programs.specs.Lines.{day-of, with-rest}
+use Rattle.programs.specs.Lines.{day-of, all-lines}
 
 -- The promise.
-
--- the lines of an input, the last of which may lack its byte 10
-abbrev pub all-lines : {input : List ℕ} → Split input → List (List ℕ)
-all-lines i = with-rest (i .lines) (i .rest)
 
 -- the first entries of a list of views that is as long as is lent: as many as the state has accepted
 abbrev pub kept-views : Day → List ℕ → List ℕ

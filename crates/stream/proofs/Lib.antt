@@ -1,3 +1,4 @@
 pub mod Runs
 pub mod Streams
 pub mod Chunking
+pub mod Parts

@@ -1,32 +1,32 @@
--- A run, block after block. The loop's invariant: the wire stands where the blocks that reads gave have led
+-- A run, block after block. The loop's invariant: the teller stands where the blocks that reads gave have led
 -- (`Reached`). A turn leaves it for a write that failed, for a read that gave nothing, or with one block more.
 use mathlib.Core.Path.{_≡_, refl, sym, _∙_, subst}
 use Prim.Native.Nat.{_-_, _^_}
 use native.Mathlib.Omega.{arith}
 use lib.ListN.{length}
 use borrow.Author.Tests.{not-true, not-false}
-use Rattle.pumpday.specs.declared.wire.Wire.{Wire}
+use Rattle.pumpday.specs.declared.teller.Teller.{Teller}
 use Rattle.pumpday.proofs.Pumps.{Reached, reached-none, reached-more, ran-unsent, ran-spent, ran-through}
 use Rattle.pumpday.proofs.run.Statement.{statement}
 use Rattle.pumpday.proofs.run.Tie as tie
 
 abbrev Inv-loop : tie.InvT-loop
-Inv-loop block₀ out₀ wire₀ turns₀ block out wire turns =
-    (length block ≡ length block₀) × (length out ≡ length out₀) × Reached wire turns
+Inv-loop block₀ out₀ teller₀ turns₀ block out teller turns =
+    (length block ≡ length block₀) × (length out ≡ length out₀) × Reached teller turns
 
 abbrev μ-loop : tie.MeasureT-loop
-μ-loop block₀ out₀ wire₀ turns₀ block out wire turns = turns
+μ-loop block₀ out₀ teller₀ turns₀ block out teller turns = turns
 
 loop-holds : tie.Need-loop-holds Inv-loop μ-loop
 loop-holds c =
-    (refl, refl, subst (λ (w : Wire). Reached w (2 ^ 64 - 1)) (sym (c .new .ensures)) reached-none)
+    (refl, refl, subst (λ (w : Teller). Reached w (2 ^ 64 - 1)) (sym (c .new .ensures)) reached-none)
 
 -- where the function began and what the loop knows, of a turn that has read
 abbrev begin : tie.After-turn Inv-loop μ-loop → tie.Start Inv-loop μ-loop
 begin c = c .before .before .before .before .before .before .before .before
 
 abbrev reached : (c : tie.After-turn Inv-loop μ-loop) → let o = c .before .before .before .before .loop in
-    Reached (o .wire) (o .turns)
+    Reached (o .teller) (o .turns)
 reached c = c .before .before .before .before .loop .inv .2
 
 -- the buffers after it

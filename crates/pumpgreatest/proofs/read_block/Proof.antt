@@ -14,15 +14,7 @@ returns : tie.Need-returns
 returns c =
     let t = c .before .before .before .before in
     let r = t .before .before .before .before .before .before .before .read in
-    record {
-      n = r .result .n;
-      inside = r .ensures .inside;
-      reads-is = r .ensures .reads-is;
-      got-is = r .ensures .got-is;
-      told-is = r .ensures .told-is;
-      ended-is = r .ensures .ended-is;
-      took = t .take-block .ensures;
-    }
+    record { n = r .result .n; reads = r .ensures; took = t .take-block .ensures }
 
 pub read-block-spec : {M : Type 1} → statement M
 read-block-spec =

@@ -1,23 +1,23 @@
--- A run, block after block. The loop's invariant: the stream, the entries for views and the wire stand where the blocks
--- that reads gave have led (`Reached`). A turn leaves it for a read that failed, for a read that gave nothing, or with
--- one block more.
+-- A run, block after block. The loop's invariant: the stream, the entries for views and the teller stand where the
+-- blocks that reads gave have led (`Reached`). A turn leaves it for a read that failed, for a read that gave nothing,
+-- or with one block more.
 use mathlib.Core.Path.{_≡_, refl, sym, _∙_, subst}
 use Prim.Native.Nat.{_-_, _^_}
 use native.Mathlib.Omega.{arith}
 use lib.ListN.{length}
 use Rattle.stream.specs.declared.feed.Stream.{Stream}
-use Rattle.pumpgreatest.specs.declared.wire.Wire.{Wire}
+use Rattle.pumpgreatest.specs.declared.teller.Teller.{Teller}
 use Rattle.pumpgreatest.proofs.Days.{Reached, reached-none, reached-more, ran-failed, ran-spent, ran-through}
 use Rattle.pumpgreatest.proofs.run.Statement.{statement}
 use Rattle.pumpgreatest.proofs.run.Tie as tie
 
 abbrev Inv-loop : tie.InvT-loop
-Inv-loop block₀ views₀ out₀ stream₀ wire₀ turns₀ block views out stream wire turns =
+Inv-loop block₀ views₀ out₀ stream₀ teller₀ turns₀ block views out stream teller turns =
     (length block ≡ length block₀) × (length views ≡ length views₀) × (length out ≡ length out₀)
-    × Reached views₀ stream views wire turns
+    × Reached views₀ stream views teller turns
 
 abbrev μ-loop : tie.MeasureT-loop
-μ-loop block₀ views₀ out₀ stream₀ wire₀ turns₀ block views out stream wire turns = turns
+μ-loop block₀ views₀ out₀ stream₀ teller₀ turns₀ block views out stream teller turns = turns
 
 loop-holds : tie.Need-loop-holds Inv-loop μ-loop
 loop-holds c =
@@ -25,7 +25,7 @@ loop-holds c =
       refl,
       refl,
       refl,
-      subst (λ (w : Wire). Reached v (c .before .new .result) v w (2 ^ 64 - 1)) (sym (c .new2 .ensures))
+      subst (λ (w : Teller). Reached v (c .before .new .result) v w (2 ^ 64 - 1)) (sym (c .new2 .ensures))
           (subst (λ (k : Stream). Reached v k v _ (2 ^ 64 - 1)) (sym (c .before .new .ensures)) (reached-none v)),
     )
 
@@ -36,7 +36,7 @@ begin c = c .before .before .before .before .before .before .before .before .bef
 -- where the run stood before it
 reached-before : (c : tie.After-read-block Inv-loop μ-loop)
     → Reached (begin c .args .views .now) (c .before .before .before .before .before .loop .stream)
-    (c .before .before .before .before .before .loop .views) (c .before .before .before .before .before .loop .wire)
+    (c .before .before .before .before .before .loop .views) (c .before .before .before .before .before .loop .teller)
     (c .before .before .before .before .before .loop .turns)
 reached-before c = c .before .before .before .before .before .loop .inv .3
 

@@ -36,7 +36,7 @@ returns c =
     let s = f .before .before .before in
     page-told (s .args .stream) (s .args .out .now) (f .finish .last .1 .0) (p .print-day .last .1 .0)
     (f .finish .result) (s .pre .0) (s .pre .1) (f .finish .ensures) (f .finish .kept .1 .0) (p .print-day .result)
-    (p .print-day .ensures) (s .args .wire) (c .tell .result) (c .tell .ensures)
+    (p .print-day .ensures) (s .args .teller) (c .tell .result) (c .tell .ensures)
 
 returns-2 : tie.Need-returns-2
 returns-2 c =

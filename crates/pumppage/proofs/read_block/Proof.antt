@@ -2,7 +2,6 @@
 use mathlib.Core.Path.{sym}
 use lib.Seq.{length-take-le}
 use borrow.Author.Needs.{needs}
-use Rattle.pumppage.proofs.Pages.{taken-is}
 use Rattle.pumppage.proofs.read_block.Statement.{statement}
 use Rattle.pumppage.proofs.read_block.Tie as tie
 
@@ -15,8 +14,7 @@ returns : tie.Need-returns
 returns c =
     let t = c .before .before in
     let r = t .before .before .before .before .before .before in
-    let s = r .before .before .before .before in
-    taken-is (s .args .stream) (t .take-block .result) (r .read .ensures) (t .take-block .ensures)
+    record { n = r .read .result .n; reads = r .read .ensures; took = t .take-block .ensures }
 
 pub read-block-spec : {M : Type 1} → statement M
 read-block-spec =

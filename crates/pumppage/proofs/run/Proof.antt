@@ -1,28 +1,28 @@
--- A run, block after block. The loop's invariant: the stream and the wire stand where the blocks that reads gave have
+-- A run, block after block. The loop's invariant: the stream and the teller stand where the blocks that reads gave have
 -- led (`Reached`). A turn leaves it for a read that failed, for a read that gave nothing, or with one block more.
 use mathlib.Core.Path.{_≡_, refl, sym, _∙_, subst}
 use Prim.Native.Nat.{_-_, _^_}
 use native.Mathlib.Omega.{arith}
 use lib.ListN.{length}
 use Rattle.stream.specs.declared.feed.Stream.{Stream}
-use Rattle.pumppage.specs.declared.wire.Wire.{Wire}
+use Rattle.pumppage.specs.declared.teller.Teller.{Teller}
 use Rattle.pumppage.proofs.Pages.{Reached, reached-none, reached-more, now-sound, ran-failed, ran-spent}
 use Rattle.pumppage.proofs.Pages.{ran-through}
 use Rattle.pumppage.proofs.run.Statement.{statement}
 use Rattle.pumppage.proofs.run.Tie as tie
 
 abbrev Inv-loop : tie.InvT-loop
-Inv-loop block₀ out₀ stream₀ wire₀ turns₀ block out stream wire turns =
-    (length block ≡ length block₀) × (length out ≡ length out₀) × Reached stream wire turns
+Inv-loop block₀ out₀ stream₀ teller₀ turns₀ block out stream teller turns =
+    (length block ≡ length block₀) × (length out ≡ length out₀) × Reached stream teller turns
 
 abbrev μ-loop : tie.MeasureT-loop
-μ-loop block₀ out₀ stream₀ wire₀ turns₀ block out stream wire turns = turns
+μ-loop block₀ out₀ stream₀ teller₀ turns₀ block out stream teller turns = turns
 
 loop-holds : tie.Need-loop-holds Inv-loop μ-loop
 loop-holds c = (
   refl,
   refl,
-  subst (λ (w : Wire). Reached (c .before .new .result) w (2 ^ 64 - 1)) (sym (c .new2 .ensures))
+  subst (λ (w : Teller). Reached (c .before .new .result) w (2 ^ 64 - 1)) (sym (c .new2 .ensures))
       (subst (λ (k : Stream). Reached k _ (2 ^ 64 - 1)) (sym (c .before .new .ensures)) reached-none),
 )
 

@@ -1,0 +1,24 @@
+-- What is told: the answers that are due from the program's stream, over its wire; only `src/teller.rt` can make a
+-- teller.
+use mathlib.Core.Path.{_≡_}
+use mathlib.Core.Bool.{Bool, true, false}
+use mathlib.Core.List.{List}
+use Prim.Native.Nat.{ℕ}
+use Rattle.reply.specs.Session.{Session, fed}
+use Rattle.stream.specs.declared.feed.Stream.{Stream}
+use Rattle.stream.specs.Stream.{finished, new-stream, session-of, silent}
+use Rattle.wire.specs.Wires.{new-wire, Writes}
+use Rattle.pumpday.specs.declared.teller.Teller.{Teller}
+
+abbrev pub new-teller : Teller
+new-teller = record { stream = new-stream; wire = new-wire }
+
+-- what the stream k has come to by the bytes l, or at the end of input; its output is due
+abbrev pub session-after : Stream → List ℕ → (end : Bool) → Session
+session-after k l false = fed (session-of k) l
+session-after k l true = finished (session-of k)
+
+-- the stream has come to y, and the answers of y were told
+pub record Tells (w : Teller) (y : Session) (r : Teller) : Type 0 where
+  pub stream-is : session-of (r .stream) ≡ silent y
+  pub writes : Writes (w .wire) (y .output) (r .wire)

@@ -1,0 +1,46 @@
+-- Standard input and output, as far as contracts reach: no contract can say what a read put into the block, or what a
+-- write made of its bytes. A wire counts the reads, the bytes that they gave and the bytes that were told, modulo 2^64;
+-- only `src/lib.rt` can make one.
+use mathlib.Core.Path.{_≡_}
+use mathlib.Core.Bool.{true, false}
+use mathlib.Core.List.{List, [], _∷_, _++_}
+use Prim.Native.Nat.{ℕ, _+_, _%_, _^_, _≤_, _<_}
+use lib.Dec.{eqb}
+use lib.ListN.{length, take}
+use Rattle.wire.specs.declared.Wire.{Wire}
+
+-- n, and as many more as l has bytes
+abbrev pub counted : ℕ → List ℕ → ℕ
+counted n l = (n + length l) % 2 ^ 64
+
+abbrev pub new-wire : Wire
+new-wire = record { reads = 0; got = 0; told = 0; ended = false; failed = false; sent = true }
+
+-- One read, after which the first n bytes of the block l are what it gave, and the wire is v. Whether it failed is what
+-- C answered, and free, but that a read that failed gave nothing.
+pub record Reads (w : Wire) (l : List ℕ) (n : ℕ) (v : Wire) : Type 0 where
+  pub inside : n ≤ length l
+  pub reads-is : v .reads ≡ (w .reads + 1) % 2 ^ 64
+  pub got-is : v .got ≡ counted (w .got) (take n l)
+  pub told-is : v .told ≡ w .told
+  pub ended-is : v .ended ≡ eqb n 0
+  pub failed-ends : v .failed ≡ true → v .ended ≡ true
+  pub sent-is : v .sent ≡ w .sent
+
+-- The bytes b told. Whether they went is what C answered: it is free, but that a failure before stays one.
+pub record Writes (w : Wire) (b : List ℕ) (v : Wire) : Type 0 where
+  pub reads-is : v .reads ≡ w .reads
+  pub got-is : v .got ≡ w .got
+  pub told-is : v .told ≡ counted (w .told) b
+  pub ended-is : v .ended ≡ w .ended
+  pub failed-is : v .failed ≡ w .failed
+  pub sent-before : v .sent ≡ true → w .sent ≡ true
+
+-- what reads gave, the latest first, and as one input
+abbrev pub input-of : List (List ℕ) → List ℕ
+input-of [] = []
+input-of (b ∷ bs) = input-of bs ++ b
+
+abbrev pub None-empty : List (List ℕ) → Type 0
+None-empty [] = Unit {0}
+None-empty (b ∷ bs) = (0 < length b) × None-empty bs
