@@ -4,8 +4,14 @@
 //! A crate is checked as `rt` checks it, over what `rt check` has just proved of it (`--incremental`), so that only what
 //! an edit changes is checked again. First the crate is tried as it is, and must be proved: what is refused then is
 //! refused for the edit alone.
+//!
+//! A function's proof rests on its own body and on the contracts of what it calls, and on no other body. So edits of the
+//! bodies of several functions are tried at once, and each is refused by the first error in its own function's proof; an
+//! edit that this does not tell of is tried alone.
 
 mod kit;
+#[allow(dead_code)]
+mod source;
 mod verdict;
 
 use kit::{fill, inner, Kit};
@@ -15,7 +21,7 @@ use std::path::{Path, PathBuf};
 use std::process::Command;
 use std::sync::Mutex;
 use std::time::Instant;
-use verdict::verdict;
+use verdict::{told_of, verdict, Run};
 
 /// Seconds for one run of the prover.
 const LIMIT: u64 = 300;
@@ -32,6 +38,25 @@ struct Change {
 struct Edit {
     label: String,
     changes: Vec<Change>,
+    /// The function whose body it changes, if it changes nothing else.
+    function: Option<String>,
+}
+
+/// The function of a crate, as `Type::name` or `name`, whose body has all changes.
+fn function(folder: &Path, changes: &[Change]) -> Option<String> {
+    let file = &changes.first()?.file;
+    let text = fs::read_to_string(folder.join(file)).ok().filter(|_| file.starts_with("src/"))?;
+    let lines: Vec<&str> = text.lines().collect();
+    let items = source::items(&lines);
+    let holds = |item: &source::Item, change: &Change| {
+        let body = &lines[item.body.clone()];
+        change.file == *file && body.iter().any(|line| line.contains(&change.old))
+    };
+    let of_all = |item: &&source::Item| {
+        let constant = lines[item.body.start].contains("const ");
+        !constant && changes.iter().all(|change| holds(item, change))
+    };
+    items.iter().find(of_all).map(|item| item.name.clone())
 }
 
 struct Crate {
@@ -76,9 +101,10 @@ fn edits(folder: &Path) -> Vec<Edit> {
     let Ok(files) = fs::read_dir(folder) else { return vec![] };
     let mut paths: Vec<PathBuf> = files.map(|f| f.expect("an edit").path()).collect();
     paths.sort();
-    let edit = |path: &PathBuf| Edit {
-        label: path.file_stem().expect("a name").to_string_lossy().into_owned(),
-        changes: changes(&fs::read_to_string(path).expect("an edit")),
+    let edit = |path: &PathBuf| {
+        let label = path.file_stem().expect("a name").to_string_lossy().into_owned();
+        let changes = changes(&fs::read_to_string(path).expect("an edit"));
+        Edit { label, function: function(folder.parent().expect("the crate"), &changes), changes }
     };
     paths.iter().map(edit).collect()
 }
@@ -115,20 +141,38 @@ impl Desk<'_> {
         folder
     }
 
-    /// The prover's word on a crate with these changes, and the line that tells; it starts from what is checked there.
-    fn judge(&self, name: &str, changes: &[Change], checked: &Path) -> (String, String) {
+    /// The prover's run on a crate with these changes, which starts from what is checked there.
+    fn run<'a>(
+        &self,
+        name: &str,
+        changes: impl Iterator<Item = &'a Change>,
+        checked: &Path,
+    ) -> Result<Run, String> {
         let folder = self.lay(name);
         for change in changes {
             let path = folder.join(&change.file);
             let text = fs::read_to_string(&path).unwrap_or_default();
-            match changed(&text, change) {
-                Ok(new) => fs::write(&path, new).expect("a file"),
-                Err(why) => return ("bad edit".into(), why),
-            }
+            fs::write(&path, changed(&text, change)?).expect("a file");
         }
         fill(&self.incremental(), checked, &self.inner);
-        let (word, why) = verdict(&self.kit.check(name, &folder, &self.incremental(), LIMIT));
-        (word.into(), why.replace(&format!("{}/", folder.display()), ""))
+        let mut run = self.kit.check(name, &folder, &self.incremental(), LIMIT);
+        run.log = run.log.replace(&folder.display().to_string(), "");
+        Ok(run)
+    }
+
+    /// The prover's word on a crate with these changes, and the line that tells.
+    fn judge(&self, name: &str, changes: &[Change], checked: &Path) -> (&'static str, String) {
+        self.run(name, changes.iter(), checked).map_or_else(|why| ("bad edit", why), |run| verdict(&run))
+    }
+
+    /// Edits of several functions at once: for each the line that refuses its function, if there is one.
+    fn together(&self, name: &str, edits: &[&Edit], checked: &Path) -> Vec<Option<String>> {
+        let log = self.run(name, edits.iter().flat_map(|e| &e.changes), checked).map_or(String::new(), |run| run.log);
+        let told = |e: &&Edit| {
+            let file = Path::new(&e.changes.first()?.file);
+            told_of(name, file, e.function.as_ref()?, &log).filter(|told| told.0 == "refused").map(|told| told.1)
+        };
+        edits.iter().map(told).collect()
     }
 
     /// The crate as it is must be proved; then each edit is tried over that.
@@ -139,16 +183,35 @@ impl Desk<'_> {
         }
         let kept = self.folder.join("kept");
         fs::rename(self.incremental(), &kept).expect("a folder");
-        let all = c.edits.iter().map(|edit| {
+        let checked = kept.join(&self.inner);
+        let mut all = vec![];
+        for round in rounds(&c.edits) {
             let start = Instant::now();
-            let (word, why) = self.judge(&c.name, &edit.changes, &kept.join(&self.inner));
-            let seconds = start.elapsed().as_secs();
-            (format!("{}/{}: {word} ({seconds} s): {why}", c.name, edit.label), word == "refused")
-        });
-        let all = all.collect();
+            let told = if round.len() > 1 { self.together(&c.name, &round, &checked) } else { vec![None] };
+            for (edit, why) in round.iter().zip(told) {
+                let alone = || self.judge(&c.name, &edit.changes, &checked);
+                let (word, why) = why.map_or_else(alone, |why| ("refused", why));
+                let seconds = start.elapsed().as_secs();
+                all.push((format!("{}/{}: {word} ({seconds} s): {why}", c.name, edit.label), word == "refused"));
+            }
+        }
         fs::remove_dir_all(kept).expect("a folder");
         all
     }
+}
+
+/// Edits to be tried at once, each of another function; what is no edit of one function stands alone.
+fn rounds(edits: &[Edit]) -> Vec<Vec<&Edit>> {
+    let mut found: Vec<Vec<&Edit>> = vec![];
+    for edit in edits {
+        let other = |e: &&Edit| e.function.is_some() && e.function != edit.function;
+        let free = |round: &&mut Vec<&Edit>| edit.function.is_some() && round.iter().all(|e| other(&e));
+        match found.iter_mut().find(free) {
+            Some(round) => round.push(edit),
+            None => found.push(vec![edit]),
+        }
+    }
+    found
 }
 
 /// Shows where the prover keeps what it has checked, and that a change that means nothing survives.

@@ -14,12 +14,14 @@ mod verdict;
 
 use change::{Changer, Scope};
 use kit::Kit;
-use prover::Prover;
+use prover::{Prover, Verdict};
 use std::collections::BTreeMap;
 use std::fs;
 use std::io::Write;
 use std::path::{Path, PathBuf};
 use std::process::Command;
+use std::time::Instant;
+use verdict::told_of;
 
 const CRATES: [&str; 28] = [
     "sets",
@@ -62,6 +64,8 @@ pub struct Mutant {
     pub operator: &'static str,
     pub old: String,
     pub new: String,
+    /// Whether it changes the body of a function.
+    pub function: bool,
     /// Tells the crate's files from those of another day.
     pub print: String,
 }
@@ -153,6 +157,7 @@ fn mutants(root: &Path, name: &str, each: usize, changer: &Changer) -> Vec<Mutan
                 file: file.clone(),
                 line: at + 1,
                 item: item.name.clone(),
+                function: !lines[item.body.start].contains("const "),
                 operator: change.operator,
                 old: lines[at].into(),
                 new: change.line,
@@ -243,23 +248,64 @@ fn all(root: &Path, each: usize) -> Vec<Mutant> {
     CRATES.iter().flat_map(|name| mutants(root, name, each, &changer)).collect()
 }
 
-/// Judges these changes of a crate, and puts down each result and its log.
+/// Changes to be tried at once, each of another function; a change of a constant stands alone.
+fn rounds<'a>(open: &[&'a Mutant]) -> Vec<Vec<&'a Mutant>> {
+    let mut found: Vec<Vec<&Mutant>> = vec![];
+    for mutant in open {
+        let free = |round: &&mut Vec<&Mutant>| {
+            mutant.function && round.iter().all(|m| m.function && (&m.file, &m.item) != (&mutant.file, &mutant.item))
+        };
+        match found.iter_mut().find(free) {
+            Some(round) => round.push(mutant),
+            None => found.push(vec![mutant]),
+        }
+    }
+    found
+}
+
+/// The files that some changes change, and their texts.
+fn texts(work: &Path, round: &[&Mutant]) -> Vec<(PathBuf, String)> {
+    let mut files: BTreeMap<&PathBuf, String> = BTreeMap::new();
+    for mutant in round {
+        let text = files
+            .entry(&mutant.file)
+            .or_insert_with(|| fs::read_to_string(work.join(&mutant.file)).expect("a source file"));
+        *text = mutant.changed(text);
+    }
+    files.into_iter().map(|(file, text)| (file.clone(), text)).collect()
+}
+
+/// Judges these changes of a crate, and puts down each result and its log. What the log of a round does not tell of is
+/// tried alone.
 fn run(prover: &Prover, folder: &Path, name: &str, open: &[&Mutant]) {
     if let Err(log) = prover.baseline(name) {
         println!("{log}");
         std::process::exit(1);
     }
     fs::create_dir_all(folder.join("log")).expect("a folder");
-    for mutant in open {
-        let source = fs::read_to_string(prover.work.join(&mutant.file)).expect("a source file");
-        let verdict = prover.judge(name, &mutant.file, &mutant.changed(&source));
-        println!("{} {:.1} s {}: {}", mutant.id, verdict.seconds, verdict.word, mutant.diff());
-        fs::write(folder.join("log").join(&mutant.id), verdict.log).expect("a log");
-        let line = format!("{}\t{}\t{}\n", mutant.key(), verdict.word, verdict.why.replace('\t', " "));
-        let results = folder.join("results");
-        let mut file = fs::OpenOptions::new().create(true).append(true).open(results).expect("a file");
-        file.write_all(line.as_bytes()).expect("a line");
+    for round in rounds(open) {
+        let start = Instant::now();
+        let log = if round.len() > 1 { prover.together(name, &texts(&prover.work, &round)) } else { String::new() };
+        println!("{name}: {} at once, {:.1} s", round.len(), start.elapsed().as_secs_f64());
+        for mutant in &round {
+            let source = fs::read_to_string(prover.work.join(&mutant.file)).expect("a source file");
+            let verdict = match told_of(name, &mutant.file, &mutant.item, &log) {
+                Some((word, why)) => Verdict { word, why, log: log.clone(), seconds: 0.0 },
+                None => prover.judge(name, &mutant.file, &mutant.changed(&source)),
+            };
+            put(folder, mutant, &verdict);
+        }
     }
+}
+
+/// One result, and its log.
+fn put(folder: &Path, mutant: &Mutant, verdict: &Verdict) {
+    println!("{} {:.1} s {}: {}", mutant.id, verdict.seconds, verdict.word, mutant.diff());
+    fs::write(folder.join("log").join(&mutant.id), &verdict.log).expect("a log");
+    let line = format!("{}\t{}\t{}\n", mutant.key(), verdict.word, verdict.why.replace('\t', " "));
+    let results = folder.join("results");
+    let mut file = fs::OpenOptions::new().create(true).append(true).open(results).expect("a file");
+    file.write_all(line.as_bytes()).expect("a line");
 }
 
 fn main() {

@@ -122,6 +122,21 @@ impl Prover {
         (!status.success()).then(|| format!("{}: {status}\n{}", step[0], String::from_utf8_lossy(&log)))
     }
 
+    /// Changes of several functions at once, as files and their texts: the log of the prover's run.
+    pub fn together(&self, name: &str, changed: &[(PathBuf, String)]) -> String {
+        let paths: Vec<PathBuf> = changed.iter().map(|(file, _)| self.work.join(file)).collect();
+        let before: Vec<Vec<u8>> = paths.iter().map(|path| fs::read(path).expect("a source file")).collect();
+        for (path, (_, text)) in paths.iter().zip(changed) {
+            fs::write(path, text).expect("the changed file");
+        }
+        let folder = inner(&self.kept());
+        let run = self.quick(name, &self.kept().join(&folder), &folder);
+        for (path, text) in paths.iter().zip(before) {
+            fs::write(path, text).expect("the file as it was");
+        }
+        run.log
+    }
+
     pub fn judge(&self, name: &str, file: &Path, changed: &str) -> Verdict {
         let start = Instant::now();
         let (run, failed) = self.with(file, changed, || {

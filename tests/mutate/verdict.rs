@@ -1,5 +1,6 @@
 //! What rt says of a crate, by the first error of its log.
 
+use std::path::Path;
 use std::process::Output;
 
 /// The program whose changes may be proved and noticed by its run.
@@ -46,11 +47,39 @@ fn error(line: &str) -> Option<&'static str> {
 /// A caller's proof ends in `close`, which is not admitted where a callee is not proved.
 const FOLLOWS: &str = "`close` was not admitted";
 
+/// What an error says of the change, where it does not only follow from a callee's.
+pub fn tells(line: &str) -> Option<&'static str> {
+    error(line).filter(|_| !line.contains(FOLLOWS))
+}
+
+/// What the prover says of a function whose proof it makes, where a need is left.
+const NEED_LEFT: &str = "`search` does not close";
+
+/// What a log says of one function of a crate, `name` or `Type::name` in a source file, and the line that tells: the
+/// first error in its own proof, or what is left over where the prover makes the proof. A function's proof rests on its
+/// own body and on the contracts of what it calls, so that this tells of a change of its body whatever other bodies are
+/// changed as well.
+pub fn told_of(name: &str, file: &Path, function: &str, log: &str) -> Option<(&'static str, String)> {
+    let module = file.file_stem().map_or("".into(), |stem| stem.to_string_lossy()).into_owned();
+    // the proofs of a type's methods stand in the type's folder, wherever it is
+    let (folder, path) = match (function.contains("::"), module.as_str()) {
+        (true, _) => (String::new(), format!("::{function}")),
+        (false, "lib" | "main") => ("/proofs".into(), format!("fn {name}::{function}")),
+        (false, _) => (format!("/proofs/{module}"), format!("fn {name}::{module}::{function}")),
+    };
+    let proofs = ["", "+"].map(|cycle| format!("{folder}/{cycle}{}/Proof.antt:", function.replace("::", "/")));
+    let own = |line: &&str| tells(line).is_some() && proofs.iter().any(|path| line.contains(path));
+    let left = |line: &&str| line.contains(&format!("{path}: no proof: ")) && line.contains(NEED_LEFT);
+    match first(log, own) {
+        Some(line) => tells(line).map(|word| (word, short(Some(line)))),
+        None => first(log, left).map(|line| ("refused", short(Some(line)))),
+    }
+}
+
 /// Told by the first error of the log that does not only follow from a callee's: the later ones may follow from it. rt
 /// runs a program that it has proved on its stored input: what fails then is that run, or it does not end.
 pub fn verdict(run: &Run) -> (&'static str, String) {
-    let lines = || run.log.lines().filter(|line| error(line).is_some());
-    let told = lines().find(|line| !line.contains(FOLLOWS)).or_else(|| lines().next());
+    let told = first(&run.log, |line| tells(line).is_some()).or_else(|| first(&run.log, |line| error(line).is_some()));
     let told = told.and_then(|line| error(line).map(|word| (word, short(Some(line)))));
     let proved = run.log.lines().rfind(|line| line.starts_with(&format!("rt: {PROGRAM} proved")));
     match run.status {
@@ -89,6 +118,21 @@ mod tests {
         assert_eq!(word(&[follows, LEFT_OVER, UNPROVED], Some(1)), "refused");
         assert_eq!(word(&[follows, SHAPE_ERROR, FACT_ERROR], Some(1)), "refused by its shape");
         assert_eq!(word(&[follows, UNPROVED], Some(1)), "refused by its shape");
+    }
+
+    #[test]
+    fn a_function_is_told_by_its_own_proof() {
+        let log = "/proofs/a/Proof.antt:1:2: error: `a-spec`: `close` was not admitted\n\
+            /proofs/m/T/b/Proof.antt:3:4: error: `returns`: the two types differ\n\
+            /proofs/m/+e/Proof.antt:5:6: error: `e`: module `Tie` has no `Need` that can be named from here\n\
+            fn c::m::d: no proof: expected `d-spec`; `search` does not close `returns`\n";
+        let word = |file: &str, function: &str| told_of("c", Path::new(file), function, log).map(|told| told.0);
+        assert_eq!(word("src/lib.rt", "a"), None);
+        assert_eq!(word("src/lib.rt", "T::b"), Some("refused"));
+        assert_eq!(word("src/m.rt", "b"), None);
+        assert_eq!(word("src/m.rt", "e"), Some("refused by its shape"));
+        assert_eq!(word("src/m.rt", "d"), Some("refused"));
+        assert_eq!(word("src/lib.rt", "d"), None);
     }
 
     #[test]
