@@ -68,6 +68,8 @@ fn intro(each: usize) -> String {
         is and writes this page; `--list` only lists, `--compile` only compiles, `--sample N` takes some N of a crate, \
         `--each N` takes more of each function, `--limit SECONDS` is the time for one (300). The results stand in \
         `target/mutants`, or in the folder that MUTANTS names; `rt ci` removes the former.\n\n\
+        Changes of several functions are tried at once, and each is told by the first error in its own function's \
+        proof, which rests on no other body; what that does not tell of is tried alone.\n\n\
         The first error of the log tells, as document 90 asks; the logs stand beside the results. *Refused*: it says \
         that a fact fails. *Refused by its shape*: it says only that the proof no longer fits the steps. *Noticed by \
         a test*: of `pumpday`, whose input and output are not proved, its stored day, `tests/gate/pipe` or \
