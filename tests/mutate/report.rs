@@ -22,7 +22,11 @@ const WORDS: [&str; 8] = [
 ];
 
 /// Survivors that mean the same: the item, the change, and why.
-const SAME: [(&str, &str, &str); 1] = [("at_most_201", "if n > 201 { → if n >= 201 {", "at 201 both give 201")];
+const SAME: [(&str, &str, &str); 2] = [
+    ("sized", "true → false", "no caller looks at the answer; the fact that it gives is all that is asked for"),
+    ("first_open", "while j < n { → while j > n {", "any place below which every view is given will do: the search looks \
+        from there on, finds the same view and only takes longer"),
+];
 
 fn why_same(m: &Mutant) -> &'static str {
     let found = SAME.iter().find(|(item, change, _)| m.item == *item && m.diff() == *change);
