@@ -1,14 +1,19 @@
 //! A copy of the project in which one line is changed at a time, and what the prover says of it.
 
 use crate::kit::{fill, inner, Kit};
-use crate::verdict::{ended, first, short, verdict, Run, PROGRAM};
+use crate::verdict::{ended, first, short, verdict, Run};
 use std::fs::{self, File};
 use std::path::{Path, PathBuf};
 use std::process::Command;
 use std::time::Instant;
 
-/// What the program reads and writes is not proved but tested, by these steps of the gate.
-const STEPS: [&[&str]; 2] = [&["tests/gate/pipe"], &["tests/gate/days", "50"]];
+/// What the programs read and write is not proved but tested: the crates that this is true of, and the steps of the gate.
+const TESTED: [(&str, &[&[&str]]); 4] = [
+    ("wire", &[&["tests/gate/pipe"], &["tests/gate/days", "50"]]),
+    ("pumpday", &[&["tests/gate/pipe"], &["tests/gate/days", "50"]]),
+    ("pumppage", &[&["tests/gate/page"]]),
+    ("pumpgreatest", &[&["tests/gate/search"]]),
+];
 
 /// The crate that is checked in the least time.
 const SMALLEST: &str = "finite";
@@ -98,9 +103,10 @@ impl Prover {
         }
     }
 
-    /// The log of the first step that fails with the program as it is changed.
-    fn failed_step(&self) -> Option<String> {
-        STEPS.iter().find_map(|step| self.step(step))
+    /// The log of the first step that fails with the crate as it is changed.
+    fn failed_step(&self, name: &str) -> Option<String> {
+        let steps = TESTED.iter().find(|(tested, _)| *tested == name).map_or(&[][..], |(_, steps)| steps);
+        steps.iter().find_map(|step| self.step(step))
     }
 
     /// The log goes to a file, and what a step leaves running is ended: a changed program may not end by itself.
@@ -141,7 +147,7 @@ impl Prover {
         let start = Instant::now();
         let (run, failed) = self.with(file, changed, || {
             let run = self.proved(name);
-            let failed = if run.status == Some(0) && name == PROGRAM { self.failed_step() } else { None };
+            let failed = if run.status == Some(0) { self.failed_step(name) } else { None };
             (run, failed)
         });
         let seconds = start.elapsed().as_secs_f64();

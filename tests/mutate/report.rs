@@ -76,8 +76,8 @@ fn intro(each: usize) -> String {
         proof, which rests on no other body; what that does not tell of is tried alone.\n\n\
         The first error of the log tells, as document 90 asks; the logs stand beside the results. *Refused*: it says \
         that a fact fails. *Refused by its shape*: it says only that the proof no longer fits the steps. *Noticed by \
-        a test*: of `pumpday`, whose input and output are not proved, its stored day, `tests/gate/pipe` or \
-        `tests/gate/days` fails. \
+        a test*: of `wire` and the programs, whose input and output are not proved, the stored day fails, or \
+        `tests/gate/pipe`, `days`, `page` or `search`. \
         *SURVIVED*: `rt check` proves the crate with the change; each is to be explained or its contract made \
         stronger. *The same code* (a constant that only crates above \
         use, a pattern that an earlier arm has) and *not compiled* count for nothing.\n\n",
