@@ -8,11 +8,10 @@ use std::process::Command;
 use std::time::Instant;
 
 /// What the programs read and write is not proved but tested: the crates that this is true of, and the steps of the gate.
-const TESTED: [(&str, &[&[&str]]); 4] = [
+const TESTED: [(&str, &[&[&str]]); 3] = [
     ("wire", &[&["tests/gate/pipe"], &["tests/gate/days", "50"]]),
     ("pumpday", &[&["tests/gate/pipe"], &["tests/gate/days", "50"]]),
     ("pumppage", &[&["tests/gate/page"]]),
-    ("pumpgreatest", &[&["tests/gate/search"]]),
 ];
 
 /// The crate that is checked in the least time.

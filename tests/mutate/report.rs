@@ -22,7 +22,9 @@ const WORDS: [&str; 8] = [
 ];
 
 /// Survivors that mean the same: the item, the change, and why.
-const SAME: [(&str, &str, &str); 2] = [
+const SAME: [(&str, &str, &str); 3] = [
+    ("ENTRIES", "const ENTRIES: usize = 257; → const ENTRIES: usize = 258;", "any number above 256 will do: a day of \
+        more views is refused either way"),
     ("sized", "true → false", "no caller looks at the answer; the fact that it gives is all that is asked for"),
     ("first_open", "while j < n { → while j > n {", "any place below which every view is given will do: the search looks \
         from there on, finds the same view and only takes longer"),
@@ -77,7 +79,7 @@ fn intro(each: usize) -> String {
         The first error of the log tells, as document 90 asks; the logs stand beside the results. *Refused*: it says \
         that a fact fails. *Refused by its shape*: it says only that the proof no longer fits the steps. *Noticed by \
         a test*: of `wire` and the programs, whose input and output are not proved, the stored day fails, or \
-        `tests/gate/pipe`, `days`, `page` or `search`. \
+        `tests/gate/pipe`, `days` or `page`. \
         *SURVIVED*: `rt check` proves the crate with the change; each is to be explained or its contract made \
         stronger. *The same code* (a constant that only crates above \
         use, a pattern that an earlier arm has) and *not compiled* count for nothing.\n\n",
