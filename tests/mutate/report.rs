@@ -21,8 +21,23 @@ const WORDS: [&str; 8] = [
     "unclear",
 ];
 
+/// Why lent memory may hold anything before the search.
+const SEARCHED: &str = "the search puts what is read of it, whatever stood there";
 /// Survivors that mean the same: the item, the change, and why.
-const SAME: [(&str, &str, &str); 3] = [
+const SAME: [(&str, &str, &str); 12] = [
+    ("complete", "return 0; → return 1;", "with no byte pending the line is the input's own, and no one asks the number"),
+    ("earned_at", "let mut allotment: [u64; 256] = [0; 256]; → let mut allotment: [u64; 256] = [1; 256];", SEARCHED),
+    ("earned_at", "let mut surplus: [u64; 64] = [0; 64]; → let mut surplus: [u64; 64] = [1; 64];", SEARCHED),
+    ("earned_at", "let mut worth: [u64; 256] = [0; 256]; → let mut worth: [u64; 256] = [1; 256];", SEARCHED),
+    ("put_figures", "let to = put_field(out, to, b\") (ratio \", b'M', ratio.numerator); → \
+        let to = put_field(out, to, b\") (ratio \", b'N', ratio.numerator);", "the letter bounds the number, which both bounds \
+        allow, and not its text"),
+    ("at_most", "if wide > most { → if wide >= most {", "at the limit both give the limit"),
+    ("main", "let mut views: [u64; ENTRIES] = [0; ENTRIES]; → let mut views: [u64; ENTRIES] = [1; ENTRIES];", "a view is \
+        put before it is read"),
+    ("at_most_held", "if n > LINE_BUFFER { → if n >= LINE_BUFFER {", "at the limit both give the limit"),
+    ("feed_in_place", "let mut list: [u64; 33] = [0; 33]; → let mut list: [u64; 33] = [1; 33];", "the weights are put \
+        before they are read, or the state is not sound and nobody reads them"),
     ("ENTRIES", "const ENTRIES: usize = 257; → const ENTRIES: usize = 258;", "any number above 256 will do: a day of \
         more views is refused either way"),
     ("sized", "true → false", "no caller looks at the answer; the fact that it gives is all that is asked for"),
@@ -79,7 +94,7 @@ fn intro(each: usize) -> String {
         The first error of the log tells, as document 90 asks; the logs stand beside the results. *Refused*: it says \
         that a fact fails. *Refused by its shape*: it says only that the proof no longer fits the steps. *Noticed by \
         a test*: of `wire` and the programs, whose input and output are not proved, the stored day fails, or \
-        `tests/gate/pipe`, `days` or `page`. \
+        `tests/gate/pipe`, `days`, `page` or `run`. \
         *SURVIVED*: `rt check` proves the crate with the change; each is to be explained or its contract made \
         stronger. *The same code* (a constant that only crates above \
         use, a pattern that an earlier arm has) and *not compiled* count for nothing.\n\n",
