@@ -1,13 +1,13 @@
 //! Every must-fail edit of the crates, which the prover must refuse because a fact fails.
 //!
 //! edits ROOT FOLDER WORKERS: ROOT is the project, proved by `rt check`; FOLDER gets the changed copies.
-//! A crate is checked as `rt` checks it, over what `rt check` has just proved of it (`--incremental`), so that only what
-//! an edit changes is checked again. First the crate is tried as it is, and must be proved: what is refused then is
-//! refused for the edit alone.
+//! A crate is checked as `rt` checks it, over what `rt check` has just proved of it (`--incremental`), so that only
+//! what an edit changes is checked again. First the crate is tried as it is, and must be proved: what is refused then
+//! is refused for the edit alone.
 //!
-//! A function's proof rests on its own body and on the contracts of what it calls, and on no other body. So edits of the
-//! bodies of several functions are tried at once, and each is refused by the first error in its own function's proof; an
-//! edit that this does not tell of is tried alone.
+//! A function's proof rests on its own body and on the contracts of what it calls, and on no other body. So edits of
+//! the bodies of several functions are tried at once, and each is refused by the first error in its own function's
+//! proof; an edit that this does not tell of is tried alone.
 
 mod kit;
 #[allow(dead_code)]

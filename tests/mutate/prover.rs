@@ -7,7 +7,7 @@ use std::path::{Path, PathBuf};
 use std::process::Command;
 use std::time::Instant;
 
-/// What the programs read and write is not proved but tested: the crates that this is true of, and the steps of the gate.
+/// What the programs read and write is not proved but tested: the crates that have it, and the steps of the gate.
 const TESTED: [(&str, &[&[&str]]); 3] = [
     ("wire", &[&["tests/gate/pipe"], &["tests/gate/days", "50"]]),
     ("pumpday", &[&["tests/gate/pipe"], &["tests/gate/days", "50"]]),

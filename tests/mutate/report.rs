@@ -25,24 +25,24 @@ const WORDS: [&str; 8] = [
 const SEARCHED: &str = "the search puts what is read of it, whatever stood there";
 /// Survivors that mean the same: the item, the change, and why.
 const SAME: [(&str, &str, &str); 12] = [
-    ("complete", "return 0; → return 1;", "with no byte pending the line is the input's own, and no one asks the number"),
+    ("complete", "return 0; → return 1;", "with no byte pending the line is the input's own; no one asks the number"),
     ("earned_at", "let mut allotment: [u64; 256] = [0; 256]; → let mut allotment: [u64; 256] = [1; 256];", SEARCHED),
     ("earned_at", "let mut surplus: [u64; 64] = [0; 64]; → let mut surplus: [u64; 64] = [1; 64];", SEARCHED),
     ("earned_at", "let mut worth: [u64; 256] = [0; 256]; → let mut worth: [u64; 256] = [1; 256];", SEARCHED),
     ("put_figures", "let to = put_field(out, to, b\") (ratio \", b'M', ratio.numerator); → \
-        let to = put_field(out, to, b\") (ratio \", b'N', ratio.numerator);", "the letter bounds the number, which both bounds \
-        allow, and not its text"),
+        let to = put_field(out, to, b\") (ratio \", b'N', ratio.numerator);", "the letter bounds the number, which \
+        both bounds allow, and not its text"),
     ("at_most", "if wide > most { → if wide >= most {", "at the limit both give the limit"),
-    ("main", "let mut views: [u64; ENTRIES] = [0; ENTRIES]; → let mut views: [u64; ENTRIES] = [1; ENTRIES];", "a view is \
-        put before it is read"),
+    ("main", "let mut views: [u64; ENTRIES] = [0; ENTRIES]; → let mut views: [u64; ENTRIES] = [1; ENTRIES];", "a view \
+        is put before it is read"),
     ("at_most_held", "if n > LINE_BUFFER { → if n >= LINE_BUFFER {", "at the limit both give the limit"),
     ("feed_in_place", "let mut list: [u64; 33] = [0; 33]; → let mut list: [u64; 33] = [1; 33];", "the weights are put \
         before they are read, or the state is not sound and nobody reads them"),
     ("ENTRIES", "const ENTRIES: usize = 257; → const ENTRIES: usize = 258;", "any number above 256 will do: a day of \
         more views is refused either way"),
     ("sized", "true → false", "no caller looks at the answer; the fact that it gives is all that is asked for"),
-    ("first_open", "while j < n { → while j > n {", "any place below which every view is given will do: the search looks \
-        from there on, finds the same view and only takes longer"),
+    ("first_open", "while j < n { → while j > n {", "any place below which every view is given will do: the search \
+        looks from there on, finds the same view and only takes longer"),
 ];
 
 fn why_same(m: &Mutant) -> &'static str {
