@@ -4,7 +4,7 @@
  * the rest.
  *
  * Every function may be called with any numbers and any contents of what it is lent: none has a condition on them. It
- * reads and writes only what it is lent, and returns a status:
+ * reads and writes only what it is lent and, but for wezghuli_blank, which cannot fail, returns a status:
  *
  *   0           accepted
  *   1 to 99     refused: the number of the first question that failed; not one byte of what was lent is changed
@@ -47,6 +47,9 @@ extern "C" {
 #define WEZGHULI_MAX_VIEWS 4096
 #define WEZGHULI_MAX_PRICE 1000000
 #define WEZGHULI_MAX_BUDGET 2000000000
+/* How many views may be handed to the search, and the entry of an allotment for a view that goes to nobody. */
+#define WEZGHULI_MAX_HANDED_IN 256
+#define WEZGHULI_NOBODY 64
 /* The longest line that is read, without its byte 10, and the room that every written line fits, with it. */
 #define WEZGHULI_MAX_LINE 200
 #define WEZGHULI_LINE_ROOM 201
@@ -221,13 +224,13 @@ uint64_t wezghuli_page(const uint64_t head[7], const uint32_t terms[128], const 
 
 /* Finds an allotment of the views with the greatest takings that the plan of a state of any phase allows, and figures
  * that show it to be greatest. views are the accepted views in order, each its set of unpaused names. Written are
- * allotment[j], the campaign that view j goes to or 64 for nobody; surplus[i], the figure of campaign i; and worth[j],
- * that of view j, all in cents. Entries beyond the views and beyond the campaigns keep their values. The greatest
- * takings are those of allotment, which wezghuli_takings gives. Which of several greatest allotments is found is free,
- * and so are its figures: wezghuli_check accepts whatever comes out.
- * Refused, with all three as they were: 1 the state is not sound, 19 there are more than 256 views, 13 one names a
- * campaign that is not in the plan, 18 allotment or worth has fewer entries than there are views, or surplus than
- * campaigns. */
+ * allotment[j], the campaign that view j goes to or WEZGHULI_NOBODY; surplus[i], the figure of campaign i, and
+ * worth[j], that of view j, both in cents. Entries beyond the views and beyond the campaigns keep their values. The
+ * greatest takings are those of allotment, which wezghuli_takings gives. Which of several greatest allotments is found
+ * is free, and so are its figures: wezghuli_check accepts whatever comes out.
+ * Refused, with all three as they were: 1 the state is not sound, 19 there are more than WEZGHULI_MAX_HANDED_IN views,
+ * 13 one names a campaign that is not in the plan, 18 allotment or worth has fewer entries than there are views, or
+ * surplus than campaigns. */
 uint64_t wezghuli_search(const uint64_t head[7], const uint32_t terms[128], const uint16_t counts[256],
     const uint64_t *views, size_t views_len, uint64_t *allotment, size_t allotment_len,
     uint64_t *surplus, size_t surplus_len, uint64_t *worth, size_t worth_len);
@@ -243,9 +246,10 @@ uint64_t wezghuli_check(const uint64_t head[7], const uint32_t terms[128], const
     const uint64_t *surplus, size_t surplus_len, const uint64_t *worth, size_t worth_len);
 
 /* Writes to takings[0] what an allotment takes under the plan of a state of any phase: the sum of the prices of the
- * campaigns that its entries name, where 64 and every other number that is no campaign's brings nothing. It asks for no
- * views: lend as many entries as there were. Of the entries that wezghuli_search wrote these are the greatest takings.
- * Refused, with takings as it was: 1 the state is not sound, 19 there are more than 256 entries. */
+ * campaigns that its entries name, where a number that is no campaign's, as WEZGHULI_NOBODY, brings nothing. It asks
+ * for no views: lend as many entries as there were. Of the entries that wezghuli_search wrote these are the greatest
+ * takings.
+ * Refused, with takings as it was: 1 the state is not sound, 19 there are more than WEZGHULI_MAX_HANDED_IN entries. */
 uint64_t wezghuli_takings(const uint64_t head[7], const uint32_t terms[128], const uint16_t counts[256],
     const uint64_t *allotment, size_t allotment_len, uint64_t takings[1]);
 

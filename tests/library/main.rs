@@ -8,9 +8,9 @@ use std::collections::BTreeMap;
 use std::fs;
 use std::process::exit;
 
-/// Constants of the header that the source has no name for: where columns begin, the order of the figures at noon, and
-/// the lengths of lines and pages.
-const BY_BEHAVIOUR: [&str; 15] = [
+/// Constants of the header that the source has no name for: where columns begin, the order of the figures at noon, the
+/// lengths of lines and pages, and what the search takes and writes.
+const BY_BEHAVIOUR: [&str; 17] = [
     "TERMS_PRICE",
     "TERMS_BUDGET",
     "COUNTS_PLAYS",
@@ -26,6 +26,8 @@ const BY_BEHAVIOUR: [&str; 15] = [
     "REPLY_ROOM",
     "PAGE_LINE",
     "PAGE_ROOM",
+    "MAX_HANDED_IN",
+    "NOBODY",
 ];
 
 /// Programs in Rust that declare functions of the library.

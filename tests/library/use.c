@@ -640,10 +640,10 @@ static void searches(void)
         && untouched(0, 0), "18 leaves all");
     shown[4] = 8;
     expect(search_with(0, 0, 0) == 13 && check_with(0, 0, 0) == 13 && untouched(0, 0), "13 before 18");
-    views_shown = 257;
+    views_shown = WEZGHULI_MAX_HANDED_IN + 1;
     expect(search_with(0, 0, 0) == 19 && check_with(0, 0, 0) == 19 && untouched(0, 0), "19 before 13");
-    expect(takings_with(257) == 19 && takings_with(256) == 0 && allotted[0] == 0,
-           "19 of entries, and none that counts");
+    expect(takings_with(WEZGHULI_MAX_HANDED_IN + 1) == 19, "19 of entries");
+    expect(takings_with(WEZGHULI_MAX_HANDED_IN) == 0 && allotted[0] == 0, "and none that counts");
     allotted[0] = 777;
     day.head[WEZGHULI_HEAD_DEPTH] = 0;
     expect(search_with(0, 0, 0) == 1 && check_with(0, 0, 0) == 1 && untouched(0, 0), "1 before 19");
@@ -657,7 +657,7 @@ static void searches(void)
     shown[4] = 2;
     expect(search_with(259, 66, 259) == 0 && untouched(5, 3), "found, and entries beyond as they were");
     for (size_t j = 0; j < 5; j++)
-        paid += allotment[j] < 64 ? day.terms[allotment[j]] : 0;
+        paid += allotment[j] == WEZGHULI_NOBODY ? 0 : day.terms[allotment[j]];
     expect(paid == 16, "all that two campaigns can pay");
     expect(takings_with(5) == 0 && allotted[0] == 16, "and the takings say so");
     expect(check_with(5, 3, 5) == 0, "the check accepts it");
@@ -666,7 +666,7 @@ static void searches(void)
     surplus[0] = UINT64_MAX;
     expect(check_with(5, 3, 5) == WEZGHULI_STATUS_NO_FIT, "a sum that would wrap");
     expect(search_with(5, 3, 5) == 0, "found again");
-    paid = allotment[0] < 64 ? day.terms[allotment[0]] : 0;
+    paid = allotment[0] == WEZGHULI_NOBODY ? 0 : day.terms[allotment[0]];
     allotment[0] = 65;
     expect(check_with(5, 3, 5) == WEZGHULI_STATUS_NO_FIT, "an entry that is nobody's");
     expect(takings_with(5) == 0 && allotted[0] == 16 - paid, "which brings nothing");
@@ -685,7 +685,7 @@ static void paused_searches(void)
         pauses(i);
     expect(search_with(5, 3, 5) == 0 && check_with(5, 3, 5) == 0, "found with all paused");
     for (size_t j = 0; j < 5; j++)
-        paid += allotment[j] < 64 ? day.terms[allotment[j]] : 0;
+        paid += allotment[j] == WEZGHULI_NOBODY ? 0 : day.terms[allotment[j]];
     expect(paid == 16, "as much as with none paused");
     day.head[WEZGHULI_HEAD_PAUSED] = 8;
     expect(search_with(5, 3, 5) == 1 && check_with(5, 3, 5) == 1, "a mark past the last");

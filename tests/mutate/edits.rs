@@ -1,9 +1,10 @@
 //! Every must-fail edit of the crates, which the prover must refuse because a fact fails.
 //!
-//! edits ROOT FOLDER WORKERS: ROOT is the project, proved by `rt check`; FOLDER gets the changed copies.
-//! A crate is checked as `rt` checks it, over what `rt check` has just proved of it (`--incremental`), so that only
-//! what an edit changes is checked again. First the crate is tried as it is, and must be proved: what is refused then
-//! is refused for the edit alone.
+//! edits ROOT FOLDER WORKERS [PROCESS]: ROOT is the project, proved by `rt check` or `rt ci`; FOLDER gets the changed
+//! copies. PROCESS is the number of an `rt ci` of ROOT. While it is there, a crate is waited for until it is proved;
+//! and of the edits in must-fail/, which `rt ci` tries itself, the logs that it leaves are judged.
+//! A crate is checked as `rt` checks it, over what was just proved of it (`--incremental`), so that only what an edit
+//! changes is checked again. `rt` has proved the crate as it is: what is refused here is refused for the edit alone.
 //!
 //! A function's proof rests on its own body and on the contracts of what it calls, and on no other body. So edits of
 //! the bodies of several functions are tried at once, and each is refused by the first error in its own function's
@@ -15,18 +16,24 @@ mod source;
 mod verdict;
 
 use kit::{fill, inner, Kit};
-use std::collections::VecDeque;
 use std::fs;
 use std::path::{Path, PathBuf};
 use std::process::Command;
 use std::sync::Mutex;
-use std::time::Instant;
+use std::thread::sleep;
+use std::time::{Duration, Instant};
 use verdict::{told_of, verdict, Run};
 
 /// Seconds for one run of the prover.
 const LIMIT: u64 = 300;
+/// Between two looks for a crate that is proved.
+const PAUSE: Duration = Duration::from_millis(200);
 /// The crate whose run shows where the prover keeps what it has checked, and that a change of a comment survives.
 const SMALLEST: &str = "sets";
+/// The folder of a crate whose edits `rt ci` tries too, each with a whole check of the crate.
+const BY_RT: &str = "must-fail";
+/// The folder of a crate whose edits are tried here alone.
+const HERE: &str = "edits";
 
 /// A replacement in one file of a crate.
 struct Change {
@@ -88,11 +95,11 @@ fn changed(text: &str, change: &Change) -> Result<String, String> {
     }
 }
 
-/// The crates that have edits.
-fn crates(root: &Path, kit: &Kit) -> Vec<Crate> {
+/// The crates that have edits in one of these folders, with those edits.
+fn crates(root: &Path, kit: &Kit, folders: &[&str]) -> Vec<Crate> {
     let of_name = |name: &String| Crate {
         name: name.clone(),
-        edits: edits(&root.join("crates").join(name).join("must-fail")),
+        edits: folders.iter().flat_map(|folder| edits(&root.join("crates").join(name).join(folder))).collect(),
     };
     kit.uses.keys().map(of_name).filter(|c| !c.edits.is_empty()).collect()
 }
@@ -154,7 +161,9 @@ impl Desk<'_> {
             let text = fs::read_to_string(&path).unwrap_or_default();
             fs::write(&path, changed(&text, change)?).expect("a file");
         }
-        fill(&self.incremental(), checked, &self.inner);
+        if checked.is_dir() {
+            fill(&self.incremental(), checked, &self.inner);
+        }
         let mut run = self.kit.check(name, &folder, &self.incremental(), LIMIT);
         run.log = run.log.replace(&folder.display().to_string(), "");
         Ok(run)
@@ -175,15 +184,11 @@ impl Desk<'_> {
         edits.iter().map(told).collect()
     }
 
-    /// The crate as it is must be proved; then each edit is tried over that.
+    /// Each edit is tried over what is proved of its crate. `rt` keeps nothing of a program, so that its first edit is
+    /// a whole check, and the next are tried over what that has proved.
     fn verdicts(&self, c: &Crate) -> Vec<(String, bool)> {
-        let (word, why) = self.judge(&c.name, &[], &self.kit.checked(&c.name));
-        if word != "SURVIVED" {
-            return vec![(format!("{} as it is: {word}: {why}", c.name), false)];
-        }
-        let kept = self.folder.join("kept");
-        fs::rename(self.incremental(), &kept).expect("a folder");
-        let checked = kept.join(&self.inner);
+        let checked = self.kit.checked(&c.name);
+        let _ = fs::remove_dir_all(self.incremental());
         let mut all = vec![];
         for round in rounds(&c.edits) {
             let start = Instant::now();
@@ -195,9 +200,21 @@ impl Desk<'_> {
                 all.push((format!("{}/{}: {word} ({seconds} s): {why}", c.name, edit.label), word == "refused"));
             }
         }
-        fs::remove_dir_all(kept).expect("a folder");
         all
     }
+}
+
+/// What the logs that `rt ci` has left say of the edits that it tried.
+fn judged(root: &Path, kit: &Kit) -> Vec<(String, bool)> {
+    let all = crates(root, kit, &[BY_RT]);
+    let of_edit = |c: &Crate, e: &Edit| {
+        let folder = root.join("target/must-fail").join(&c.name).join(&e.label);
+        let log = fs::read_to_string(folder.join(".log")).unwrap_or_default();
+        let log = log.replace(&folder.display().to_string(), "");
+        let (word, why) = verdict(&Run { log, status: Some(1) });
+        (format!("{}/{}, as rt ci tried it: {word}: {why}", c.name, e.label), word == "refused")
+    };
+    all.iter().flat_map(|c| c.edits.iter().map(move |e| of_edit(c, e))).collect()
 }
 
 /// Edits to be tried at once, each of another function; what is no edit of one function stands alone.
@@ -215,52 +232,125 @@ fn rounds(edits: &[Edit]) -> Vec<Vec<&Edit>> {
 }
 
 /// Shows where the prover keeps what it has checked, and that a change that means nothing survives.
-fn first_run(desk: &mut Desk) -> bool {
+fn first_run(desk: &mut Desk) -> (String, bool) {
     let text = fs::read_to_string(desk.root.join("crates").join(SMALLEST).join("src/lib.rt")).expect("a source file");
     let line = text.lines().next().expect("a line").to_string();
     let comment = Change { file: "src/lib.rt".into(), new: format!("// another word\n{line}"), old: line };
     let (word, why) = desk.judge(SMALLEST, &[comment], Path::new(""));
     desk.inner = inner(&desk.incremental());
-    println!("{SMALLEST}, with another comment: {word} {why}");
-    word == "SURVIVED"
+    (format!("{SMALLEST}, with another comment: {word} {why}"), word == "SURVIVED")
 }
 
-/// How dear a crate's edits are, so that the dearest begin first: a program has no library to start from.
-fn cost(kit: &Kit, c: &Crate) -> usize {
-    fs::read_dir(kit.checked(&c.name)).map_or(usize::MAX, |files| files.count() * c.edits.len())
+/// The crates that are left to be tried.
+struct Queue<'a> {
+    kit: &'a Kit,
+    root: &'a Path,
+    left: Mutex<Vec<Crate>>,
+    /// What is there while crates are being proved.
+    proofs: Option<PathBuf>,
+}
+
+impl Queue<'_> {
+    /// How dear a crate's edits are, so that the dearest begin first: a program has no library to start from.
+    fn cost(&self, c: &Crate) -> u64 {
+        let files = fs::read_dir(self.kit.checked(&c.name));
+        let size = |f: std::io::Result<fs::DirEntry>| f.and_then(|f| f.metadata()).map_or(0, |m| m.len());
+        files.map_or(u64::MAX, |files| files.map(size).sum::<u64>() * c.edits.len() as u64)
+    }
+
+    /// Whether `rt check` has proved a library, or all that a program names.
+    fn is_proved(&self, name: &str) -> bool {
+        let uses = &self.kit.uses;
+        let stamped = |name: &String| !uses.contains_key(name) || self.root.join("target/stamp").join(name).is_file();
+        let program = self.root.join("crates").join(name).join("src/main.rt").is_file();
+        (program || stamped(&name.into())) && uses[name].iter().all(stamped)
+    }
+
+    /// Whether crates are being proved.
+    fn is_proving(&self) -> bool {
+        self.proofs.as_ref().is_some_and(|p| p.exists())
+    }
+
+    fn wait(&self, name: &str) {
+        while !self.is_proved(name) && self.is_proving() {
+            sleep(PAUSE);
+        }
+    }
+
+    fn wait_for_the_end(&self) {
+        while self.is_proving() {
+            sleep(PAUSE);
+        }
+    }
+
+    /// The dearest of the crates that are proved; where nothing is being proved any more, of all that are left.
+    fn next(&self) -> Option<Crate> {
+        loop {
+            let proving = self.is_proving();
+            let mut left = self.left.lock().expect("the queue");
+            if left.is_empty() {
+                return None;
+            }
+            let ready = |i: &usize| !proving || self.is_proved(&left[*i].name);
+            if let Some(i) = (0..left.len()).filter(ready).max_by_key(|i| self.cost(&left[*i])) {
+                return Some(left.remove(i));
+            }
+            drop(left);
+            sleep(PAUSE);
+        }
+    }
+}
+
+/// How many edits were refused, and how many were not.
+#[derive(Default)]
+struct Counts {
+    passed: usize,
+    failed: usize,
+}
+
+impl Counts {
+    fn add(&mut self, line: &str, good: bool) {
+        println!("{line}");
+        self.passed += usize::from(good);
+        self.failed += usize::from(!good);
+    }
 }
 
 fn main() {
     let args: Vec<String> = std::env::args().skip(1).collect();
     let (root, folder) = (PathBuf::from(&args[0]), PathBuf::from(&args[1]));
     let workers: usize = args[2].parse().expect("a number of workers");
+    let proofs = args.get(3).map(|process| Path::new("/proc").join(process));
     let kit = Kit::of(&root);
+    let here: &[&str] = if proofs.is_some() { &[HERE] } else { &[HERE, BY_RT] };
+    let queue = Queue { kit: &kit, root: &root, left: Mutex::new(crates(&root, &kit, here)), proofs };
+    queue.wait(SMALLEST);
     let mut first = Desk { kit: &kit, root: &root, folder: folder.join("first"), inner: String::new() };
-    let told = first_run(&mut first);
-    let counts = Mutex::new((usize::from(told), usize::from(!told)));
-    let mut all = crates(&root, &kit);
-    all.sort_by_key(|c| std::cmp::Reverse(cost(&kit, c)));
-    let queue = Mutex::new(VecDeque::from(all));
+    let counts = Mutex::new(Counts::default());
+    let (line, good) = first_run(&mut first);
+    counts.lock().expect("the counts").add(&line, good);
     std::thread::scope(|scope| {
         for i in 0..workers {
             let desk = Desk { folder: folder.join(i.to_string()), inner: first.inner.clone(), ..first };
             let (queue, counts) = (&queue, &counts);
-            scope.spawn(move || loop {
-                let next = queue.lock().expect("the queue").pop_front();
-                let Some(next) = next else { return };
-                for (line, good) in desk.verdicts(&next) {
-                    println!("{line}");
-                    let mut counts = counts.lock().expect("the counts");
-                    if good {
-                        counts.0 += 1;
-                    } else {
-                        counts.1 += 1;
+            scope.spawn(move || {
+                while let Some(next) = queue.next() {
+                    let unproved = || vec![(format!("{} is not proved", next.name), false)];
+                    let lines = if queue.is_proved(&next.name) { desk.verdicts(&next) } else { unproved() };
+                    for (line, good) in lines {
+                        counts.lock().expect("the counts").add(&line, good);
                     }
                 }
             });
         }
     });
-    let (passed, failed) = *counts.lock().expect("the counts");
-    println!("{passed} passed, {failed} failed");
-    std::process::exit(i32::from(failed > 0));
+    let mut counts = counts.into_inner().expect("the counts");
+    if queue.proofs.is_some() {
+        queue.wait_for_the_end();
+        for (line, good) in judged(&root, &kit) {
+            counts.add(&line, good);
+        }
+    }
+    println!("{} passed, {} failed", counts.passed, counts.failed);
+    std::process::exit(i32::from(counts.failed > 0));
 }

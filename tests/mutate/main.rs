@@ -176,13 +176,14 @@ fn mutants(root: &Path, name: &str, each: usize, changer: &Changer) -> Vec<Mutan
 
 /// The crates, what is proved of them, and the tests of the program, copied to a folder of their own.
 fn copy(root: &Path, work: &Path) {
-    let fresh = ["crates", "tests", "second"];
+    let fresh = ["crates", "tests", "second", "docs"];
     fresh.iter().for_each(|part| drop(fs::remove_dir_all(work.join(part))));
     fs::create_dir_all(work.join("target")).expect("a folder");
-    let mut parts = [&fresh[..], &["crates.txt"]].concat();
+    // the steps of the gate that judge a program read these pages
+    let mut parts = [&fresh[..], &["crates.txt", "run", "README.md"]].concat();
     // proofs of the same files count in the copy too
     if !work.join("target/stamp").exists() && root.join("target/stamp").exists() {
-        parts.extend(["target/stamp", "target/rlib", "target/log"]);
+        parts.extend(["target/stamp", "target/rlib", "target/log", "target/bin"]);
     }
     for part in parts {
         let done = Command::new("cp").arg("-r").arg(root.join(part)).arg(work.join(part)).status();

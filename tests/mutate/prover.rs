@@ -8,10 +8,11 @@ use std::process::Command;
 use std::time::Instant;
 
 /// What the programs read and write is not proved but tested: the crates that have it, and the steps of the gate.
-const TESTED: [(&str, &[&[&str]]); 3] = [
+const TESTED: [(&str, &[&[&str]]); 4] = [
     ("wire", &[&["tests/gate/pipe"], &["tests/gate/days", "50"]]),
     ("pumpday", &[&["tests/gate/pipe"], &["tests/gate/days", "50"]]),
-    ("pumppage", &[&["tests/gate/page"]]),
+    ("pumppage", &[&["tests/gate/page"], &["tests/gate/run"]]),
+    ("pumpgreatest", &[&["tests/gate/run"]]),
 ];
 
 /// The crate that is checked in the least time.
@@ -55,13 +56,15 @@ impl Prover {
         self.kit.check(name, &self.work.join("crates").join(name), &self.incremental(), self.limit)
     }
 
-    /// The crate as it is must be proved, in whatever time (0), or nothing can be told of its changes.
+    /// The crate as it is must be proved, in whatever time (0), and its steps of the gate must pass, or nothing can be
+    /// told of its changes.
     pub fn baseline(&self, name: &str) -> Result<(), String> {
         let proved = |what: &str, run: Run| match run.status {
             Some(0) => Ok(()),
             _ => Err(format!("{what} fails without any change:\n{}", run.log)),
         };
         proved("rt check", self.run("check", name, 0))?;
+        self.failed_step(name).map_or(Ok(()), |log| Err(format!("a step fails without any change:\n{log}")))?;
         // any run shows the name of the prover's folder
         proved("rt dev", self.run("dev", SMALLEST, 0))?;
         let folder = inner(&self.work.join("target/inc").join(SMALLEST));

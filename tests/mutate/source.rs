@@ -16,7 +16,9 @@ fn indent(line: &str) -> usize {
 
 /// The name behind a keyword, if the line declares one.
 fn declared<'a>(line: &'a str, keyword: &str) -> Option<&'a str> {
-    let rest = line.trim_start().strip_prefix("pub ").unwrap_or(line.trim_start());
+    let line = line.trim_start();
+    let rest = line.strip_prefix("pub ").unwrap_or(line);
+    let rest = rest.strip_prefix("extern \"C\" ").unwrap_or(rest);
     let name = rest.strip_prefix(keyword)?.strip_prefix(' ')?;
     name.split(|c: char| !c.is_alphanumeric() && c != '_').next()
 }

@@ -13,7 +13,7 @@ pub struct Run {
 }
 
 /// Errors that say that a proof no longer fits the code's steps, and not that a fact fails.
-const SHAPE: [&str; 3] = ["was not admitted", "that can be named from here", "not in scope"];
+const SHAPE: [&str; 4] = ["was not admitted", "that can be named from here", "not in scope", " has no field "];
 
 pub fn first<'a>(log: &'a str, is: impl Fn(&&str) -> bool) -> Option<&'a str> {
     log.lines().find(|line| is(line))
@@ -96,6 +96,7 @@ mod tests {
 
     const SHAPE_ERROR: &str =
         "a/Proof.antt:21:14: error: `add`: module `Tie` has no `Need-add` that can be named from here\n";
+    const PATH_ERROR: &str = "a/Proof.antt:38:39: error: `loop-again`: record `Lts.Start` has no field `before`\n";
     const FACT_ERROR: &str = "a/Proof.antt:25:15: error: `returns`: the two types differ only where one has `63`\n";
     const LEFT_OVER: &str = "a/src/lib.rt:9:5: it is not proved that the sum fits\n";
     const UNPROVED: &str = "fn a::b: not proved\n";
@@ -107,6 +108,7 @@ mod tests {
     #[test]
     fn the_first_error_tells() {
         assert_eq!(word(&[SHAPE_ERROR, FACT_ERROR, UNPROVED], Some(1)), "refused by its shape");
+        assert_eq!(word(&[PATH_ERROR, FACT_ERROR, UNPROVED], Some(1)), "refused by its shape");
         assert_eq!(word(&[FACT_ERROR, SHAPE_ERROR, UNPROVED], Some(1)), "refused");
         assert_eq!(word(&[LEFT_OVER, SHAPE_ERROR, UNPROVED], Some(1)), "refused");
         assert_eq!(word(&["a/src/lib.rt:19:16: error[unknown-name]: no `sat`\n", FACT_ERROR], Some(1)), "not compiled");

@@ -12,7 +12,7 @@ use Rattle.finite.proofs.Sums.{sum-eq, sum-suc, sum-zero}
 use Rattle.finite.proofs.Tests.{both-left, both-right}
 use Rattle.sets.specs.Set.{member}
 use Rattle.allotments.specs.Allotment.{times, brings, takings}
-use Rattle.allotments.specs.Most.{greatest, less, most, Takes, Most-is-most}
+use Rattle.allotments.specs.Most.{greatest, one-less, most, Takes, Most-is-most}
 use Rattle.allotments.proofs.Most.{allotted-most}
 use Rattle.allotments.proofs.Cases.{same-or-not, one-same, one-other}
 
@@ -107,14 +107,14 @@ module _ (n : ℕ) (price : ℕ → ℕ) (view : ℕ → ℕ) (few : n ≤ 64) w
 
   -- or to a campaign that it names and that has plays left
   to-named : (m : ℕ) (left : ℕ → ℕ) (c x : ℕ) → c < n → member (view m) c ≡ true → 0 < left c
-      → Takes n price (less left c) m view x → Takes n price left (suc m) view (price c + x)
+      → Takes n price (one-less left c) m view x → Takes n price left (suc m) view (price c + x)
   to-named m left c x l named some t = record {
     to = next-to m c (t .to);
     allotted = record {
       given = next-given m c (t .to) view (t .allotted .given) (inr named);
       bought = λ d k. ⊎-elim
           (λ (e : d ≡ c).
-          let one : less left c d ≡ left d - 1 = rw (eq-eqb d c e) in
+          let one : one-less left c d ≡ left d - 1 = rw (eq-eqb d c e) in
           omega (
             arith,
             next-times m c (t .to) d,
@@ -124,7 +124,7 @@ module _ (n : ℕ) (price : ℕ → ℕ) (view : ℕ → ℕ) (few : n ≤ 64) w
             ap left e,
           ))
           (λ (ne : d ≡ c → ⊥).
-          let none : less left c d ≡ left d = rw (ne-eqb d c ne) in
+          let none : one-less left c d ≡ left d = rw (ne-eqb d c ne) in
           omega (
             arith,
             next-times m c (t .to) d,
@@ -152,18 +152,19 @@ module _ (n : ℕ) (price : ℕ → ℕ) (view : ℕ → ℕ) (few : n ≤ 64) w
   attained (suc m) left = go (attained m) (some-greatest n choice) (leb (greatest n choice) past) refl
     where
       choice : ℕ → ℕ
-      choice c = cond (member (view m) c && ltb 0 (left c)) (price c + most n price (less left c) m view) 0
+      choice c = cond (member (view m) c && ltb 0 (left c)) (price c + most n price (one-less left c) m view) 0
 
       past : ℕ
       past = most n price left m view
 
       last : ((l : ℕ → ℕ) → Takes n price l m view (most n price l m view)) → (c : ℕ) → c < n → (b : Bool)
-          → (member (view m) c && ltb 0 (left c)) ≡ b → past < cond b (price c + most n price (less left c) m view) 0
-          → Takes n price left (suc m) view (cond b (price c + most n price (less left c) m view) 0)
+          → (member (view m) c && ltb 0 (left c)) ≡ b
+          → past < cond b (price c + most n price (one-less left c) m view) 0
+          → Takes n price left (suc m) view (cond b (price c + most n price (one-less left c) m view) 0)
       last ih c l true e more =
-          to-named m left c (most n price (less left c) m view) l
+          to-named m left c (most n price (one-less left c) m view) l
           (both-left (member (view m) c) (ltb 0 (left c)) e)
-          (ltb-true 0 (left c) (both-right (member (view m) c) (ltb 0 (left c)) e)) (ih (less left c))
+          (ltb-true 0 (left c) (both-right (member (view m) c) (ltb 0 (left c)) e)) (ih (one-less left c))
       last ih c l false e more = absurd (not-suc-le-zero more)
 
       go : ((l : ℕ → ℕ) → Takes n price l m view (most n price l m view))

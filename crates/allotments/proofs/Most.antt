@@ -12,7 +12,7 @@ use Rattle.finite.proofs.Sums.{sum-eq, sum-suc, sum-zero, sum-split, hide}
 use Rattle.finite.proofs.Tests.{both-left, both-right}
 use Rattle.sets.specs.Set.{member}
 use Rattle.allotments.specs.Allotment.{times, brings, takings, Allotment, Certified}
-use Rattle.allotments.specs.Most.{greatest, less, most}
+use Rattle.allotments.specs.Most.{greatest, one-less, most}
 use Rattle.allotments.proofs.Takings.{given-named}
 use Rattle.allotments.proofs.Cases.{same-or-not, one-same}
 
@@ -32,7 +32,7 @@ greatest-below zero f b h = omega arith
 greatest-below (suc n) f b h = omega (arith, greatest-below n f b (λ c l. h c (le-step l)), h n (le-refl (suc n)))
 
 -- one play less, in a sum
-less-sum : (n : ℕ) (u left : ℕ → ℕ) (c : ℕ) → c < n → 0 < left c → sum n (λ d. u d * less left c d) + u c ≡ sum n
+less-sum : (n : ℕ) (u left : ℕ → ℕ) (c : ℕ) → c < n → 0 < left c → sum n (λ d. u d * one-less left c d) + u c ≡ sum n
     (λ d. u d * left d)
 less-sum n u left c l p =
     omega (
@@ -48,7 +48,7 @@ less-sum n u left c l p =
     f d = u d * left d
 
     g : ℕ → ℕ
-    g d = u d * less left c d
+    g d = u d * one-less left c d
 
     hidden : (d : ℕ) (b : Bool) → eqb d c ≡ b → cond b 0 (g d) ≡ cond b 0 (f d)
     hidden d true e = refl
@@ -74,14 +74,14 @@ module _ (n : ℕ) (price : ℕ → ℕ) (view : ℕ → ℕ) where
         arith,
         ih left,
         sum-suc m v,
-        greatest-below n (λ c. cond (member (view m) c && ltb 0 (left c)) (price c + most n price (less left c) m
+        greatest-below n (λ c. cond (member (view m) c && ltb 0 (left c)) (price c + most n price (one-less left c) m
             view) 0) (sum n (λ c. u c * left c) + sum (suc m) v)
-            (λ c l. each c l (ih (less left c)) (member (view m) c && ltb 0 (left c)) refl),
+            (λ c l. each c l (ih (one-less left c)) (member (view m) c && ltb 0 (left c)) refl),
       )
     where
-      each : (c : ℕ) → c < n → most n price (less left c) m view ≤ sum n (λ d. u d * less left c d) + sum m v
+      each : (c : ℕ) → c < n → most n price (one-less left c) m view ≤ sum n (λ d. u d * one-less left c d) + sum m v
           → (b : Bool) → (member (view m) c && ltb 0 (left c)) ≡ b
-          → cond b (price c + most n price (less left c) m view) 0 ≤ sum n (λ d. u d * left d) + sum (suc m) v
+          → cond b (price c + most n price (one-less left c) m view) 0 ≤ sum n (λ d. u d * left d) + sum (suc m) v
       each c l ih true e =
           omega (
             arith,
@@ -106,16 +106,16 @@ module _ (n : ℕ) (price : ℕ → ℕ) (view : ℕ → ℕ) where
           → (b : Bool) → ltb (to m) n ≡ b
           → sum (suc m) (λ j. brings n price (to j))
           ≤ max (most n price left m view) (greatest n (λ c. cond (member (view m) c && ltb 0 (left c))
-          (price c + most n price (less left c) m view) 0))
+          (price c + most n price (one-less left c) m view) 0))
       go ih true e =
           let c = to m in
           let l : c < n = ltb-true c n e in
           let nm : member (view m) c ≡ true = given-named n (view m) c few (al .given m (le-refl (suc m))) l in
           let held : times m to c + 1 ≤ left c = omega (arith, al .bought c l, grows c, one-same c c refl) in
-          let rest : Allotment n (less left c) m view to = record {
+          let rest : Allotment n (one-less left c) m view to = record {
             given = λ j k. al .given j (le-step k);
             bought = λ d k. ⊎-elim
-                (λ (q : d ≡ c). subst⁻¹ (λ (x : ℕ). times m to x ≤ less left c x) q
+                (λ (q : d ≡ c). subst⁻¹ (λ (x : ℕ). times m to x ≤ one-less left c x) q
                 (subst⁻¹ (λ (b : Bool). times m to c ≤ cond b (left c - 1) (left c)) (eq-eqb c c refl)
                 (omega arith)))
                 (λ (ne : d ≡ c → ⊥). subst⁻¹ (λ (b : Bool). times m to d ≤ cond b (left d - 1) (left d))
@@ -123,16 +123,16 @@ module _ (n : ℕ) (price : ℕ → ℕ) (view : ℕ → ℕ) where
                 (same-or-not d c);
           } in
           let here : (member (view m) c && ltb 0 (left c)) ≡ true = rw (nm, lt-ltb 0 (left c) (omega arith)) in
-          let at-c : cond (member (view m) c && ltb 0 (left c)) (price c + most n price (less left c) m view) 0 ≡
-          price c + most n price (less left c) m view = rw here in
+          let at-c : cond (member (view m) c && ltb 0 (left c)) (price c + most n price (one-less left c) m view) 0 ≡
+          price c + most n price (one-less left c) m view = rw here in
           let p : brings n price c ≡ price c = rw e in
           omega (
             arith,
             sum-suc m (λ j. brings n price (to j)),
-            ih (less left c) to rest,
+            ih (one-less left c) to rest,
             p,
             at-c,
-            greatest-at n (λ d. cond (member (view m) d && ltb 0 (left d)) (price d + most n price (less left d) m
+            greatest-at n (λ d. cond (member (view m) d && ltb 0 (left d)) (price d + most n price (one-less left d) m
                 view) 0) c l,
           )
       go ih false e =

@@ -19,10 +19,13 @@ at l i = getD l i 0
 unfoldable pub times : (m : ℕ) → (ℕ → ℕ) → ℕ → ℕ
 times m to i = count m (λ j. eqb (to j) i)
 
--- each view goes to nobody, written 64, or to one campaign that it names, and no campaign is given more than its whole
--- plays
+-- an entry for nobody
+abbrev pub nobody : ℕ
+nobody = 64
+
+-- each view goes to nobody or to one campaign that it names, and no campaign is given more than its whole plays
 pub record Allotment (n : ℕ) (whole : ℕ → ℕ) (m : ℕ) (view to : ℕ → ℕ) : Type 0 where
-  pub given : (j : ℕ) → j < m → (to j ≡ 64) ⊎ (member (view j) (to j) ≡ true)
+  pub given : (j : ℕ) → j < m → (to j ≡ nobody) ⊎ (member (view j) (to j) ≡ true)
   pub bought : (i : ℕ) → i < n → times m to i ≤ whole i
 
 -- what an entry brings: the price of the campaign, and 0 for nobody
@@ -52,7 +55,7 @@ pub record Certified (n : ℕ) (price whole : ℕ → ℕ) (m : ℕ) (view to ca
 
 -- the same as tests: of one entry, and of one view with its figure
 abbrev pub entry-fits : (view : ℕ) → ℕ → Bool
-entry-fits view i = eqb i 64 || member view i
+entry-fits view i = eqb i nobody || member view i
 
 abbrev pub covered : (n : ℕ) (price campaign-figure : ℕ → ℕ) (view view-figure : ℕ) → Bool
 covered n price campaign-figure view f =

@@ -13,7 +13,7 @@ pub record Market (n : ℕ) (views : List ℕ) : Type 0 where
   pub inside : (j : ℕ) → j < length views → within n (at views j) ≡ true
 
 -- enough entries are lent for the allotment, for the campaign figures and for the view figures
-pub record Lent (n : ℕ) (views allotment surplus worth : List ℕ) : Type 0 where
+pub record Enough-lent (n : ℕ) (views allotment surplus worth : List ℕ) : Type 0 where
   pub market : Market n views
   pub for-allotment : length views ≤ length allotment
   pub for-campaigns : n ≤ length surplus

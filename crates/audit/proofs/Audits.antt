@@ -21,8 +21,8 @@ use Rattle.campaigns.specs.Phase.{phase-holds}
 use Rattle.campaigns.specs.View.{budgets, takings, claims, full}
 use Rattle.campaigns.proofs.Laws.{plan-sized}
 use Rattle.audit.specs.declared.Audit.{Audit}
-use Rattle.audit.specs.Sound.{marks-hold, sound-record, not-sound, figures, audit-of}
-use Rattle.audit.specs.Contracts.{limits, waiting, sums-of, empty-from, claim-sum, claim-checked}
+use Rattle.audit.specs.Sound.{marks-hold, sound-record, not-sound, sound-figures, audit-of}
+use Rattle.audit.specs.Contracts.{limits-hold, waiting, sums-of, empty-from, claim-sum, claim-checked}
 use Rattle.audit.proofs.Totals.{held}
 use Rattle.audit.proofs.Claims.{tested, each}
 
@@ -56,7 +56,7 @@ module _ (h : Head) (f : ℕ → Campaign) where
   abbrev covered : Bool
   covered = leb (claims (h .plan) (h .count) f) (full (h .plan) (takings (h .plan) (h .count) f))
 
-  sound-parts : h .count ≤ max-campaigns → sound-record h f ≡ (limits h && (rest && covered))
+  sound-parts : h .count ≤ max-campaigns → sound-record h f ≡ (limits-hold h && (rest && covered))
   unfolding sound-record empty-from
   sound-parts few =
       let sound-at : ℕ → Bool = λ i. sound-campaign (h .phase) (h .plan) (h .accepted) (f i) in
@@ -66,7 +66,7 @@ module _ (h : Head) (f : ℕ → Campaign) where
       (phase-holds (h .phase) (h .accepted) (takings (h .plan) (h .count) f)) covered)
 
   -- a record outside the limits is not sound
-  pub outside : limits h ≡ false → sound-record h f ≡ false
+  pub outside : limits-hold h ≡ false → sound-record h f ≡ false
   unfolding sound-record
   outside e = go (sound-plan (h .plan)) (leb (h .count) max-campaigns) (leb (h .accepted) max-views) (marks-hold h) _ e
     where
@@ -77,14 +77,14 @@ module _ (h : Head) (f : ℕ → Campaign) where
       go true true true false d e = refl
       go true true true true d e = absurd (let z : _≡_ {A = ℕ} 0 1 = cc in omega arith)
 
-  pub sound-within : sound-record h f ≡ true → limits h ≡ true
-  sound-within s = go (limits h) refl
+  pub sound-within : sound-record h f ≡ true → limits-hold h ≡ true
+  sound-within s = go (limits-hold h) refl
     where
-      go : (b : Bool) → limits h ≡ b → limits h ≡ true
+      go : (b : Bool) → limits-hold h ≡ b → limits-hold h ≡ true
       go true e = e
       go false e = absurd (never (sound-record h f) (outside e) s)
 
-  pub audit-outside : limits h ≡ false → audit-of h f ≡ not-sound
+  pub audit-outside : limits-hold h ≡ false → audit-of h f ≡ not-sound
   unfolding audit-of
   audit-outside e = rw (outside e)
 
@@ -93,16 +93,16 @@ module _ (h : Head) (f : ℕ → Campaign) where
   unfolding audit-of
   audit-sound a e = ap (λ (x : Audit). x .sound) e ∙ go (sound-record h f)
     where
-      go : (b : Bool) → cond b (figures h f) not-sound .sound ≡ b
+      go : (b : Bool) → cond b (sound-figures h f) not-sound .sound ≡ b
       go true = refl
       go false = refl
 
-  pub audit-figures : (a : Audit) → a ≡ audit-of h f → sound-record h f ≡ true → a ≡ figures h f
+  pub audit-figures : (a : Audit) → a ≡ audit-of h f → sound-record h f ≡ true → a ≡ sound-figures h f
   unfolding audit-of
-  audit-figures a e s = e ∙ ap (λ (b : Bool). cond b (figures h f) not-sound) s
+  audit-figures a e s = e ∙ ap (λ (b : Bool). cond b (sound-figures h f) not-sound) s
 
   -- within the limits
-  module _ (e : limits h ≡ true) where
+  module _ (e : limits-hold h ≡ true) where
     numbers : (sound-plan (h .plan) && leb (h .count) max-campaigns && leb (h .accepted) max-views) ≡ true
     numbers = both-left (sound-plan (h .plan) && leb (h .count) max-campaigns && leb (h .accepted) max-views)
         (marks-hold h) e

@@ -10,6 +10,7 @@ use Rattle.campaigns.specs.declared.Phase.{Phase}
 use Rattle.campaigns.specs.declared.Phase.the-variants.{Filling, Running, Closed}
 use Rattle.campaigns.specs.declared.Plan.{Plan}
 use Rattle.campaigns.specs.Limits.{max-campaigns, max-price, max-budget, max-views}
+use Rattle.campaigns.specs.Contracts.{max-column}
 use Rattle.campaigns.specs.Campaign.{spending, price-fits, budget-fits, sound-plan, empty}
 use Rattle.campaigns.specs.View.{full}
 use Rattle.audit.specs.declared.Audit.{Audit}
@@ -18,8 +19,8 @@ use Rattle.audit.specs.declared.sums.Sums.{Sums}
 use Rattle.audit.specs.Sound.{marks-hold, not-sound}
 
 -- the first tests of soundness: the plan's, the limits of campaigns and views, and the paused marks
-abbrev pub limits : Head → Bool
-limits h = sound-plan (h .plan) && leb (h .count) max-campaigns && leb (h .accepted) max-views && marks-hold h
+abbrev pub limits-hold : Head → Bool
+limits-hold h = sound-plan (h .plan) && leb (h .count) max-campaigns && leb (h .accepted) max-views && marks-hold h
 
 -- the tests of soundness on the first n campaigns, by columns
 unfoldable pub priced-columns : ℕ → (ℕ → Campaign) → Bool
@@ -100,8 +101,8 @@ columns-hold p pl a n f = priced-columns n f && ordered-columns (pl .depth) a n 
 -- the bounds under which the figures fit
 pub record Bounded (s : Sums) : Type 0 where
   pub takings-bound : s .takings ≤ max-budget
-  pub turned-bound : s .turned ≤ 262_144_000_000
-  pub waited-bound : s .waited ≤ 274_877_906_944_000_000
+  pub turned-bound : s .turned ≤ max-campaigns * (max-price * max-views)
+  pub waited-bound : s .waited ≤ max-column * max-price
 
 -- the total claim of the sums, against full
 abbrev pub claim-sum : Plan → Sums → ℕ

@@ -25,7 +25,7 @@ marks-hold h = within (h .count) (h .paused) && (eqb (h .paused) 0 || not (is-fi
 abbrev pub sound-tests : Head → (ℕ → Campaign) → List Bool
 sound-tests h f =
     sound-plan (h .plan) ∷ leb (h .count) max-campaigns ∷ leb (h .accepted) max-views ∷ marks-hold h ∷
-    every 64 (sound-entry h f) ∷ leb (budgets (h .count) f) max-budget ∷
+    every max-campaigns (sound-entry h f) ∷ leb (budgets (h .count) f) max-budget ∷
     phase-holds (h .phase) (h .accepted) (takings (h .plan) (h .count) f) ∷
     leb (claims (h .plan) (h .count) f) (full (h .plan) (takings (h .plan) (h .count) f)) ∷ []
 
@@ -37,8 +37,8 @@ abbrev pub not-sound : Audit
 not-sound = record { sound = false; budgets = 0; takings = 0; claim = 0; full = 0 }
 
 -- one that passes: the sum of the budgets, the takings, the total claim and full
-abbrev pub figures : Head → (ℕ → Campaign) → Audit
-figures h f = record {
+abbrev pub sound-figures : Head → (ℕ → Campaign) → Audit
+sound-figures h f = record {
   sound = true;
   budgets = budgets (h .count) f;
   takings = takings (h .plan) (h .count) f;
@@ -47,4 +47,4 @@ figures h f = record {
 }
 
 unfoldable pub audit-of : Head → (ℕ → Campaign) → Audit
-audit-of h f = cond (sound-record h f) (figures h f) not-sound
+audit-of h f = cond (sound-record h f) (sound-figures h f) not-sound

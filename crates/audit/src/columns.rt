@@ -4,6 +4,8 @@ use campaigns::Head;
 use campaigns::Phase;
 ghost use mathlib.Core.Path.{_≡_};
 ghost use Prim.Native.Nat.{_≤_};
+ghost use Rattle.powers.specs.Limits.{max-depth};
+ghost use Rattle.campaigns.specs.Limits.{max-campaigns, max-views};
 ghost use Rattle.campaigns.specs.Campaign.{campaign-at};
 ghost use Rattle.audit.specs.Contracts.{priced-columns, ordered-columns, untouched-columns, no-terms-from};
 ghost use Rattle.audit.specs.Contracts.{no-counts-in, empty-from, columns-hold};
@@ -101,7 +103,7 @@ fn empty_from<'a>(n: usize, terms: &'a [u32; 128], counts: &'a [u16; 256]) -> bo
 
 // Every test by columns. It is made before any sum: prices and ages that pass it bound what is summed.
 pub fn columns_hold<'a>(head: Head, n: usize, terms: &'a [u32; 128], counts: &'a [u16; 256]) -> bool
-    requires { ⌜ (n ≤ 64) × (head .plan .depth ≤ 32) × (head .accepted ≤ 4096) ⌝ }
+    requires { ⌜ (n ≤ max-campaigns) × (head .plan .depth ≤ max-depth) × (head .accepted ≤ max-views) ⌝ }
     ensures { λ r. ⌜ r ≡ columns-hold (head .phase) (head .plan) (head .accepted) n
         (campaign-at (now (terms .entry)) (now (counts .entry))) ⌝ }
 {

@@ -16,7 +16,7 @@ ghost use Rattle.campaigns.specs.Campaign.{campaign-at};
 ghost use Rattle.campaigns.specs.Contracts.{Weights};
 ghost use Rattle.campaigns.specs.Phase.{phase-holds};
 ghost use Rattle.audit.specs.Sound.{marks-hold, not-sound, audit-of};
-ghost use Rattle.audit.specs.Contracts.{limits, Bounded, claim-checked};
+ghost use Rattle.audit.specs.Contracts.{limits-hold, Bounded, claim-checked};
 
 // Whether the state is sound and, if so, the sum of its budgets, its takings, total claim and full.
 pub struct Audit {
@@ -51,7 +51,7 @@ fn marks_hold(head: Head) -> bool
 
 // Questions 3 to 5 of a state's plan, the limits of its campaigns and its views, and the paused marks.
 pub fn limits_hold(head: Head) -> bool
-    ensures { λ r. ⌜ r ≡ limits head ⌝ }
+    ensures { λ r. ⌜ r ≡ limits-hold head ⌝ }
 {
     let plan = head.plan;
     plan.depth_fits()
@@ -107,7 +107,7 @@ pub fn audit_parts<'a>(
     counts: &'a [u16; 256],
 ) -> Audit
     requires { ⌜ Weights (head .plan) (now weights) ⌝ }
-    requires { ⌜ limits head ≡ true ⌝ }
+    requires { ⌜ limits-hold head ≡ true ⌝ }
     ensures { λ r. ⌜ r ≡ audit-of head (campaign-at (now (terms .entry)) (now (counts .entry))) ⌝ }
 {
     let plan = head.plan;

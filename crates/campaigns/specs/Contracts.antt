@@ -3,12 +3,13 @@
 use mathlib.Core.Path.{_≡_}
 use mathlib.Core.Bool.{true, cond}
 use mathlib.Core.List.{List}
-use Prim.Native.Nat.{ℕ, _+_, _-_, _^_, _≤_, _<_}
+use Prim.Native.Nat.{ℕ, _+_, _-_, _*_, _^_, _≤_, _<_}
 use lib.Dec.{eqb}
 use lib.ListN.{getD, length}
 use Rattle.powers.specs.Power.{weight}
 use Rattle.campaigns.specs.declared.Campaign.{Campaign}
 use Rattle.campaigns.specs.declared.Plan.{Plan}
+use Rattle.campaigns.specs.Limits.{max-campaigns}
 use Rattle.campaigns.specs.Campaign.{sound-plan}
 
 -- the numbers of a campaign are no wider than the arrays
@@ -20,8 +21,12 @@ pub record Fits-arrays (c : Campaign) : Type 0 where
   pub age-u16 : c .age < 65_536
   pub named-u16 : c .named < 65_536
 
+-- what the numbers of a column of 32 bits sum to at most
+abbrev pub max-column : ℕ
+max-column = max-campaigns * 4_294_967_296
+
 -- lent arrays have the entries that their types say
-pub record Room (terms counts : List ℕ) : Type 0 where
+pub record Sized (terms counts : List ℕ) : Type 0 where
   pub terms-length : length terms ≡ 128
   pub counts-length : length counts ≡ 256
 

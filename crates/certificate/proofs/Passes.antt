@@ -20,7 +20,7 @@ use Rattle.allotments.specs.Allotment.{at, times, brings, takings}
 use Rattle.allotments.proofs.Walks.{Walking, walking-end, hand-small, hand-in, walking-turn}
 use Rattle.allotments.proofs.Cases.{same-or-not, one-same, one-other}
 use Rattle.certificate.specs.declared.Rest.{Rest}
-use Rattle.certificate.specs.Contracts.{rest-of}
+use Rattle.certificate.specs.Contracts.{rest-left}
 
 -- tests that passed so far
 pub passed-none : (p : ℕ → Bool) → every 0 p ≡ true
@@ -198,13 +198,13 @@ module _ (n : ℕ) (f : ℕ → ℕ) (amount left j : ℕ) (now : left + sum j f
   counted-past : j < n → left < f j → amount < sum n f
   counted-past l h = omega (arith, sum-next j f, sum-longer (j + 1) n f (omega arith))
 
-  pub counted-short : j < n → left < f j → record { enough = false; left = 0 } ≡ rest-of (sum n f) amount
+  pub counted-short : j < n → left < f j → record { enough = false; left = 0 } ≡ rest-left (sum n f) amount
   counted-short l h =
       let past = counted-past l h in
       let none : amount - sum n f ≡ 0 = omega arith in
       rw (lt-leb (sum n f) amount past, none)
 
-  pub counted-rest : j ≡ n → record { enough = true; left = left } ≡ rest-of (sum n f) amount
+  pub counted-rest : j ≡ n → record { enough = true; left = left } ≡ rest-left (sum n f) amount
   counted-rest e =
       let rest : amount - sum n f ≡ left = omega (arith, ap (λ (k : ℕ). sum k f) e) in
       rw (le-leb (sum n f) amount (omega (arith, ap (λ (k : ℕ). sum k f) e)), rest)
@@ -231,7 +231,7 @@ figures-rest s v t = go (leb s t) refl
     go true e = same (eqb v (t - s)) (leb-true s t e) refl
     go false e = sym (ne-eqb (s + v) t (λ q. omega (arith, leb-false s t e)))
 
-pub figures-joined : (rest : Rest) (v : Bool) (s w t t' : ℕ) → t ≡ t' → rest ≡ rest-of s t → v ≡ eqb w (rest .left)
+pub figures-joined : (rest : Rest) (v : Bool) (s w t t' : ℕ) → t ≡ t' → rest ≡ rest-left s t → v ≡ eqb w (rest .left)
     → (rest .enough && v) ≡ eqb (s + w) t'
 figures-joined rest v s w t t' e r h =
     ap (λ (b : Bool). rest .enough && b) (h ∙ ap (λ (x : Rest). eqb w (x .left)) r) ∙ ap (λ (x : Rest). x .enough &&

@@ -4,5 +4,5 @@ use lib.Dec.{leb}
 use Rattle.certificate.specs.declared.Rest.{Rest}
 
 -- what is left of an amount after a part of it, and whether there was enough
-abbrev pub rest-of : (part amount : ℕ) → Rest
-rest-of part amount = record { enough = leb part amount; left = amount - part }
+abbrev pub rest-left : (part amount : ℕ) → Rest
+rest-left part amount = record { enough = leb part amount; left = amount - part }

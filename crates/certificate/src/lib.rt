@@ -8,9 +8,10 @@ ghost use lib.Dec.{leb, eqb};
 ghost use lib.ListN.{length};
 ghost use Rattle.finite.specs.Finite.{sum, every};
 ghost use Rattle.sets.specs.Set.{within};
+ghost use Rattle.allotments.specs.Limits.{max-handed-in};
 ghost use Rattle.allotments.specs.Allotment.{at, times, takings, entry-fits, covered, certified};
-ghost use Rattle.allotments.specs.Contracts.{Market, Lent};
-ghost use Rattle.certificate.specs.Contracts.{rest-of};
+ghost use Rattle.allotments.specs.Contracts.{Market, Enough-lent};
+ghost use Rattle.certificate.specs.Contracts.{rest-left};
 
 // What is left of an amount, and whether there was enough of it.
 pub struct Rest {
@@ -116,7 +117,7 @@ fn views_covered<'a>(
 
 // The takings of an allotment.
 pub fn takings<'a>(count: u64, prices: &'a [u32; 128], n: usize, allotment: &'a [u64]) -> u64
-    requires { ⌜ (count ≤ 64) × (n ≤ 256) × (n ≤ length (now allotment)) ⌝ }
+    requires { ⌜ (count ≤ 64) × (n ≤ max-handed-in) × (n ≤ length (now allotment)) ⌝ }
     ensures { λ r. ⌜ r ≡ takings count (at (now (prices .entry))) n (at (now (allotment .entry))) ⌝ }
 {
     let mut sum = 0;
@@ -136,7 +137,7 @@ pub fn takings<'a>(count: u64, prices: &'a [u32; 128], n: usize, allotment: &'a 
 // found by a quotient.
 fn less_campaigns(count: u64, wholes: [u32; 64], surplus: &[u64], amount: u64) -> Rest
     requires { ⌜ (count ≤ 64) × (count ≤ length (now surplus)) ⌝ }
-    ensures { λ r. ⌜ r ≡ rest-of (sum count (λ i. at (now (surplus .entry)) i * at wholes i)) amount ⌝ }
+    ensures { λ r. ⌜ r ≡ rest-left (sum count (λ i. at (now (surplus .entry)) i * at wholes i)) amount ⌝ }
 {
     let mut left = amount;
     let mut i = 0;
@@ -189,7 +190,8 @@ pub fn certified<'a>(
     surplus: &'a [u64],
     worth: &'a [u64],
 ) -> bool
-    requires { ⌜ Lent count (now views) (now allotment) (now surplus) (now worth) × (length (now views) ≤ 256) ⌝ }
+    requires { ⌜ Enough-lent count (now views) (now allotment) (now surplus) (now worth)
+        × (length (now views) ≤ max-handed-in) ⌝ }
     ensures { λ r. ⌜ r ≡ certified count (at (now (prices .entry))) (at wholes) (length (now (views .entry)))
         (at (now (views .entry))) (at (now (allotment .entry))) (at (now (surplus .entry)))
         (at (now (worth .entry))) ⌝ }

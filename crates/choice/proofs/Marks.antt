@@ -19,7 +19,7 @@ use Rattle.campaigns.specs.Choice.{Role, role-of}
 use Rattle.campaigns.specs.Choice.Role.{absent, spent, chosen, passed}
 use Rattle.campaigns.specs.Campaign.{aged, campaign-at}
 use Rattle.campaigns.specs.View.{names, pays, becomes}
-use Rattle.campaigns.specs.Contracts.{Room, played}
+use Rattle.campaigns.specs.Contracts.{Sized, played}
 use Rattle.campaigns.proofs.Laws.{played-passed}
 use Rattle.choice.specs.Candidates.{no-candidate, after-view}
 use Rattle.choice.specs.Contracts.{put, Counts}
@@ -135,7 +135,7 @@ pub put-counts : (g : ℕ → Campaign) (t n : List ℕ) (i : ℕ) (v : Campaign
     → v .price ≡ g i .price → v .budget ≡ g i .budget → Counts (λ j. cond (eqb j i) v (g j)) t (put n i v)
 put-counts g t n i v h m p b = record { room = kept; at = λ j l. go j l (eqb j i) refl }
   where
-    kept : Room t (put n i v)
+    kept : Sized t (put n i v)
     kept = record {
       terms-length = m .room .terms-length;
       counts-length = simp length-set (m .room .counts-length);

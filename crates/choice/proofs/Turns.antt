@@ -20,11 +20,11 @@ use Rattle.campaigns.specs.declared.View.{View}
 use Rattle.campaigns.specs.Campaign.{priced, campaign-at}
 use Rattle.campaigns.specs.Choice.{role-of}
 use Rattle.campaigns.specs.View.{pays}
-use Rattle.campaigns.specs.Contracts.{Room, Fits-arrays}
+use Rattle.campaigns.specs.Contracts.{Sized, Fits-arrays}
 use Rattle.choice.specs.declared.Candidate.{Candidate}
 use Rattle.choice.specs.Candidates.{no-candidate, compared}
 use Rattle.choice.specs.Walk.{Walked, passed-over, step, along, walked}
-use Rattle.choice.specs.Contracts.{put, Counts, Ready}
+use Rattle.choice.specs.Contracts.{put, Counts, In-bounds}
 use Rattle.choice.proofs.Marks.{becomes-grown, put-counts}
 use Rattle.choice.proofs.Steps.{Alike, alike-then, along-alike}
 
@@ -38,8 +38,8 @@ so-far b t n = record { best = b; campaigns = campaign-at t n }
 
 pub record Left (pl : Plan) (w : View) (f : ℕ → Campaign) (t n : List ℕ) (b : Candidate) (left : ℕ) : Type 0 where
   pub small : left < 2 ^ 64
-  pub room : Room t n
-  pub ready : Ready pl (only left) (campaign-at t n)
+  pub room : Sized t n
+  pub ready : In-bounds pl (only left) (campaign-at t n)
   pub same : Alike (along pl w (members left) (so-far b t n)) (walked pl w f)
 
 -- the member at hand
@@ -55,14 +55,14 @@ pub fewer : (left : ℕ) → left < 2 ^ 64 → (left ≡ 0 → ⊥)
 fewer left h e = ap length (members-next left (at-hand left h e .0))
 
 -- before the first turn
-pub begins : (pl : Plan) (w : View) (t n : List ℕ) → w .set < 2 ^ 64 → Room t n → Ready pl w (campaign-at t n)
+pub begins : (pl : Plan) (w : View) (t n : List ℕ) → w .set < 2 ^ 64 → Sized t n → In-bounds pl w (campaign-at t n)
     → Left pl w (campaign-at t n) t n no-candidate (w .set)
 begins pl w t n h r z =
     record { small = h; room = r; ready = z; same = record { best-alike = refl; alike-at = λ j _. refl } }
 
 -- the named ones stay ready where the step touches another
-ready-on : (pl : Plan) (left i : ℕ) (g h : ℕ → Campaign) → Ready pl (only left) g
-    → ((j : ℕ) → j < 64 → (j ≡ i → ⊥) → h j ≡ g j) → Ready pl (only (beyond left i)) h
+ready-on : (pl : Plan) (left i : ℕ) (g h : ℕ → Campaign) → In-bounds pl (only left) g
+    → ((j : ℕ) → j < 64 → (j ≡ i → ⊥) → h j ≡ g j) → In-bounds pl (only (beyond left i)) h
 ready-on pl left i g h z e = record {
   named-priced = λ j l m. ap priced (same j l m) ∙ z .named-priced j l (on j l m .0);
   named-young = λ j l m. omega (arith, ap (λ (c : Campaign). c .age) (same j l m), z .named-young j l (on j l m .0));

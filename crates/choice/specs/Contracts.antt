@@ -4,12 +4,14 @@ use mathlib.Core.Bool.{true}
 use mathlib.Core.List.{List}
 use Prim.Native.Nat.{ℕ, _+_, _≤_, _<_}
 use lib.ListN.{set}
+use Rattle.powers.specs.Limits.{max-depth}
 use Rattle.campaigns.specs.declared.Campaign.{Campaign}
 use Rattle.campaigns.specs.declared.Plan.{Plan}
 use Rattle.campaigns.specs.declared.View.{View}
+use Rattle.campaigns.specs.Limits.{max-views}
 use Rattle.campaigns.specs.Campaign.{priced, campaign-at}
 use Rattle.campaigns.specs.View.{names}
-use Rattle.campaigns.specs.Contracts.{Room}
+use Rattle.campaigns.specs.Contracts.{Sized}
 
 -- the counts of campaign c at i
 abbrev pub put : List ℕ → ℕ → Campaign → List ℕ
@@ -17,14 +19,14 @@ put n i c = set (set (set (set n i (c .plays)) (i + 64) (c .turns)) (i + 128) (c
 
 -- an array of counts that, beside the terms, holds campaigns g
 pub record Counts (g : ℕ → Campaign) (terms counts : List ℕ) : Type 0 where
-  pub room : Room terms counts
+  pub room : Sized terms counts
   pub at : (i : ℕ) → i < 64 → campaign-at terms counts i ≡ g i
 
 -- the named campaigns are priced and not past the depth, and their counts leave room for one more
-pub record Ready (pl : Plan) (w : View) (f : ℕ → Campaign) : Type 0 where
+pub record In-bounds (pl : Plan) (w : View) (f : ℕ → Campaign) : Type 0 where
   pub named-priced : (i : ℕ) → i < 64 → names w i ≡ true → priced (f i) ≡ true
   pub named-young : (i : ℕ) → i < 64 → names w i ≡ true → f i .age < pl .depth
-  pub shallow : pl .depth ≤ 32
-  pub named-few : (i : ℕ) → i < 64 → names w i ≡ true → f i .named < 4_097
-  pub turns-few : (i : ℕ) → i < 64 → names w i ≡ true → f i .turns < 4_097
-  pub plays-few : (i : ℕ) → i < 64 → names w i ≡ true → f i .plays < 4_097
+  pub shallow : pl .depth ≤ max-depth
+  pub named-few : (i : ℕ) → i < 64 → names w i ≡ true → f i .named ≤ max-views
+  pub turns-few : (i : ℕ) → i < 64 → names w i ≡ true → f i .turns ≤ max-views
+  pub plays-few : (i : ℕ) → i < 64 → names w i ≡ true → f i .plays ≤ max-views

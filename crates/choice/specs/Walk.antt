@@ -25,7 +25,7 @@ pub record Walked : Type 0 where
 abbrev pub passed-over : Plan → View → ℕ → Campaign → Campaign
 passed-over pl w i c = becomes pl w i (role-of true (pays pl w i c) false) c
 
--- one step, to campaign i: it is compared with the best so far, and marked as passed over
+-- one step, to campaign i: it is compared with the best so far, and counted as passed over
 abbrev pub step : Plan → View → Walked → ℕ → Walked
 step pl w x i = record {
   best = compared pl w (x .best) i (x .campaigns i);

@@ -1,5 +1,4 @@
-// The walk over the campaigns that a view names: the choice, and the marks, which are what the view makes of their
-// counts.
+// The walk over the campaigns that a view names: the choice, and what the view makes of their counts.
 use campaigns::Campaign;
 use campaigns::Plan;
 use campaigns::View;
@@ -9,10 +8,10 @@ ghost use mathlib.Core.Path.{_≡_};
 ghost use mathlib.Core.Bool.{true};
 ghost use Prim.Native.Nat.{_≤_, _<_};
 ghost use Rattle.campaigns.specs.Campaign.{priced, campaign-at};
-ghost use Rattle.campaigns.specs.Contracts.{Fits-arrays, Room, Weights};
+ghost use Rattle.campaigns.specs.Contracts.{Fits-arrays, Sized, Weights};
 ghost use Rattle.choice.specs.Candidates.{compared, candidate-of, after-view};
 ghost use Rattle.choice.specs.Walk.{walked};
-ghost use Rattle.choice.specs.Contracts.{put, Counts, Ready};
+ghost use Rattle.choice.specs.Contracts.{put, Counts, In-bounds};
 
 // The best candidate so far: a campaign, what it would pay, and its score. A score of 0 can be the best, so that nobody
 // is told apart by `found`.
@@ -59,7 +58,7 @@ fn store(i: usize, c: Campaign, counts: &mut [u16; 256])
 }
 
 // One walk over the named campaigns, from the least to the next: each is compared with the best so far, and each is
-// marked as one that is passed over, since who plays is known at the end alone. `left` is the set that is left to walk.
+// counted as passed over, since who plays is known at the end alone. `left` is the set that is left to walk.
 fn walk<'a>(
     view: View,
     plan: Plan,
@@ -68,8 +67,8 @@ fn walk<'a>(
     counts: &'a mut [u16; 256],
 ) -> Candidate
     requires { ⌜ Weights plan (now weights) ⌝ }
-    requires { ⌜ Room (now terms) (now counts) ⌝ }
-    requires { ⌜ Ready plan view (campaign-at (now terms) (now counts)) ⌝ }
+    requires { ⌜ Sized (now terms) (now counts) ⌝ }
+    requires { ⌜ In-bounds plan view (campaign-at (now terms) (now counts)) ⌝ }
     ensures { λ r. ⌜ r ≡ walked plan view (campaign-at (now (terms .entry)) (now (counts .entry))) .best ⌝ }
     ensures { λ _. ⌜ Counts (walked plan view (campaign-at (now (terms .entry)) (now (counts .entry))) .campaigns)
         (now (terms .entry)) (now (counts .exit)) ⌝ }
@@ -103,8 +102,8 @@ pub fn play<'a>(
     counts: &'a mut [u16; 256],
 ) -> Candidate
     requires { ⌜ Weights plan (now weights) ⌝ }
-    requires { ⌜ Room (now terms) (now counts) ⌝ }
-    requires { ⌜ Ready plan view (campaign-at (now terms) (now counts)) ⌝ }
+    requires { ⌜ Sized (now terms) (now counts) ⌝ }
+    requires { ⌜ In-bounds plan view (campaign-at (now terms) (now counts)) ⌝ }
     ensures { λ r. ⌜ r ≡ candidate-of plan view (campaign-at (now (terms .entry)) (now (counts .entry))) 64 ⌝ }
     ensures { λ r. ⌜ Counts (after-view plan view r (campaign-at (now (terms .entry)) (now (counts .entry))))
         (now (terms .entry)) (now (counts .exit)) ⌝ }

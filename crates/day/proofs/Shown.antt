@@ -15,7 +15,7 @@ use Rattle.campaigns.specs.Choice.{Choice, is, role-of}
 use Rattle.campaigns.specs.Choice.Choice.{nobody, plays}
 use Rattle.campaigns.specs.View.{names, pays, figure, becomes}
 use Rattle.choice.specs.Candidates.{as-candidate, candidate-of, after-view}
-use Rattle.choice.specs.Contracts.{Counts, Ready}
+use Rattle.choice.specs.Contracts.{Counts, In-bounds}
 use Rattle.audit.proofs.Totals.{Held}
 use Rattle.campaigns.proofs.Laws.{plan-sized}
 use Rattle.choice.proofs.Candidates.{choice-within}
@@ -61,7 +61,7 @@ module _ (s : Day) (w : View) (h : Sound s) (e : within (s .count) (w .set) ≡ 
   held : (i : ℕ) → i < 64 → names (found s w) i ≡ true → Held (s .plan) (s .accepted) (campaign s i)
   held i l m = held-at s h i (within-member (s .count) (found s w .set) i (found-within s w e) l m)
 
-  pub named-ready : Ready (s .plan) (found s w) (campaign s)
+  pub named-ready : In-bounds (s .plan) (found s w) (campaign s)
   named-ready = record {
     named-priced = λ i l m. held i l m .is-priced;
     named-young = λ i l m. held i l m .young;

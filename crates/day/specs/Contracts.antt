@@ -4,7 +4,7 @@ use mathlib.Core.Bool.{Bool, true, cond}
 use mathlib.Core.List.{List}
 use Prim.Native.Nat.{ℕ}
 use Rattle.campaigns.specs.declared.Head.{Head}
-use Rattle.campaigns.specs.Contracts.{Room, Weights}
+use Rattle.campaigns.specs.Contracts.{Sized, Weights}
 use Rattle.choice.specs.declared.Candidate.{Candidate}
 use Rattle.day.specs.declared.Answer.{Answer}
 use Rattle.day.specs.declared.Answer.the-variants.{Refused, Played, Nobody}
@@ -20,11 +20,11 @@ refusing h q = record { head = h; answer = Refused q }
 
 -- the arrays are full, and the state is sound
 pub record Kept (h : Head) (t n : List ℕ) : Type 0 where
-  pub room : Room t n
+  pub room : Sized t n
   pub is-sound : sound (state-of h t n) ≡ true
 
 -- The arrays t and n are full, b says whether the state is sound and, if so, w has the weights of its plan.
 pub record Ready (b : Bool) (h : Head) (w t n : List ℕ) : Type 0 where
-  pub room : Room t n
+  pub room : Sized t n
   pub sound-is : sound (state-of h t n) ≡ b
   pub weights-are : b ≡ true → Weights (h .plan) w

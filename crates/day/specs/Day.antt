@@ -10,6 +10,7 @@ use Rattle.campaigns.specs.declared.Phase.{Phase}
 use Rattle.campaigns.specs.declared.Phase.the-variants.{Closed}
 use Rattle.campaigns.specs.declared.Plan.{Plan}
 use Rattle.campaigns.specs.declared.Terms.{Terms}
+use Rattle.campaigns.specs.Limits.{max-campaigns}
 use Rattle.campaigns.specs.Campaign.{fresh, campaign-at}
 use Rattle.campaigns.specs.View.{budgets, takings, claims}
 use Rattle.audit.specs.declared.Audit.{Audit}
@@ -49,9 +50,9 @@ state-with h f = record {
   count = h .count;
   accepted = h .accepted;
   paused = h .paused;
-  terms = table 64 (λ i. f i .price) ++ table 64 (λ i. f i .budget);
-  counts = table 64 (λ i. f i .plays) ++
-      (table 64 (λ i. f i .turns) ++ (table 64 (λ i. f i .age) ++ table 64 (λ i. f i .named)));
+  terms = table max-campaigns (λ i. f i .price) ++ table max-campaigns (λ i. f i .budget);
+  counts = table max-campaigns (λ i. f i .plays) ++ (table max-campaigns (λ i. f i .turns) ++
+      (table max-campaigns (λ i. f i .age) ++ table max-campaigns (λ i. f i .named)));
 }
 
 -- the state s in another phase

@@ -21,7 +21,7 @@ ghost use mathlib.Core.Path.{_≡_};
 ghost use Prim.Native.Nat.{_≤_, _<_};
 ghost use Rattle.finite.specs.Finite.{sum};
 ghost use Rattle.campaigns.specs.Campaign.{campaign-at};
-ghost use Rattle.campaigns.specs.Contracts.{Room, Weights};
+ghost use Rattle.campaigns.specs.Contracts.{Sized, Weights, max-column};
 ghost use Rattle.day.specs.Day.{state-of};
 ghost use Rattle.day.specs.Calls.{call, marked};
 ghost use Rattle.day.specs.Calls.Call.{open-plan, add-campaign, start-day, ask-tally, close-day, mark-campaign};
@@ -78,7 +78,7 @@ pub fn open_sound<'a>(
 fn total_budgets<'a>(n: usize, terms: &'a [u32; 128], counts: &'a [u16; 256]) -> u64
     requires { ⌜ n ≤ 64 ⌝ }
     ensures { λ r. ⌜ (r ≡ sum n (λ i. campaign-at (now (terms .entry)) (now (counts .entry)) i .budget))
-        × (r ≤ 274877906944) ⌝ }
+        × (r ≤ max-column) ⌝ }
 {
     let mut all: u64 = 0;
     for i in 0..n {
@@ -270,14 +270,15 @@ pub fn execute_sound<'a>(
     }
 }
 
-// Whether the state is sound; where it is, the list gets the weights of its plan.
+// Whether the state is sound; where it is, the list gets the weights of its plan. What else of the list is changed is
+// free: the entries past the depth, and all of them where the state is not sound.
 pub fn prepare<'a>(
     head: Head,
     list: &'a mut [u64; 33],
     terms: &'a [u32; 128],
     counts: &'a [u16; 256],
 ) -> bool
-    requires { ⌜ Room (now terms) (now counts) ⌝ }
+    requires { ⌜ Sized (now terms) (now counts) ⌝ }
     ensures { λ r. ⌜ Ready r head (now (list .exit)) (now (terms .entry)) (now (counts .entry)) ⌝ }
 {
     if !audit::limits_hold(head) {

@@ -152,6 +152,7 @@ impl Day {
     {
         self.execute(Call::Close)
     }
+
     // The campaign is as one that no view names, until it is resumed.
     pub fn pause(self, campaign: u64) -> Outcome
         ensures { λ r. ⌜ r ≡ call self (mark-campaign true campaign) ⌝ }

@@ -1,6 +1,6 @@
 -- The choice is the one that rule 1 asks for, and the only one. By induction on the number of candidates: the best so
 -- far against the next is the best of one more.
-use mathlib.Core.Path.{_≡_, refl, ap, sym, _∙_, subst⁻¹}
+use mathlib.Core.Path.{_≡_, refl, ap, subst⁻¹}
 use mathlib.Core.Bool.{Bool, true, false, cond}
 use Prim.Native.Nat.{ℕ, zero, suc, _≤_, _<_}
 use native.Mathlib.Nat.{le-refl, not-suc-le-zero}
@@ -8,15 +8,13 @@ use native.Mathlib.Omega.{arith}
 use lib.Dec.{ltb, eqb}
 use borrow.Author.Tests.{ltb-true, ltb-false, lt-ltb, eqb-true, eqb-false}
 use Rattle.finite.proofs.Tests.{never, one-more}
-use Rattle.campaigns.specs.declared.View.{View}
 use Rattle.campaigns.specs.Choice.{Choice, against, best, ahead, choice}
 use Rattle.campaigns.specs.Choice.Choice.{nobody, plays}
 use Rattle.campaigns.specs.View.{able, figure}
-use Rattle.day.specs.declared.Day.{Day}
 use Rattle.day.specs.Day.{campaign}
-use Rattle.day.specs.Calls.{found, player}
-use Rattle.demands.specs.Choice.{Right}
-use Rattle.demands.specs.Demands.{Always-right}
+use Rattle.day.specs.Calls.{found}
+use Rattle.demands.specs.Choice.{Right, Choice-right, Choice-only}
+use Rattle.demands.specs.Demands.{Always-right, Only-right}
 
 -- a law on both sides of m and at m
 by-order : (P : ℕ → Type 0) (m i : ℕ) → (i < m → P i) → P m → (m < i → P i) → P i
@@ -117,11 +115,6 @@ module _ (n : ℕ) (able : ℕ → Bool) (figure : ℕ → ℕ) where
     lowest = λ i l t. ltb-true (figure i) (figure m) (r .lower i l t);
   }
 
-  -- the choice follows rule 1
-  pub choice-right : Right n able figure (choice n able figure)
-  unfolding choice
-  choice-right = right-of (best n able (ahead figure)) (best-leads able (ahead figure) greater n)
-
   pub right-unique : (a b : Choice) → Right n able figure a → Right n able figure b → a ≡ b
   right-unique nobody nobody p q = refl
   right-unique nobody (plays m) p q = absurd (never (able m) (p m (q .below)) (q .is-able))
@@ -132,25 +125,16 @@ module _ (n : ℕ) (able : ℕ → Bool) (figure : ℕ → ℕ) where
       (λ l e. absurd (omega (arith, q .lowest i l (p .is-able), p .top m (q .below) (q .is-able)))) (λ _. refl)
       (λ l e. absurd (omega (arith, p .lowest m l (q .is-able), q .top i (p .below) (p .is-able)))) refl)
 
-  -- and nothing else does; nobody plays wherever no candidate is able
-  pub choice-only : (ch : Choice) → Right n able figure ch → ch ≡ choice n able figure
-  choice-only ch r = right-unique ch (choice n able figure) r choice-right
+-- the choice follows rule 1
+pub choice-right : Choice-right
+unfolding choice
+choice-right n able figure =
+    right-of n able figure (best n able (ahead figure)) (best-leads able (ahead figure) (greater n able figure) n)
 
--- the choice sees only who is able, and the figures of those
-pub choice-eq : (n : ℕ) (a b : ℕ → Bool) (f g : ℕ → ℕ) → ((i : ℕ) → i < n → a i ≡ b i)
-    → ((i : ℕ) → i < n → a i ≡ true → f i ≡ g i) → choice n a f ≡ choice n b g
-choice-eq n a b f g h q = choice-only n b g (choice n a f) (go (choice n a f) (choice-right n a f))
-  where
-    go : (ch : Choice) → Right n a f ch → Right n b g ch
-    go nobody r = λ i l. sym (h i l) ∙ r i l
-    go (plays m) r = record {
-      below = r .below;
-      is-able = sym (h m (r .below)) ∙ r .is-able;
-      top = λ i l t. let u : a i ≡ true = h i l ∙ t in
-          omega (arith, r .top i l u, q i l u, q m (r .below) (r .is-able));
-      lowest = λ i l t. let u : a i ≡ true = h i (omega (arith, r .below)) ∙ t in
-          omega (arith, r .lowest i l u, q i (omega (arith, r .below)) u, q m (r .below) (r .is-able));
-    }
+-- and nothing else does; nobody plays wherever no candidate is able
+pub choice-only : Choice-only
+choice-only n able figure ch r =
+    right-unique n able figure ch (choice n able figure) r (choice-right n able figure)
 
 -- who plays a view: of the named campaigns that are not paused and can pay the one with the greatest score, the lowest
 -- such
@@ -159,8 +143,7 @@ player-right s w =
     let v = found s w in
     choice-right (s .count) (able (s .plan) v (campaign s)) (λ i. figure (s .plan) v i (campaign s i))
 
-pub player-only : (s : Day) (w : View) (ch : Choice) → let v = found s w in
-    Right (s .count) (able (s .plan) v (campaign s)) (λ i. figure (s .plan) v i (campaign s i)) ch → ch ≡ player s w
+pub player-only : Only-right
 player-only s w ch r =
     let v = found s w in
     choice-only (s .count) (able (s .plan) v (campaign s)) (λ i. figure (s .plan) v i (campaign s i)) ch r

@@ -107,16 +107,25 @@ module _ (k d : ℕ) (pos : 0 < d) where
   pub claim-fresh : (t : Terms) → claim k d (fresh t) ≡ 0
   claim-fresh t = omega (arith, claim-lifted (fresh t) (omega arith))
 
+-- what a view adds to a figure f of a campaign that only a play changes: g true of the player, and else nothing
 module _ (k : ℕ) (c : Campaign) where
-  spending-aged : (b : Bool) → spending (aged b c) ≡ spending c
-  spending-aged true = refl
-  spending-aged false = refl
+  pub by-play : (f : Campaign → ℕ) (g : Bool → ℕ) → f (after k spent c) ≡ f c → f (aged true c) ≡ f c
+      → f (aged false c) ≡ f c → f (after k chosen c) ≡ f c + g true → g false ≡ 0
+      → (n e q : Bool) → (q ≡ true → (n && e) ≡ true) → f (after k (role-of n e q) c) ≡ f c + g q
+  by-play f g still turned older played none = go
+    where
+      same : (b : Bool) → f (aged b c) ≡ f c
+      same true = turned
+      same false = older
+
+      go : (n e q : Bool) → (q ≡ true → (n && e) ≡ true) → f (after k (role-of n e q) c) ≡ f c + g q
+      go false e true h = absurd (never false refl (h refl))
+      go false e false h = omega (arith, none)
+      go true false true h = absurd (never false refl (h refl))
+      go true false false h = omega (arith, still, none)
+      go true true true h = played
+      go true true false h = omega (arith, same (eqb (c .age + 1) k), none)
 
   pub spending-after : (n e q : Bool) → (q ≡ true → (n && e) ≡ true)
       → spending (after k (role-of n e q) c) ≡ spending c + cond q (c .price) 0
-  spending-after false e true h = absurd (never false refl (h refl))
-  spending-after false e false h = omega arith
-  spending-after true false true h = absurd (never false refl (h refl))
-  spending-after true false false h = omega arith
-  spending-after true true true h = omega arith
-  spending-after true true false h = omega (arith, spending-aged (eqb (c .age + 1) k))
+  spending-after = by-play spending (λ q. cond q (c .price) 0) refl refl refl (omega arith) refl

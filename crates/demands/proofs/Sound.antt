@@ -34,7 +34,7 @@ use Rattle.audit.specs.Sound.{marks-hold, sound-entry, sound-tests, sound-recor
 use Rattle.day.specs.Day.{head-of, sound}
 use Rattle.campaigns.specs.Phase.{is-filling, phase-holds}
 use Rattle.questions.specs.Questions.{width-holds}
-use Rattle.day.specs.Calls.{number, Call, questions, result, with-campaign, found, player, shown, marked, call}
+use Rattle.day.specs.Calls.{Call, questions, result, with-campaign, found, player, shown, marked, call}
 use Rattle.day.specs.Calls.{head-joined, head-shown, head-marked}
 use Rattle.day.specs.Calls.Call.{open-plan, add-campaign, start-day, show-view, ask-tally, close-day, mark-campaign}
 use Rattle.day.proofs.Questions.{Yes, call-elim}
@@ -271,15 +271,15 @@ module _ (s : Day) (h : Sound s) where
       })
 
 -- an opening that is accepted gives a sound state
-opened-sound : (s : Day) (pl : Plan) → Yes (questions s (open-plan pl)) → sound (empty-plan Filling pl) ≡ true
+pub opened-sound : (s : Day) (pl : Plan) → Yes (questions s (open-plan pl)) → sound (empty-plan Filling pl) ≡ true
 unfolding sound-plan
 opened-sound s pl (e1, (e2, (e3, (e4, (e5, _))))) =
     sound-empty-plan Filling pl
     (joint-of (depth-fits pl) (width-fits pl ∷ power-fits pl ∷ []) (e3, (e4, (e5, tt)))) refl
 
--- every call keeps a sound state sound
-pub sound-kept : (s : Day) (c : Call) → sound s ≡ true → sound (call s c .day) ≡ true
-sound-kept s c e = call-elim (λ (o : Outcome). sound (o .day) ≡ true) s c (λ q. e) (go c)
+-- every accepted call keeps a sound state sound
+pub sound-result : (s : Day) (c : Call) → sound s ≡ true → Yes (questions s c) → sound (result s c .day) ≡ true
+sound-result s c e = go c
   where
     h : Sound s
     h = sound-facts s e
@@ -294,9 +294,6 @@ sound-kept s c e = call-elim (λ (o : Outcome). sound (o .day) ≡ true) s c (λ
         sound-phase s h (Closed (total-takings s)) refl (λ x. refl) (eq-eqb (total-takings s) (total-takings s) refl)
     go (mark-campaign b i) y = sound-marked s h b i y
 
--- an accepted opening gives a sound state whatever it was given
-pub opening-sound : (s : Day) (pl : Plan) → number (call s (open-plan pl) .answer) ≡ 0
-    → sound (call s (open-plan pl) .day) ≡ true
-opening-sound s pl =
-    call-elim (λ (o : Outcome). number (o .answer) ≡ 0 → sound (o .day) ≡ true) s (open-plan pl)
-    (λ q e. absurd (omega arith)) (λ y e. opened-sound s pl y)
+-- and so does every call
+pub sound-kept : (s : Day) (c : Call) → sound s ≡ true → sound (call s c .day) ≡ true
+sound-kept s c e = call-elim (λ (o : Outcome). sound (o .day) ≡ true) s c (λ q. e) (sound-result s c e)

@@ -4,6 +4,7 @@ use mathlib.Core.Bool.{true, false, cond}
 use mathlib.Core.List.{List, [], _∷_, map}
 use Prim.Native.Nat.{ℕ}
 use lib.Dec.{ltb}
+use lib.ListN.{getD}
 use Rattle.finite.specs.Finite.{table}
 use Rattle.campaigns.specs.declared.Phase.{Phase}
 use Rattle.campaigns.specs.declared.Phase.the-variants.{Filling, Running, Closed}
@@ -21,6 +22,9 @@ infix 70 _gives_
 abbrev pub _gives_ : Call → Answer → Exchange
 c gives a = record { made = c; answer = a }
 
+abbrev pub calls-made : List Exchange → List Call
+calls-made xs = map (λ x. x .made) xs
+
 abbrev pub plan : (depth width : ℕ) → Call
 plan k d = open-plan (record { depth = k; width = d })
 
@@ -36,6 +40,8 @@ pub data Case : Type 0 where
   resumed : Day → List Exchange → Case
   -- calls from the blank state, and the scores of the campaigns after them
   scored : List Call → List ℕ → Case
+  -- calls from the blank state, and the state at their end
+  ended : List Call → Day → Case
 
 abbrev pub scores : Day → List ℕ
 scores s = table (s .count) (λ i. score (s .plan .depth) (s .plan .width) (campaign s i))
@@ -56,10 +62,25 @@ state-marked p n a m = state-with
 abbrev pub state : Phase → (count accepted : ℕ) → Day
 state p n a = state-marked p n a 0
 
+-- document 01's listing, and the state at its end
+abbrev pub listing : List Exchange
+listing =
+    plan 2 2 gives Done ∷ campaign-of 5 10 gives Done ∷ campaign-of 3 6 gives Done ∷ start-day gives Done ∷
+    view 3 gives Played 0 5 ∷ view 3 gives Played 1 3 ∷ view 3 gives Played 0 5 ∷ view 1 gives Nobody ∷
+    view 2 gives Played 1 3 ∷ view 4 gives Refused 13 ∷
+    close-day gives Closing 16 48 64 ∷ ask-tally 0 gives Tallied 2 2 0 4 ∷ ask-tally 1 gives Tallied 2 2 0 4 ∷ []
+
+abbrev pub listing-end : Day
+listing-end = state-with
+    (record { phase = Closed 16; plan = record { depth = 2; width = 2 }; count = 2; accepted = 5; paused = 0 })
+    (λ i. getD (record { price = 5; budget = 10; plays = 2; turns = 2; age = 0; named = 4 } ∷
+    record { price = 3; budget = 6; plays = 2; turns = 2; age = 0; named = 4 } ∷ []) i (fresh no-terms))
+
 abbrev pub Holds : Case → Type 0
-Holds (answered xs) = transcript blank (map (λ x. x .made) xs) ≡ xs
-Holds (resumed s xs) = transcript s (map (λ x. x .made) xs) ≡ xs
+Holds (answered xs) = transcript blank (calls-made xs) ≡ xs
+Holds (resumed s xs) = transcript s (calls-made xs) ≡ xs
 Holds (scored cs ns) = scores (final blank cs) ≡ ns
+Holds (ended cs s) = final blank cs ≡ s
 
 abbrev pub All-hold : List Case → Type 0
 All-hold [] = Unit {0}
@@ -84,11 +105,7 @@ cases =
     -- ★ the second view of the listing: scores 5 and 6, campaign 1 plays
     scored (plan 2 2 ∷ campaign-of 5 10 ∷ campaign-of 3 6 ∷ start-day ∷ view 3 ∷ []) (5 ∷ 6 ∷ []) ∷
     -- the listing, whose fourth view ★ plays nobody; closing gives the tally of each campaign too
-    answered (
-    plan 2 2 gives Done ∷ campaign-of 5 10 gives Done ∷ campaign-of 3 6 gives Done ∷ start-day gives Done ∷
-    view 3 gives Played 0 5 ∷ view 3 gives Played 1 3 ∷ view 3 gives Played 0 5 ∷ view 1 gives Nobody ∷
-    view 2 gives Played 1 3 ∷ view 4 gives Refused 13 ∷
-    close-day gives Closing 16 48 64 ∷ ask-tally 0 gives Tallied 2 2 0 4 ∷ ask-tally 1 gives Tallied 2 2 0 4 ∷ []) ∷
+    answered listing ∷ ended (calls-made listing) listing-end ∷
     -- ★ two fresh campaigns at price 4 with equal budgets: campaign 0 plays
     answered (plan 2 2 gives Done ∷ campaign-of 4 8 gives Done ∷ campaign-of 4 8 gives Done ∷ start-day gives Done ∷
     view 3 gives Played 0 4 ∷ []) ∷
@@ -102,6 +119,8 @@ cases =
     campaign-of 1 1 gives Refused 6 ∷ start-day gives Refused 6 ∷ view 0 gives Refused 11 ∷
     close-day gives Refused 11 ∷ ask-tally 0 gives Refused 15 ∷
     plan 1 0 gives Refused 4 ∷ plan 1 17 gives Refused 4 ∷ plan 32 16 gives Refused 5 ∷ plan 33 17 gives Refused 3 ∷
+    -- request 5: a depth like the budget that gets 9 gets 3
+    plan 4_294_967_296 1 gives Refused 3 ∷
     plan 32 1 gives Done ∷ plan 0 0 gives Refused 2 ∷ []) ∷
     -- a price of 1,000,000 is taken and one more gives 8; a budget of 2,000,000,000 is taken and one more gives 9
     answered (

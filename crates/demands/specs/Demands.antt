@@ -49,13 +49,17 @@ pub record Answers (s : Day) (c : Call) : Type 0 where
 abbrev pub Always-answers : Type 0
 Always-answers = (s : Day) (c : Call) → Answers s c
 
--- the player of a view is rule 1's, among the named campaigns that are not paused and can pay
-abbrev pub Plays-right : Day → View → Type 0
-Plays-right s w = let v = found s w in
-    Right (s .count) (able (s .plan) v (campaign s)) (λ i. figure (s .plan) v i (campaign s i)) (player s w)
+-- rule 1 asks for this player of a view: among the named campaigns that are not paused and can pay
+abbrev pub Plays-right : Day → View → Choice → Type 0
+Plays-right s w ch = let v = found s w in
+    Right (s .count) (able (s .plan) v (campaign s)) (λ i. figure (s .plan) v i (campaign s i)) ch
 
+-- the player of every view is rule 1's, and nobody else would do
 abbrev pub Always-right : Type 0
-Always-right = (s : Day) (w : View) → Plays-right s w
+Always-right = (s : Day) (w : View) → Plays-right s w (player s w)
+
+abbrev pub Only-right : Type 0
+Only-right = (s : Day) (w : View) (ch : Choice) → Plays-right s w ch → ch ≡ player s w
 
 -- A view that finds nobody, since it names no campaign (document 02, request 2) or none but paused ones (request 3): it
 -- is answered nobody and counted, and all else stays.

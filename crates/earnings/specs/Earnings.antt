@@ -5,10 +5,12 @@ use Prim.Native.Nat.{ℕ, zero, suc}
 use Rattle.lines.specs.declared.Record.the-variants as lines
 use Rattle.lines.specs.Form.{bytes, text}
 use Rattle.lines.specs.Numeral.{numeral}
+use Rattle.campaigns.specs.Limits.{max-campaigns}
 use Rattle.day.specs.declared.Day.{Day}
 use Rattle.day.specs.Day.{total-takings}
 use Rattle.questions.specs.Questions.{first-failed}
-use Rattle.optimum.specs.Optimum.{max-handed-in, questions, most-of}
+use Rattle.allotments.specs.Limits.{max-handed-in}
+use Rattle.optimum.specs.Optimum.{questions, most-of}
 use Rattle.earnings.specs.declared.Earnings.{Earnings}
 use Rattle.earnings.specs.declared.Earnings.the-variants.{Refused, Figures}
 use Rattle.earnings.specs.Ratio.{ratio-of}
@@ -20,7 +22,7 @@ earnings-of (suc q) t g = Refused (suc q)
 
 -- the number of the first question of the search that fails, or 0, where enough is lent for 256 views and 64 campaigns
 unfoldable pub question-of : Day → (views : List ℕ) → ℕ
-question-of s views = first-failed (questions s views max-handed-in 64 max-handed-in)
+question-of s views = first-failed (questions s views max-handed-in max-campaigns max-handed-in)
 
 unfoldable pub earned : Day → (views : List ℕ) → Earnings
 earned s views = earnings-of (question-of s views) (total-takings s) (most-of s views)

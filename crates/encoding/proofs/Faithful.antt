@@ -17,7 +17,7 @@ use Rattle.lines.specs.declared.Record.{Record}
 use Rattle.lines.specs.declared.Record.the-variants as form
 use Rattle.lines.specs.Form.{numbers}
 use Rattle.lines.specs.Reading.{forms, made}
-use Rattle.encoding.specs.Encoding.{padded, tag-of, held-by, is-head, phase-of, head-of, head-words, answer-after}
+use Rattle.encoding.specs.Encoding.{padded, tag-of, held-by, is-head, phase-of, head-in, head-words, answer-after}
 use Rattle.encoding.specs.Encoding.{is-form, record-of, record-words}
 use Rattle.encoding.specs.Faithful.{Faithful, seven}
 
@@ -33,7 +33,7 @@ phase-back Filling = refl
 phase-back Running = refl
 phase-back (Closed t) = refl
 
-head-back : (h : Head) → head-of (head-words h) ≡ h
+head-back : (h : Head) → head-in (head-words h) ≡ h
 head-back h =
     ap (λ (p : Phase). record {
       phase = p;
@@ -64,7 +64,7 @@ twice (suc (suc (suc a))) b e =
     absurd (omega (arith, leb-true n 2 (both (leb n 2) (eqb n 2 || eqb b 0) e)))
 
 words-back : (a b c d e f g : ℕ) → is-head (seven a b c d e f g) ≡ true →
-    head-words (head-of (seven a b c d e f g)) ≡ seven a b c d e f g
+    head-words (head-in (seven a b c d e f g)) ≡ seven a b c d e f g
 words-back a b c d e f g h = let t = twice a b h in rw (t .tag, t .held)
 
 -- answers: the answer that a status and five words give, where 0 was there before
@@ -89,38 +89,22 @@ answer-back (Closing t c f) = refl
 answer-once : (a b : Answer) → number a ≡ number b → ((w : List ℕ) → answer-after a w ≡ answer-after b w) → a ≡ b
 answer-once a b n e = sym (answer-back a) ∙ ap₂ answer-of n (e (0 ∷ [])) ∙ answer-back b
 
--- records
-form-is : (r : Record) → is-form (record-words r) ≡ true
-unfolding record-words
-form-is (form.Plan _ _) = refl
-form-is (form.Campaign _ _) = refl
-form-is form.Start = refl
-form-is (form.View _) = refl
-form-is form.Close = refl
-form-is form.Done = refl
-form-is (form.Play _ _) = refl
-form-is form.Nobody = refl
-form-is (form.Refused _) = refl
-form-is (form.Closed _ _ _) = refl
-form-is (form.Tally _ _ _ _ _) = refl
-form-is (form.Pause _) = refl
-form-is (form.Resume _) = refl
-
-record-back : (r : Record) → record-of (record-words r) ≡ r
+-- records: their words are those of a form, and give them back
+record-kept : (r : Record) → (is-form (record-words r) ≡ true) × (record-of (record-words r) ≡ r)
 unfolding record-words padded numbers record-of forms made
-record-back (form.Plan _ _) = refl
-record-back (form.Campaign _ _) = refl
-record-back form.Start = refl
-record-back (form.View _) = refl
-record-back form.Close = refl
-record-back form.Done = refl
-record-back (form.Play _ _) = refl
-record-back form.Nobody = refl
-record-back (form.Refused _) = refl
-record-back (form.Closed _ _ _) = refl
-record-back (form.Tally _ _ _ _ _) = refl
-record-back (form.Pause _) = refl
-record-back (form.Resume _) = refl
+record-kept (form.Plan _ _) = (refl, refl)
+record-kept (form.Campaign _ _) = (refl, refl)
+record-kept form.Start = (refl, refl)
+record-kept (form.View _) = (refl, refl)
+record-kept form.Close = (refl, refl)
+record-kept form.Done = (refl, refl)
+record-kept (form.Play _ _) = (refl, refl)
+record-kept form.Nobody = (refl, refl)
+record-kept (form.Refused _) = (refl, refl)
+record-kept (form.Closed _ _ _) = (refl, refl)
+record-kept (form.Tally _ _ _ _ _) = (refl, refl)
+record-kept (form.Pause _) = (refl, refl)
+record-kept (form.Resume _) = (refl, refl)
 
 pub faithful : Faithful
 faithful = record {
@@ -128,6 +112,6 @@ faithful = record {
   head-back = head-back;
   words-back = words-back;
   answer-once = answer-once;
-  form-is = form-is;
-  record-back = record-back;
+  form-is = λ r. record-kept r .0;
+  record-back = λ r. record-kept r .1;
 }

@@ -45,8 +45,8 @@ is-head w = leb (getD w 0 0) 2 && (eqb (getD w 0 0) 2 || eqb (getD w 1 0) 0)
 unfoldable pub phase-of : (tag held : ℕ) → Phase
 phase-of tag t = cond (eqb tag 0) Filling (cond (eqb tag 1) Running (Closed t))
 
-abbrev pub head-of : List ℕ → Head
-head-of w = record {
+abbrev pub head-in : List ℕ → Head
+head-in w = record {
   phase = phase-of (getD w 0 0) (getD w 1 0);
   plan = record { depth = getD w 2 0; width = getD w 3 0 };
   count = getD w 4 0;
@@ -99,7 +99,7 @@ is-stream w = leb (getD w 0 0) line-buffer
 abbrev pub stream-words : (kept taken written : ℕ) → List ℕ
 stream-words k t w = k ∷ t ∷ w ∷ []
 
--- the statuses of misuse
+-- the statuses that no question gives: of misuse, and 104, which is the check's "no"
 abbrev pub no-head : ℕ
 no-head = 100
 

@@ -7,7 +7,7 @@ use Rattle.campaigns.specs.declared.Head.{Head}
 use Rattle.day.specs.declared.Answer.{Answer}
 use Rattle.day.specs.Calls.{number}
 use Rattle.lines.specs.declared.Record.{Record}
-use Rattle.encoding.specs.Encoding.{is-head, head-of, head-words, answer-after, is-form, record-of, record-words}
+use Rattle.encoding.specs.Encoding.{is-head, head-in, head-words, answer-after, is-form, record-of, record-words}
 
 -- seven words
 abbrev pub seven : (a b c d e f g : ℕ) → List ℕ
@@ -16,9 +16,9 @@ seven a b c d e f g = a ∷ b ∷ c ∷ d ∷ e ∷ f ∷ g ∷ []
 pub record Faithful : Type 0 where
   -- a head's words are a head's and give it back; seven words that are a head are the words of the head that they give
   pub head-is : (h : Head) → is-head (head-words h) ≡ true
-  pub head-back : (h : Head) → head-of (head-words h) ≡ h
+  pub head-back : (h : Head) → head-in (head-words h) ≡ h
   pub words-back : (a b c d e f g : ℕ) → is-head (seven a b c d e f g) ≡ true
-      → head-words (head-of (seven a b c d e f g)) ≡ seven a b c d e f g
+      → head-words (head-in (seven a b c d e f g)) ≡ seven a b c d e f g
   -- two answers with one status and the same effect on the words are one answer
   pub answer-once : (a b : Answer) → number a ≡ number b → ((w : List ℕ) → answer-after a w ≡ answer-after b w) → a ≡ b
   -- a record's words are a record's and give it back

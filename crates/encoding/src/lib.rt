@@ -8,11 +8,12 @@ use lines::slots::LINE_BUFFER;
 ghost use mathlib.Core.Path.{_≡_};
 ghost use mathlib.Core.Bool.{true};
 ghost use Rattle.day.specs.Calls.{number};
-ghost use Rattle.encoding.specs.Encoding.{is-head, phase-of, tag-of, held-by, head-of, head-words};
+ghost use Rattle.encoding.specs.Encoding.{is-head, phase-of, tag-of, held-by, head-in, head-words};
 ghost use Rattle.encoding.specs.Encoding.{answer-after, is-form, record-of, record-words, is-stream};
 
-// A status: 0 where a call is accepted, the number of the question that failed where it is refused, and from 100 on
-// where what was lent is no state, no record, no stream or too little. No refusal has a number above 99.
+// A status: 0 where a call is accepted, the number of the question that failed where it is refused, from 100 on where
+// what was lent is no state, no record, no stream or too little, and 104 where the check rejects. No refusal has a
+// number above 99.
 pub const STATUS_ACCEPTED: u64 = 0;
 
 // The seven words are no head of a state.
@@ -120,7 +121,7 @@ fn phase_of(tag: u64, held: u64) -> Phase
 
 // The head that seven words give.
 pub fn head_of(words: &[u64; 7]) -> Head
-    ensures { λ r. ⌜ r ≡ head-of (now (words .entry)) ⌝ }
+    ensures { λ r. ⌜ r ≡ head-in (now (words .entry)) ⌝ }
 {
     let phase = phase_of(words[HEAD_PHASE], words[HEAD_TAKINGS]);
     let plan = Plan {

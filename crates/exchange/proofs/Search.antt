@@ -17,7 +17,8 @@ use Rattle.sets.specs.Set.{member, including}
 use Rattle.sets.proofs.Algebra.{including-same, including-keeps, including-other}
 use Rattle.allotments.specs.Allotment.{at, times}
 use Rattle.allotments.proofs.Cases.{same-or-not, true-or-not, one-same, one-other}
-use Rattle.exchange.specs.Contracts.{holds, free, Taken, first-free, Ready, Changed, Gained, Held, Failed}
+use Rattle.exchange.specs.Chain.Chain.{given, moved}
+use Rattle.exchange.specs.Contracts.{holds, free, None-free, first-free, Seekable, Changed, Gained, Held, Failed}
 use Rattle.exchange.proofs.Entries.{at-same, at-other, times-set, holds-some}
 
 -- how many of the 64 campaigns are not in the set
@@ -56,11 +57,11 @@ fewer a b c h l p q =
 
 -- what is given stays given
 pub taken-kept : (views to to' : List ℕ) (first : ℕ) → first ≤ length views → ((j : ℕ) → j < length views → Changed
-    views to to' j) → Taken to first → Taken to' first
+    views to to' j) → None-free to first → None-free to' first
 taken-kept views to to' first l h t j k e = ⊎-elim (λ q. t j k (sym q ∙ e)) (λ q. omega (arith, q .0))
     (h j (omega arith))
 
-pub taken-more : (to : List ℕ) (first : ℕ) → Taken to first → (at to first ≡ 64 → ⊥) → Taken to (first + 1)
+pub taken-more : (to : List ℕ) (first : ℕ) → None-free to first → (at to first ≡ 64 → ⊥) → None-free to (first + 1)
 taken-more to first t ne j l e = ⊎-elim (λ q. ne (ap (at to) (sym q) ∙ e)) (λ k. t j (omega arith) e)
     (same-or-not j first)
 
@@ -71,7 +72,7 @@ module _ (views to : List ℕ) (c : ℕ) where
   first-least = least-is (length views) (free views to c)
 
   -- the loop that looks for it
-  pub passed-taken : (first : ℕ) → Taken to first → (i : ℕ) → i < first → free views to c i ≡ false
+  pub passed-taken : (first : ℕ) → None-free to first → (i : ℕ) → i < first → free views to c i ≡ false
   passed-taken first t i l = ap (λ (b : Bool). b && member (at views i) c) (ne-eqb (at to i) 64 (t i l))
 
   pub passed-one : (j : ℕ) → ((i : ℕ) → i < j → free views to c i ≡ false) → free views to c j ≡ false → (i : ℕ) → i <
@@ -160,7 +161,7 @@ module _ (views to : List ℕ) (c start : ℕ) where
         passed = λ i k. more c i (g .passed i k);
       }
 
-module _ (views to : List ℕ) (c visited first bare : ℕ) (r : Ready views to c visited first bare) where
+module _ (views to : List ℕ) (c visited first bare : ℕ) (r : Seekable views to c visited first bare) where
   module _ (seen j : ℕ) (g : Going views to c (including visited c) seen j) where
     self-seen : member seen c ≡ true
     self-seen = g .grown c (r .campaign) (including-same visited c (r .campaign))
@@ -189,6 +190,7 @@ module _ (views to : List ℕ) (c visited first bare : ℕ) (r : Ready views to 
         true → at to j ≡ h → member seen h ≡ false → h < 64
         → Gained views to to' h seen → Gained views to (set to' j c) c visited
     gained-chain to' h l len nm e z hl gn = record {
+      chain = moved j l nm away e (gn .chain) held;
       more = omega (
         arith,
         moves c,
@@ -254,6 +256,7 @@ module _ (views to : List ℕ) (c visited first bare : ℕ) (r : Ready views to 
   pub gained-free : (j : ℕ) → j < length views → member (at views j) c ≡ true → at to j ≡ 64 → Gained views to
       (set to j c) c visited
   gained-free j l nm e = record {
+    chain = given j l nm e;
     more = omega (
       arith,
       moves c,

@@ -1,6 +1,6 @@
 -- What holds in the loop of a search, and what each way out of a turn gives.
 use mathlib.Core.Path.{_≡_, refl, ap, sym, _∙_, subst, subst⁻¹}
-use mathlib.Core.Bool.{true, false}
+use mathlib.Core.Bool.{Bool, true, false}
 use mathlib.Core.List.{List}
 use Prim.Native.Nat.{ℕ, _+_, _≤_, _<_}
 use native.Mathlib.Omega.{arith}
@@ -8,21 +8,31 @@ use lib.ListN.{length, set}
 use Rattle.finite.proofs.Tests.{never}
 use Rattle.sets.specs.Set.{member, including}
 use Rattle.allotments.specs.Allotment.{at}
-use Rattle.exchange.specs.Contracts.{first-free, Bare, Ready, Gained, Held, Failed, Sought-is}
+use Rattle.exchange.specs.Contracts.{first-free, Bare, Seekable, Gained, Held, Failed, Sought-is}
 use Rattle.exchange.proofs.Search.{left-out, found-free, none-free, Going, going-start, going-on, going-failed}
 use Rattle.exchange.proofs.Search.{less, failed-at-end, gained-chain, gained-free, no-free}
 use Rattle.exchange.proofs.Bare.{bare-set, bare-more}
 
+-- the same outcome, told otherwise
+pub told-as : {views to to' : List ℕ} {c visited seen seen' known known' : ℕ} {found found' : Bool}
+    → (found' ≡ found) × (seen' ≡ seen) × (known' ≡ known) → Sought-is views to to' c visited found seen known
+    → Sought-is views to to' c visited found' seen' known'
+told-as {views} {to} {to'} {c} {visited} e s = record {
+  gained = λ t. s .gained (sym (e .0) ∙ t);
+  failed = λ t. subst⁻¹ (λ (x : ℕ). Failed views to to' c visited x) (e .1) (s .failed (sym (e .0) ∙ t));
+  none-free = subst⁻¹ (λ (x : ℕ). Bare views to' x) (e .2) (s .none-free);
+}
+
 -- nothing has moved, no view that names c is free, and the views below j have been passed
 pub record Seeking (views to₀ : List ℕ) (c visited first bare : ℕ) (to : List ℕ) (seen known j : ℕ) : Type 0 where
   pub still : to ≡ to₀
-  pub ready : Ready views to₀ c visited first bare
+  pub ready : Seekable views to₀ c visited first bare
   pub none-free : Bare views to₀ known
   pub busy : (i : ℕ) → i < length views → member (at views i) c ≡ true → at to₀ i < 64
   pub going : Going views to₀ c (including visited c) seen j
 
 -- a free view is taken
-pub sought-free : (views to : List ℕ) (c visited first bare j : ℕ) → Ready views to c visited first bare
+pub sought-free : (views to : List ℕ) (c visited first bare j : ℕ) → Seekable views to c visited first bare
     → j ≡ first-free views to c → j < length views → Sought-is views to (set to j c) c visited true visited bare
 sought-free views to c visited first bare j r e l =
     let f = found-free views to c (subst (λ (k : ℕ). k < length views) e l) in
@@ -33,7 +43,7 @@ sought-free views to c visited first bare j r e l =
       none-free = bare-set views to j c bare (r .campaign) (omega (arith, r .room)) (r .none-free);
     }
 
-pub seeking-start : (views to : List ℕ) (c visited first bare j seen known : ℕ) → Ready views to c visited first bare
+pub seeking-start : (views to : List ℕ) (c visited first bare j seen known : ℕ) → Seekable views to c visited first bare
     → j ≡ first-free views to c → length views ≤ j → seen ≡ including visited c → known ≡ including bare c
     → Seeking views to c visited first bare to seen known 0
 seeking-start views to c visited first bare j seen known r e l q u = record {
@@ -63,7 +73,7 @@ module _ (views to₀ : List ℕ) (c visited first bare : ℕ) (to : List ℕ) (
   pub falls-here : left-out seen < left-out visited
   falls-here = less views to₀ c visited first bare (s .ready) seen j (s .going)
 
-  pub ready-holder : j < length views → member (at views j) c ≡ true → member seen (at to j) ≡ false → Ready views to
+  pub ready-holder : j < length views → member (at views j) c ≡ true → member seen (at to j) ≡ false → Seekable views to
       (at to j) seen first known
   ready-holder l n m = record {
     room = room-now;

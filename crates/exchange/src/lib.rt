@@ -2,7 +2,7 @@
 ghost use mathlib.Core.Path.{_≡_};
 ghost use Prim.Native.Nat.{_<_, _≤_};
 ghost use lib.ListN.{length};
-ghost use Rattle.exchange.specs.Contracts.{Taken, first-free, Bare, Ready, Sought-is};
+ghost use Rattle.exchange.specs.Contracts.{None-free, first-free, Bare, Seekable, Sought-is};
 
 // What a search ends with: whether a view was found, the set of campaigns visited, and that of campaigns that are bare:
 // no free view names them. A view that was once given is never free again, so that a bare campaign stays so.
@@ -16,8 +16,8 @@ pub struct Sought {
 // one ended.
 pub fn first_open(n: usize, allotment: &[u64], from: usize) -> usize
     requires { ⌜ (n ≤ length (now allotment)) × (from ≤ n) ⌝ }
-    requires { ⌜ Taken (now allotment) from ⌝ }
-    ensures { λ r. ⌜ (r ≤ n) × Taken (now (allotment .entry)) r ⌝ }
+    requires { ⌜ None-free (now allotment) from ⌝ }
+    ensures { λ r. ⌜ (r ≤ n) × None-free (now (allotment .entry)) r ⌝ }
 {
     let mut j = from;
     while j < n {
@@ -33,7 +33,7 @@ pub fn first_open(n: usize, allotment: &[u64], from: usize) -> usize
 // `first` are given. The holder is tested first: that branch is foreseen, the other is not.
 fn free_view(views: &[u64], allotment: &[u64], campaign: u64, first: usize, bare: u64) -> usize
     requires { ⌜ (length (now views) ≤ length (now allotment)) × (campaign < 64) × (first ≤ length (now views)) ⌝ }
-    requires { ⌜ Taken (now allotment) first × Bare (now views) (now allotment) bare ⌝ }
+    requires { ⌜ None-free (now allotment) first × Bare (now views) (now allotment) bare ⌝ }
     ensures { λ r. ⌜ r ≡ first-free (now (views .entry)) (now (allotment .entry)) campaign ⌝ }
 {
     if sets::has(bare, campaign) {
@@ -51,6 +51,17 @@ fn free_view(views: &[u64], allotment: &[u64], campaign: u64, first: usize, bare
     j
 }
 
+// What a search ends with.
+fn ended(found: bool, visited: u64, bare: u64) -> Sought
+    ensures { λ r. ⌜ (r .found ≡ found) × (r .visited ≡ visited) × (r .bare ≡ bare) ⌝ }
+{
+    Sought {
+        found: found,
+        visited: visited,
+        bare: bare,
+    }
+}
+
 // One more view for the campaign: a free one, or one whose holder gets another in its place. At each call the campaigns
 // not visited are fewer.
 pub fn seek(
@@ -61,18 +72,14 @@ pub fn seek(
     first: usize,
     bare: u64,
 ) -> Sought
-    requires { ⌜ Ready (now views) (now allotment) campaign visited first bare ⌝ }
+    requires { ⌜ Seekable (now views) (now allotment) campaign visited first bare ⌝ }
     ensures { λ r. ⌜ Sought-is (now (views .entry)) (now (allotment .entry)) (now (allotment .exit)) campaign visited
         (r .found) (r .visited) (r .bare) ⌝ }
 {
     let free = free_view(views, allotment, campaign, first, bare);
     if free < views.len() {
         allotment[free] = campaign;
-        return Sought {
-            found: true,
-            visited: visited,
-            bare: bare,
-        };
+        return ended(true, visited, bare);
     }
     let mut seen = sets::including(visited, campaign);
     let mut known = sets::including(bare, campaign);
@@ -85,11 +92,7 @@ pub fn seek(
                 let r = seek(views, allotment, holder, seen, first, known);
                 if r.found {
                     allotment[j] = campaign;
-                    return Sought {
-                        found: true,
-                        visited: r.visited,
-                        bare: r.bare,
-                    };
+                    return ended(true, r.visited, r.bare);
                 }
                 seen = r.visited;
                 known = r.bare;
@@ -97,9 +100,5 @@ pub fn seek(
         }
         j += 1;
     }
-    Sought {
-        found: false,
-        visited: seen,
-        bare: known,
-    }
+    ended(false, seen, known)
 }

@@ -1,9 +1,13 @@
+pub mod Days
 pub mod Trace
 pub mod Reach
 pub mod Own
+pub mod Due
 pub mod Noon
 pub mod Floor
 pub mod Moments
 pub mod Tight
+pub mod Listing
+pub mod TwoViews
 pub mod Short
 pub mod Paused

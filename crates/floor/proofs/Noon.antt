@@ -1,5 +1,6 @@
 -- The floor at noon: the turns of each campaign reach what is due to it, a claim is at least the share of its turns,
--- and the total claim is at most full; so full is at least the share of what is due, at every moment that calls reach.
+-- and the total claim is at most full; so full is at least the share of what is due, at every moment that calls reach,
+-- and the claim at least the share of what an allotment takes.
 use mathlib.Core.Path.{_≡_, refl, ap, ap₂, sym, _∙_, subst, subst⁻¹}
 use mathlib.Core.List.{List, [], _∷_, _++_}
 use mathlib.Core.Logic.{_⊎_, inl, inr}
@@ -11,11 +12,9 @@ use Rattle.finite.specs.Finite.{sum}
 use Rattle.finite.proofs.Sums.{sum-le, sum-eq, sum-mul}
 use Rattle.powers.specs.Power.{share}
 use Rattle.campaigns.specs.declared.Plan.{Plan}
-use Rattle.campaigns.specs.Campaign.{whole}
-use Rattle.campaigns.specs.View.{full}
 use Rattle.campaigns.proofs.Laws.{Sized, plan-sized}
 use Rattle.day.specs.declared.Day.{Day}
-use Rattle.day.specs.Day.{campaign, blank, total-takings, total-claim}
+use Rattle.day.specs.Day.{campaign, blank, total-claim}
 use Rattle.day.specs.Calls.{Call}
 use Rattle.day.specs.Calls.Call.{open-plan}
 use Rattle.day.proofs.State.{Sound, sound-facts, held-at}
@@ -23,12 +22,13 @@ use Rattle.noon.specs.Noon.{due, total-due, floor-figure}
 use Rattle.noon.proofs.Figures.{noon-sound}
 use Rattle.demands.specs.Transcript.{transcript, final}
 use Rattle.demands.proofs.Laws.{claim-of, claim-turns}
-use Rattle.floor.specs.History.{Starts, History, day-takings, history}
+use Rattle.floor.specs.History.{Starts, History, history}
 use Rattle.floor.specs.History.Starts.{from-blank, from-opening}
-use Rattle.floor.specs.Floor.{trace, price-of, whole-of}
+use Rattle.floor.specs.Floor.{trace, price-of, unstruck, Allotted, takings-of}
 use Rattle.floor.specs.Noon.{due-of, day-due, Noon-floor, At-every-moment}
 use Rattle.floor.proofs.Trace.{turns-reach}
-use Rattle.floor.proofs.Reach.{Reached, reached}
+use Rattle.floor.proofs.Reach.{Reached, reached, whole-is}
+use Rattle.floor.proofs.Due.{due-enough}
 
 module _ (s : Day) (h : History) (r : Reached s h) where
   p : Sound s
@@ -40,10 +40,6 @@ module _ (s : Day) (h : History) (r : Reached s h) where
   -- d^k − (d−1)^k
   part : ℕ
   part = share (s .plan .depth) (s .plan .width)
-
-  whole-is : (i : ℕ) → i < s .count → whole (campaign s i) ≡ whole-of h i
-  unfolding whole
-  whole-is i l = cc (r .tracks .follows i l .price-is, r .tracks .follows i l .budget-is)
 
   turns-enough : (i : ℕ) → i < s .count → due (s .plan .depth) (campaign s i) ≤ campaign s i .turns
   turns-enough i l =
@@ -73,7 +69,7 @@ module _ (s : Day) (h : History) (r : Reached s h) where
   due-same i l =
       let f = r .tracks .follows i l in
       ap₂ _*_ (f .price-is)
-      (ap₂ min (whole-is i l) (ap₂ _/_ (f .named-is) (ap (λ (pl : Plan). pl .depth) (r .tracks .plan-is))))
+      (ap₂ min (whole-is s h r i l) (ap₂ _/_ (f .named-is) (ap (λ (pl : Plan). pl .depth) (r .tracks .plan-is))))
 
   due-is : total-due s ≡ day-due h
   unfolding total-due
@@ -82,15 +78,25 @@ module _ (s : Day) (h : History) (r : Reached s h) where
       (λ i. price-of h i * due-of h i) due-same
       ∙ ap (λ (n : ℕ). sum n (λ i. price-of h i * due-of h i)) (sym (r .tracks .many))
 
+  claim-bounds : (to : ℕ → ℕ) → Allotted h to → part * takings-of h (unstruck h) to ≤ total-claim s
+  unfolding part
+  claim-bounds to al =
+      let deep : 0 < h .plan .depth = subst (λ (pl : Plan). 0 < pl .depth) (r .tracks .plan-is) (sized .deep) in
+      let enough : takings-of h (unstruck h) to ≤ total-due s =
+      subst⁻¹ (λ (x : ℕ). takings-of h (unstruck h) to ≤ x) due-is (due-enough h deep to al) in
+      le-trans (mul-le-mul-left part enough) claim-above
+
   pub noon-of : Noon-floor h s
+  unfolding part
   noon-of = record {
     floor-now = le-trans claim-above (p .covered);
     claim-above = claim-above;
     claim-below = p .covered;
+    claim-bounds = claim-bounds;
     plan-is = r .tracks .plan-is;
     count-is = sym (r .tracks .many);
     price-is = λ i l. r .tracks .follows i l .price-is;
-    whole-is = whole-is;
+    whole-is = whole-is s h r;
     named-is = λ i l. r .tracks .follows i l .named-is;
     takings-is = r .tracks .paid-is;
     paused-is = r .tracks .paused-is;
@@ -98,14 +104,6 @@ module _ (s : Day) (h : History) (r : Reached s h) where
     turns-enough = turns-enough;
     answered = noon-sound s (r .is-sound);
   }
-
-  -- so said of the day alone
-  pub floor-day : share (h .plan .depth) (h .plan .width) * day-due h ≤ full (h .plan) (day-takings h)
-  floor-day =
-      subst (λ (pl : Plan). share (pl .depth) (pl .width) * day-due h ≤ full pl (day-takings h)) (r .tracks .plan-is)
-      (subst (λ (t : ℕ). share (s .plan .depth) (s .plan .width) * day-due h ≤ full (s .plan) t) (r .tracks .paid-is)
-      (subst (λ (x : ℕ). share (s .plan .depth) (s .plan .width) * x ≤ full (s .plan) (total-takings s)) due-is
-      (noon-of .floor-now)))
 
 -- at the end of every list
 pub noon-at-end : (s : Day) (cs : List Call) → Starts s cs → Noon-floor (history (transcript s cs)) (final s cs)

@@ -17,7 +17,7 @@ use borrow.Author.Tests.{eqb-true, eqb-false, eq-eqb, ne-eqb, ltb-true}
 use Rattle.finite.specs.Finite.{sum, one-if, count}
 use Rattle.finite.proofs.Tests.{never, both-left, one-more}
 use Rattle.finite.proofs.Sums.{sum-eq, sum-zero, count-suc}
-use Rattle.sets.specs.Set.{member, without}
+use Rattle.sets.specs.Set.{member}
 use Rattle.allotments.specs.Allotment.{times}
 use Rattle.allotments.proofs.Takings.{by-campaign}
 use Rattle.campaigns.specs.declared.Campaign.{Campaign}
@@ -29,29 +29,27 @@ use Rattle.campaigns.specs.declared.Terms.{Terms}
 use Rattle.campaigns.specs.declared.View.{View}
 use Rattle.campaigns.specs.Choice.{Choice, is, role-of}
 use Rattle.campaigns.specs.Choice.Choice.{nobody, plays}
-use Rattle.campaigns.specs.Campaign.{whole, spending, aged, after}
+use Rattle.campaigns.specs.Campaign.{spending, after}
 use Rattle.campaigns.specs.View.{names, pays, figure}
 use Rattle.day.specs.declared.Answer.{Answer}
-use Rattle.day.specs.declared.Answer.the-variants.{Refused, Done, Nobody}
+use Rattle.day.specs.declared.Answer.the-variants.{Done, Nobody}
 use Rattle.day.specs.declared.Day.{Day}
-use Rattle.day.specs.declared.Outcome.{Outcome}
 use Rattle.day.specs.Day.{campaign, state-with, empty-plan, blank-plan, blank, total-takings}
-use Rattle.day.specs.Calls.{number, Call, questions, with-campaign, player, offers, shown, view-answer, result, call}
+use Rattle.day.specs.Calls.{Call, questions, with-campaign, player, offers, shown, view-answer, result}
 use Rattle.day.specs.Calls.{found, head-joined, head-shown}
 use Rattle.day.specs.Calls.Call.{open-plan, add-campaign, start-day, show-view, ask-tally, close-day, mark-campaign}
-use Rattle.day.proofs.Questions.{Yes, call-elim}
+use Rattle.day.proofs.Questions.{Yes}
 use Rattle.day.proofs.State.{Sound, sound-facts, held-at, campaign-of-state}
 use Rattle.demands.specs.Choice.{Right}
 use Rattle.demands.specs.Transcript.{transcript, final}
 use Rattle.demands.proofs.Choice.{player-right}
 use Rattle.demands.proofs.States.{with-campaign-old, with-campaign-new}
-use Rattle.demands.proofs.Refusals.{result-number}
-use Rattle.floor.specs.History.{accepted, Starts, History, day-takings, opening, with-call, entered}
-use Rattle.floor.specs.History.{continued, history}
-use Rattle.floor.specs.History.Starts.{from-blank, from-opening}
-use Rattle.floor.specs.Floor.{price-of, whole-of, no-view, names-at, Allotted, takings-of}
+use Rattle.demands.proofs.OnePrice.{by-play}
+use Rattle.floor.specs.History.{Starts, History, day-takings, opening, with-call}
+use Rattle.floor.specs.History.{history}
+use Rattle.floor.specs.Floor.{price-of, no-view, names-at, Allotted, takings-of}
 use Rattle.floor.specs.Own.{player-in, own-allotment, Own-allotted}
-use Rattle.floor.proofs.Reach.{with-view, refused-not, Reached, reached, reach-call}
+use Rattle.floor.proofs.Reach.{with-view, view-found, Reached, reached, of-every-reached, whole-is}
 
 -- nobody, or a campaign of the set v
 abbrev One-of : (v x : ℕ) → Type 0
@@ -62,10 +60,6 @@ record Answered (s : Day) (h : History) : Type 0 where
   beside : length (h .answers) ≡ length (h .views)
   given : (j : ℕ) → j < length (h .views) → One-of (names-at h j) (own-allotment h j)
   counted : (i : ℕ) → i < s .count → times (length (h .views)) (own-allotment h) i ≡ campaign s i .plays
-
--- what the day becomes by an outcome
-abbrev Answers : History → Call → Outcome → Type 0
-Answers h c x = Answered (x .day) (entered h (record { made = c; answer = x .answer }))
 
 answered-opening : (p : Phase) (pl : Plan) → Answered (empty-plan p pl) (opening pl)
 answered-opening p pl = record {
@@ -99,18 +93,9 @@ module _ (xs : List Answer) (a : Answer) where
 
 -- a view adds one play to the player alone
 module _ (k : ℕ) (c : Campaign) where
-  plays-aged : (b : Bool) → aged b c .plays ≡ c .plays
-  plays-aged true = refl
-  plays-aged false = refl
-
   plays-after : (m e q : Bool) → (q ≡ true → (m && e) ≡ true)
       → after k (role-of m e q) c .plays ≡ c .plays + one-if q
-  plays-after false e true h = absurd (never false refl (h refl))
-  plays-after false e false h = omega arith
-  plays-after true false true h = absurd (never false refl (h refl))
-  plays-after true false false h = omega arith
-  plays-after true true true h = omega arith
-  plays-after true true false h = omega (arith, plays-aged (eqb (c .age + 1) k))
+  plays-after = by-play k c (λ x. x .plays) one-if refl refl refl refl refl
 
 -- the answer to a view names the one that plays
 answer-is : (offer : ℕ → ℕ) (ch : Choice) (i : ℕ) → i < 64 → eqb (player-in (view-answer offer ch)) i ≡ is ch i
@@ -232,13 +217,9 @@ module _ (s : Day) (h : History) (r : Reached s h) (o : Answered s h) where
               ∙ sym (plays-held (head-shown s) (shown s w) i (lt-of-lt-of-le l (p .few)));
         }
 
-    -- what the marks of the state leave is what those of the day leave
     answered-view : Answered (result s (show-view w) .day) (with-call h (show-view w) a)
     unfolding v more
-    answered-view =
-        subst
-        (λ (m : ℕ). Answered (result s (show-view w) .day) (with-view h (record { set = without (w .set) m }) a))
-        (r .tracks .paused-is) answered-more
+    answered-view = subst (Answered (result s (show-view w) .day)) (view-found s h (r .tracks) w a) answered-more
 
   answered-result : (c : Call) → Yes (questions s c) → Answered (result s c .day) (with-call h c (result s c .answer))
   unfolding a
@@ -250,43 +231,11 @@ module _ (s : Day) (h : History) (r : Reached s h) (o : Answered s h) where
   answered-result close-day y = record { beside = o .beside; given = o .given; counted = o .counted }
   answered-result (mark-campaign b i) y = record { beside = o .beside; given = o .given; counted = o .counted }
 
-  -- refused calls are no part of the day
-  answered-call : (c : Call) → Answers h c (call s c)
-  answered-call c =
-      call-elim (Answers h c) s c (λ q. rw (refused-not q) o)
-      (λ y. rw (eq-eqb (number (result s c .answer)) 0 (result-number s c)) (answered-result c y))
-
-answered-calls : (cs : List Call) (s : Day) (h : History) → Reached s h → Answered s h
-    → Answered (final s cs) (continued h (transcript s cs))
-unfolding final transcript continued
-answered-calls [] s h r o = o
-answered-calls (c ∷ cs) s h r o =
-    answered-calls cs (call s c .day) (entered h (record { made = c; answer = call s c .answer }))
-    (reach-call s h r c) (answered-call s h r o c)
-
--- an accepted opening, from any state
-answered-first : (s : Day) (pl : Plan) → accepted (call s (open-plan pl) .answer) ≡ true
-    → Answers (opening blank-plan) (open-plan pl) (call s (open-plan pl))
-answered-first s pl =
-    call-elim (λ (x : Outcome). accepted (x .answer) ≡ true → Answers (opening blank-plan) (open-plan pl) x) s
-    (open-plan pl) (λ q z. absurd (never (accepted (Refused (suc q))) (refused-not q) z))
-    (λ y z. answered-opening Filling pl)
-
 -- what holds at the end of every list
 answered : (s : Day) (cs : List Call) → Starts s cs → Answered (final s cs) (history (transcript s cs))
-unfolding final transcript continued
-answered _ _ (from-blank cs) =
-    answered-calls cs blank (opening blank-plan) (reached blank [] (from-blank [])) answered-blank
-answered _ _ (from-opening s pl cs e) =
-    answered-calls cs (call s (open-plan pl) .day)
-    (entered (opening blank-plan) (record { made = open-plan pl; answer = call s (open-plan pl) .answer }))
-    (reached s (open-plan pl ∷ []) (from-opening s pl [] e)) (answered-first s pl e)
+answered = of-every-reached Answered answered-blank (λ s pl y. answered-opening Filling pl) answered-result
 
 module _ (s : Day) (h : History) (r : Reached s h) (o : Answered s h) where
-  whole-is : (i : ℕ) → i < s .count → whole (campaign s i) ≡ whole-of h i
-  unfolding whole
-  whole-is i l = cc (r .tracks .follows i l .price-is, r .tracks .follows i l .budget-is)
-
   own-allotted-of : Allotted h (own-allotment h)
   own-allotted-of = record {
     given = o .given;
@@ -296,7 +245,7 @@ module _ (s : Day) (h : History) (r : Reached s h) (o : Answered s h) where
           arith,
           o .counted i k,
           held-at s (sound-facts s (r .is-sound)) i k .within-whole,
-          whole-is i k,
+          whole-is s h r i k,
         );
   }
 

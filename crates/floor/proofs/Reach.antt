@@ -3,12 +3,12 @@
 use mathlib.Core.Path.{_≡_, refl, ap, _∙_, subst}
 use mathlib.Core.Bool.{Bool, true, false}
 use mathlib.Core.List.{List, [], _∷_, _++_}
-use Prim.Native.Nat.{ℕ, suc, _+_, _≤_, _<_}
+use Prim.Native.Nat.{ℕ, _+_, _≤_, _<_}
 use native.Mathlib.Nat.{lt-of-lt-of-le, not-suc-le-zero}
 use native.Mathlib.Omega.{arith}
 use lib.ListN.{getD, length, length-append, List·getD-append}
 use lib.Seq.{getD-append-seam}
-use borrow.Author.Tests.{eqb-true, eq-eqb, ne-eqb, ltb-true}
+use borrow.Author.Tests.{ltb-true}
 use Rattle.finite.specs.Finite.{one-if, total}
 use Rattle.finite.proofs.Tests.{never, one-more}
 use Rattle.finite.proofs.Sums.{sum-zero}
@@ -16,35 +16,33 @@ use Rattle.finite.proofs.Tables.{total-snoc}
 use Rattle.sets.specs.Set.{within, without}
 use Rattle.sets.proofs.Bounds.{within-without}
 use Rattle.campaigns.specs.declared.Phase.{Phase}
-use Rattle.campaigns.specs.declared.Phase.the-variants.{Filling, Closed}
+use Rattle.campaigns.specs.declared.Phase.the-variants.{Filling, Running, Closed}
 use Rattle.campaigns.specs.declared.Plan.{Plan}
 use Rattle.campaigns.specs.declared.Terms.{Terms}
 use Rattle.campaigns.specs.declared.View.{View}
 use Rattle.campaigns.specs.Choice.{Choice, is, paid}
 use Rattle.campaigns.specs.Choice.Choice.{nobody, plays}
-use Rattle.campaigns.specs.Campaign.{spending}
+use Rattle.campaigns.specs.Campaign.{whole, spending}
 use Rattle.campaigns.specs.View.{names}
 use Rattle.day.specs.declared.Answer.{Answer}
-use Rattle.day.specs.declared.Answer.the-variants.{Refused, Done}
+use Rattle.day.specs.declared.Answer.the-variants.{Done}
 use Rattle.day.specs.declared.Day.{Day}
-use Rattle.day.specs.declared.Outcome.{Outcome}
-use Rattle.day.specs.Day.{campaign, no-terms, empty-plan, blank-plan, blank, total-takings}
+use Rattle.day.specs.Day.{campaign, in-phase, no-terms, empty-plan, blank-plan, blank, total-takings}
 use Rattle.campaigns.specs.Phase.{is-filling}
 use Rattle.day.specs.Day.{sound}
-use Rattle.day.specs.Calls.{number, Call, questions, with-campaign, player, offers, shown, view-answer, result, call}
+use Rattle.day.specs.Calls.{Call, questions, with-campaign, player, offers, shown, view-answer, result}
 use Rattle.day.specs.Calls.{found, marked, head-joined, head-shown}
 use Rattle.day.specs.Calls.Call.{open-plan, add-campaign, start-day, show-view, ask-tally, close-day, mark-campaign}
-use Rattle.day.proofs.Questions.{Yes, call-elim}
+use Rattle.day.proofs.Questions.{Yes}
 use Rattle.day.proofs.State.{Sound, sound-facts, held-at, campaign-of-state}
 use Rattle.demands.specs.Transcript.{transcript, final}
 use Rattle.demands.proofs.Step.{takings-step}
 use Rattle.demands.proofs.States.{sum-state-with, with-campaign-old, with-campaign-new, takings-with-campaign}
-use Rattle.demands.proofs.Sound.{blank-sound, sound-kept, opening-sound}
-use Rattle.demands.proofs.Refusals.{result-number}
-use Rattle.floor.specs.History.{accepted, Starts, History, day-takings, opening, paid-in, with-call, entered}
-use Rattle.floor.specs.History.{continued, history}
-use Rattle.floor.specs.History.Starts.{from-blank, from-opening}
-use Rattle.floor.specs.Floor.{trace, no-view, names-at}
+use Rattle.demands.proofs.Sound.{blank-sound, opened-sound, sound-result}
+use Rattle.floor.specs.History.{Starts, History, day-takings, opening, paid-in, with-call}
+use Rattle.floor.specs.History.{history}
+use Rattle.floor.specs.Floor.{trace, whole-of, no-view, names-at}
+use Rattle.floor.proofs.Days.{of-every-day}
 use Rattle.floor.proofs.Trace.{Follows, follows-fresh, follows-view}
 
 -- the state s holds the day h
@@ -88,12 +86,10 @@ with-view h v a = record {
   answers = h .answers ++ (a ∷ []);
 }
 
--- what the day becomes by an outcome
-abbrev Keeps : History → Call → Outcome → Type 0
-Keeps h c o = Tracks (o .day) (entered h (record { made = c; answer = o .answer }))
-
-pub refused-not : (q : ℕ) → accepted (Refused (suc q)) ≡ false
-refused-not q = ne-eqb (suc q) 0 (λ z. omega arith)
+-- what the marks of the state leave of a view is what those of the day leave
+pub view-found : (s : Day) (h : History) → Tracks s h → (w : View) (a : Answer)
+    → with-view h (found s w) a ≡ with-call h (show-view w) a
+view-found s h k w a = ap (λ (m : ℕ). with-view h (record { set = without (w .set) m }) a) (k .paused-is)
 
 view-answer-paid : (x : ℕ → ℕ) (ch : Choice) → paid-in (view-answer x ch) ≡ paid x ch
 view-answer-paid x nobody = refl
@@ -180,14 +176,23 @@ module _ (s : Day) (h : History) (e : sound s ≡ true) (k : Tracks s h) where
       paused-is = k .paused-is;
     }
 
-    -- what the marks of the state leave is what those of the day leave
     tracks-view : (a : Answer) → paid-in a ≡ paid (offers s w) (player s w)
         → Tracks (result s (show-view w) .day) (with-call h (show-view w) a)
     unfolding v
-    tracks-view a q =
-        subst
-        (λ (m : ℕ). Tracks (result s (show-view w) .day) (with-view h (record { set = without (w .set) m }) a))
-        (k .paused-is) (tracks-found a q)
+    tracks-view a q = subst (Tracks (result s (show-view w) .day)) (view-found s h k w a) (tracks-found a q)
+
+  -- a phase that is not Filling
+  tracks-phase : (ph : Phase) → is-filling ph ≡ false → Tracks (in-phase s ph) h
+  unfolding total-takings
+  tracks-phase ph f = record {
+    plan-is = k .plan-is;
+    many = k .many;
+    follows = k .follows;
+    paid-is = k .paid-is;
+    unviewed = λ z. absurd (never (is-filling ph) f z);
+    inside = k .inside;
+    paused-is = k .paused-is;
+  }
 
   tracks-marked : (b : Bool) (i : ℕ) (a : Answer)
       → Tracks (result s (mark-campaign b i) .day) (with-call h (mark-campaign b i) a)
@@ -202,76 +207,52 @@ module _ (s : Day) (h : History) (e : sound s ≡ true) (k : Tracks s h) where
     paused-is = ap (marked b i) (k .paused-is);
   }
 
-  keeps-result : (c : Call) → Yes (questions s c) → Tracks (result s c .day) (with-call h c (result s c .answer))
-  unfolding more total-takings
-  keeps-result (open-plan pl) y = tracks-opening Filling pl
-  keeps-result (add-campaign t) y = tracks-add t y
-  keeps-result start-day y =
-      record {
-        plan-is = k .plan-is;
-        many = k .many;
-        follows = k .follows;
-        paid-is = k .paid-is;
-        unviewed = λ z. absurd (never false refl z);
-        inside = k .inside;
-        paused-is = k .paused-is;
-      }
-  keeps-result (show-view w) y =
+  tracks-result : (c : Call) → Yes (questions s c) → Tracks (result s c .day) (with-call h c (result s c .answer))
+  unfolding more
+  tracks-result (open-plan pl) y = tracks-opening Filling pl
+  tracks-result (add-campaign t) y = tracks-add t y
+  tracks-result start-day y = tracks-phase Running refl
+  tracks-result (show-view w) y =
       tracks-view w y (view-answer (offers s w) (player s w)) (view-answer-paid (offers s w) (player s w))
-  keeps-result (ask-tally i) y = k
-  keeps-result (mark-campaign b i) y = tracks-marked b i Done
-  keeps-result close-day y =
-      record {
-        plan-is = k .plan-is;
-        many = k .many;
-        follows = k .follows;
-        paid-is = k .paid-is;
-        unviewed = λ z. absurd (never false refl z);
-        inside = k .inside;
-        paused-is = k .paused-is;
-      }
-
-  keeps : (c : Call) → Keeps h c (call s c)
-  keeps c =
-      call-elim (Keeps h c) s c (λ q. rw (refused-not q) k)
-      (λ y. rw (eq-eqb (number (result s c .answer)) 0 (result-number s c)) (keeps-result c y))
+  tracks-result (ask-tally i) y = k
+  tracks-result (mark-campaign b i) y = tracks-marked b i Done
+  tracks-result close-day y = tracks-phase (Closed (total-takings s)) refl
 
 pub record Reached (s : Day) (h : History) : Type 0 where
   pub is-sound : sound s ≡ true
   pub tracks : Tracks s h
 
--- a call more
-pub reach-call : (s : Day) (h : History) → Reached s h → (c : Call)
-    → Reached (call s c .day) (entered h (record { made = c; answer = call s c .answer }))
-reach-call s h r c = record {
-  is-sound = sound-kept s c (r .is-sound);
-  tracks = keeps s h (r .is-sound) (r .tracks) c;
-}
+blank-reached : Reached blank (opening blank-plan)
+blank-reached = record { is-sound = blank-sound; tracks = tracks-blank }
 
-reach : (cs : List Call) (s : Day) (h : History) → Reached s h → Reached (final s cs) (continued h (transcript s cs))
-unfolding final transcript continued
-reach [] s h r = r
-reach (c ∷ cs) s h r =
-    reach cs (call s c .day) (entered h (record { made = c; answer = call s c .answer })) (reach-call s h r c)
+opening-reached : (s : Day) (pl : Plan) → Yes (questions s (open-plan pl))
+    → Reached (empty-plan Filling pl) (opening pl)
+opening-reached s pl y = record { is-sound = opened-sound s pl y; tracks = tracks-opening Filling pl }
 
--- an accepted opening, from any state
-reach-opening : (s : Day) (pl : Plan) → accepted (call s (open-plan pl) .answer) ≡ true
-    → Reached (call s (open-plan pl) .day)
-    (entered (opening blank-plan) (record { made = open-plan pl; answer = call s (open-plan pl) .answer }))
-reach-opening s pl e = record {
-  is-sound = opening-sound s pl (eqb-true (number (call s (open-plan pl) .answer)) 0 e);
-  tracks =
-      call-elim (λ (o : Outcome). accepted (o .answer) ≡ true → Keeps (opening blank-plan) (open-plan pl) o) s
-      (open-plan pl) (λ q z. absurd (never (accepted (Refused (suc q))) (refused-not q) z))
-      (λ y z. tracks-opening Filling pl) e;
+result-reached : (s : Day) (h : History) → Reached s h → (c : Call) → Yes (questions s c)
+    → Reached (result s c .day) (with-call h c (result s c .answer))
+result-reached s h r c y = record {
+  is-sound = sound-result s c (r .is-sound) y;
+  tracks = tracks-result s h (r .is-sound) (r .tracks) c y;
 }
 
 -- what holds at the end of every list
 pub reached : (s : Day) (cs : List Call) → Starts s cs → Reached (final s cs) (history (transcript s cs))
-unfolding final transcript continued
-reached _ _ (from-blank cs) =
-    reach cs blank (opening blank-plan) (record { is-sound = blank-sound; tracks = tracks-blank })
-reached _ _ (from-opening s pl cs e) =
-    reach cs (call s (open-plan pl) .day)
-    (entered (opening blank-plan) (record { made = open-plan pl; answer = call s (open-plan pl) .answer }))
-    (reach-opening s pl e)
+reached = of-every-day Reached blank-reached opening-reached result-reached
+
+-- and what else does: the same induction, with this at hand
+pub of-every-reached : (P : Day → History → Type 0) → P blank (opening blank-plan)
+    → ((s : Day) (pl : Plan) → Yes (questions s (open-plan pl)) → P (empty-plan Filling pl) (opening pl))
+    → ((s : Day) (h : History) → Reached s h → P s h → (c : Call) → Yes (questions s c)
+    → P (result s c .day) (with-call h c (result s c .answer)))
+    → (s : Day) (cs : List Call) → Starts s cs → P (final s cs) (history (transcript s cs))
+of-every-reached P at-blank opened kept s cs st =
+    of-every-day (λ s h. Reached s h × P s h) (blank-reached, at-blank)
+    (λ s pl y. (opening-reached s pl y, opened s pl y))
+    (λ s h r c y. (result-reached s h (r .0) c y, kept s h (r .0) (r .1) c y)) s cs st .1
+
+module _ (s : Day) (h : History) (r : Reached s h) where
+  -- the plays that a campaign's budget buys are the day's
+  pub whole-is : (i : ℕ) → i < s .count → whole (campaign s i) ≡ whole-of h i
+  unfolding whole
+  whole-is i l = cc (r .tracks .follows i l .price-is, r .tracks .follows i l .budget-is)

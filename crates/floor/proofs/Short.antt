@@ -1,70 +1,26 @@
--- The proviso of demand 3 is needed: the day of the calls is read off, and both sides are computed of it.
+-- The proviso of demand 3 is needed: of its day campaign 0 was named often enough, and campaign 1 falls short.
 use mathlib.Core.Path.{_≡_, refl, subst⁻¹}
-use mathlib.Core.Bool.{true, false}
-use mathlib.Core.List.{[], _∷_}
-use Prim.Native.Nat.{_≤_}
-use native.Mathlib.Omega.{arith}
-use borrow.Author.Tests.{leb-true}
-use Rattle.finite.specs.Finite.{sum, count, every, table, total}
-use Rattle.sets.specs.Set.{member, size, within, collect, without, including}
-use Rattle.powers.specs.Power.{weight, share}
-use Rattle.allotments.specs.Allotment.{times, takings}
-use Rattle.campaigns.specs.Choice.{best, choice}
-use Rattle.campaigns.specs.Campaign.{whole, claim, sound-plan, priced, counted, uncounted, empty, sound-campaign}
-use Rattle.audit.specs.Sound.{sound-record}
-use Rattle.day.specs.Day.{blank, total-takings, total-claim, total-budgets}
-use Rattle.day.specs.Day.{sound}
-use Rattle.day.specs.declared.Answer.the-variants.{Played, Nobody}
-use Rattle.questions.specs.Questions.{first-failed, width-holds}
-use Rattle.day.specs.Calls.{marked, call}
-use Rattle.demands.specs.Transcript.{transcript}
-use Rattle.floor.specs.History.{History, continued}
+use mathlib.Core.Bool.{false}
+use Rattle.finite.specs.Finite.{total}
+use Rattle.sets.specs.Set.{member}
+use Rattle.campaigns.specs.Campaign.{whole}
+use Rattle.floor.specs.History.{History}
 use Rattle.floor.specs.History.Starts.{from-blank}
-use Rattle.floor.specs.Floor.{price-of, unstruck, falls-short, Allotted, takings-of, Covered}
-use Rattle.floor.specs.Short.{short-calls, short-day, short-to, Proviso-needed}
-use Rattle.floor.proofs.Tight.{allotted-of}
+use Rattle.floor.specs.Floor.{falls-short}
+use Rattle.floor.specs.Short.{short-calls, Proviso-needed}
+use Rattle.floor.proofs.TwoViews.{day, days-are, Struck, struck}
 
--- the day, read off its calls
-day : History
-day =
-    record {
-      plan = record { depth = 2; width = 2 };
-      terms = record { price = 2; budget = 3 } ∷ record { price = 2; budget = 3 } ∷ [];
-      paused = 0;
-      views = record { set = 3 } ∷ record { set = 1 } ∷ [];
-      answers = Played 0 2 ∷ Nobody ∷ [];
-    }
-
-day-is : short-day ≡ day
-unfolding day transcript continued call first-failed sound sound-record blank sum count every table total within size
-    member width-holds weight share whole claim total-takings total-claim total-budgets sound-plan priced counted
-    uncounted empty sound-campaign best choice collect without including marked
-day-is = refl
-
-record Computed (h : History) : Type 0 where
-  allotted : Allotted h short-to
-  enough : falls-short h 0 ≡ false
-  short : falls-short h 1 ≡ true
-  not-covered : Covered h (takings-of h (price-of h) short-to) → ⊥
-  covered : Covered h (takings-of h (unstruck h) short-to)
-
-computed : Computed day
-unfolding day sum count every total member share whole times takings
-computed = record {
-  allotted = allotted-of day short-to refl refl;
-  enough = refl;
-  short = refl;
-  not-covered = λ (h : 12 ≤ 8). omega arith;
-  covered = leb-true 6 8 refl;
-}
+enough : falls-short (day 0) 0 ≡ false
+unfolding day total member whole
+enough = refl
 
 pub proviso-needed : Proviso-needed
 proviso-needed =
-    let c = subst⁻¹ Computed day-is computed in
+    let c = subst⁻¹ Struck (days-are .0) (struck 0) in
     record {
       starts = from-blank short-calls;
       allotted = c .allotted;
-      enough = c .enough;
+      enough = subst⁻¹ (λ (h : History). falls-short h 0 ≡ false) (days-are .0) enough;
       short = c .short;
       not-covered = c .not-covered;
       covered = c .covered;

@@ -1,6 +1,6 @@
 -- The floor is met exactly: the day of each row is read off, and the tests that make it one are computed.
-use mathlib.Core.Path.{_≡_, refl, subst⁻¹}
-use mathlib.Core.Bool.{Bool, true, cond, not}
+use mathlib.Core.Path.{_≡_, refl, ap, subst⁻¹}
+use mathlib.Core.Bool.{Bool, true, not}
 use mathlib.Core.List.{List, [], _∷_, map}
 use Prim.Native.Nat.{ℕ, _*_}
 use lib.Dec.{leb, ltb, eqb}
@@ -10,7 +10,7 @@ use Rattle.finite.specs.Finite.{sum, count, every, all, table, total}
 use Rattle.finite.proofs.Tests.{all-parts, every-at}
 use Rattle.sets.specs.Set.{member, size, within, collect, without, including}
 use Rattle.powers.specs.Power.{weight, share}
-use Rattle.allotments.specs.Allotment.{times, takings, entry-fits}
+use Rattle.allotments.specs.Allotment.{times, nobody, takings, entry-fits}
 use Rattle.allotments.proofs.Takings.{entry-given}
 use Rattle.campaigns.specs.Choice.{best, choice}
 use Rattle.campaigns.specs.Campaign.{whole, claim, sound-plan, priced, counted, uncounted, empty, sound-campaign}
@@ -18,14 +18,13 @@ use Rattle.campaigns.specs.View.{full}
 use Rattle.audit.specs.Sound.{sound-record}
 use Rattle.day.specs.Day.{blank, total-takings, total-claim, total-budgets}
 use Rattle.day.specs.Day.{sound}
-use Rattle.day.specs.declared.Answer.the-variants.{Played, Nobody}
 use Rattle.questions.specs.Questions.{first-failed, width-holds}
 use Rattle.day.specs.Calls.{marked, call}
 use Rattle.demands.specs.Transcript.{transcript}
 use Rattle.floor.specs.History.{History, day-takings, continued, history}
 use Rattle.floor.specs.History.Starts.{from-blank}
 use Rattle.floor.specs.Floor.{price-of, whole-of, falls-short, names-at, Allotted, takings-of}
-use Rattle.floor.specs.Tight.{Met, Exact, exact-days, calls-of, Tight, Exact-days-tight}
+use Rattle.floor.specs.Tight.{Met, Exact, exact-days, exact-calls, answers-of, Tight, Exact-days-tight}
 
 -- the tests that a computed day passes
 abbrev met-tests : History → (ℕ → ℕ) → List Bool
@@ -69,22 +68,24 @@ day-of x = record {
   terms = table (x .campaigns) (λ i. record { price = 1; budget = 1 });
   paused = 0;
   views = map (λ v. record { set = v }) (x .views);
-  answers = map (λ m. cond (eqb m 64) Nobody (Played m 1)) (x .players);
+  answers = answers-of x;
 }
 
 abbrev Computed : List Exact → Type 0
 Computed [] = Unit {0}
 Computed (x ∷ xs) =
-    ((history (transcript blank (calls-of x)) ≡ day-of x)
-    × (all (met-tests (day-of x) (λ j. getD (x .to) j 64)) ≡ true)) × Computed xs
+    ((history (transcript blank (exact-calls x)) ≡ day-of x)
+    × (all (met-tests (day-of x) (λ j. getD (x .to) j nobody)) ≡ true)) × Computed xs
 
 tight-of : (xs : List Exact) → Computed xs → Tight xs
+unfolding day-of
 tight-of [] c = tt
 tight-of (x ∷ xs) c = (
   (
-    from-blank (calls-of x),
-    subst⁻¹ (λ (h : History). Met h (λ j. getD (x .to) j 64)) (c .0 .0)
-        (met-of (day-of x) (λ j. getD (x .to) j 64) (c .0 .1)),
+    from-blank (exact-calls x),
+    ap (λ (h : History). h .answers) (c .0 .0),
+    subst⁻¹ (λ (h : History). Met h (λ j. getD (x .to) j nobody)) (c .0 .0)
+        (met-of (day-of x) (λ j. getD (x .to) j nobody) (c .0 .1)),
   ),
   tight-of xs (c .1),
 )

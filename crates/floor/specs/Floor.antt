@@ -19,6 +19,10 @@ use Rattle.day.specs.Calls.{Call}
 use Rattle.demands.specs.Transcript.{transcript, final}
 use Rattle.floor.specs.History.{History, day-takings, Starts, history}
 
+-- the price and budget that were handed to the accepted adding of campaign i
+abbrev pub terms-of : History → ℕ → Terms
+terms-of h i = getD (h .terms) i no-terms
+
 -- what was handed in about campaign i: its price and budget, and how many of the day's views named it, also after it is
 -- spent
 pub record Trace : Type 0 where
@@ -26,26 +30,31 @@ pub record Trace : Type 0 where
   pub named : ℕ
 
 abbrev pub trace : History → ℕ → Trace
-trace h i = record { terms = getD (h .terms) i no-terms; named = total (λ w. one-if (names w i)) (h .views) }
+trace h i = record { terms = terms-of h i; named = total (λ w. one-if (names w i)) (h .views) }
 
 abbrev pub price-of : History → ℕ → ℕ
-price-of h i = trace h i .terms .price
+price-of h i = terms-of h i .price
 
 abbrev pub whole-of : History → ℕ → ℕ
-whole-of h i = whole (fresh (trace h i .terms))
+whole-of h i = whole (fresh (terms-of h i))
 
 -- a campaign falls short when that number is below depth × whole plays
 abbrev pub falls-short : History → ℕ → Bool
 falls-short h i = ltb (trace h i .named) (h .plan .depth * whole-of h i)
 
+-- no campaign of the day does
+abbrev pub None-short : History → Type 0
+None-short h = (i : ℕ) → i < length (h .terms) → falls-short h i ≡ false
+
 -- the price that counts once the campaigns that fall short are struck out
 abbrev pub unstruck : History → ℕ → ℕ
 unstruck h i = cond (falls-short h i) 0 (price-of h i)
 
--- the names that view j of the day found
+-- what a list of views is read as past its end
 abbrev pub no-view : View
 no-view = record { set = 0 }
 
+-- the names that view j of the day found
 abbrev pub names-at : History → ℕ → ℕ
 names-at h j = getD (h .views) j no-view .set
 
@@ -64,8 +73,7 @@ Covered h x = share (h .plan .depth) (h .plan .width) * x ≤ full (h .plan) (da
 -- the day h, at whose end the state is s
 pub record Floor (h : History) (s : Day) : Type 0 where
   -- provided that no campaign falls short, the takings of every allotment are covered
-  pub floor : ((i : ℕ) → i < length (h .terms) → falls-short h i ≡ false) → (to : ℕ → ℕ) → Allotted h to
-      → Covered h (takings-of h (price-of h) to)
+  pub floor : None-short h → (to : ℕ → ℕ) → Allotted h to → Covered h (takings-of h (price-of h) to)
   -- in any case they are without the part of the campaigns that fall short
   pub struck : (to : ℕ → ℕ) → Allotted h to → Covered h (takings-of h (unstruck h) to)
   -- the takings of the state, and those that its phase holds if it is Closed, are the day's takings

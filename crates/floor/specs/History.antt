@@ -5,10 +5,10 @@ use mathlib.Core.List.{List, [], _∷_, _++_, map}
 use Prim.Native.Nat.{ℕ}
 use lib.Dec.{eqb}
 use Rattle.finite.specs.Finite.{total}
-use Rattle.sets.specs.Set.{without}
 use Rattle.campaigns.specs.declared.Plan.{Plan}
 use Rattle.campaigns.specs.declared.Terms.{Terms}
 use Rattle.campaigns.specs.declared.View.{View}
+use Rattle.campaigns.specs.View.{unmarked}
 use Rattle.day.specs.declared.Answer.{Answer}
 use Rattle.day.specs.declared.Answer.the-variants.{Refused, Done, Played, Nobody, Tallied, Closing}
 use Rattle.day.specs.declared.Day.{Day}
@@ -42,9 +42,9 @@ opening pl = record { plan = pl; terms = []; paused = 0; views = []; answers = [
 
 -- the unpaused of the campaigns that a view names
 abbrev pub unpaused-in : History → View → View
-unpaused-in h w = record { set = without (w .set) (h .paused) }
+unpaused-in h w = unmarked (h .paused) w
 
--- the day's own views, each as its set of names
+-- the day's own views, each as its set of unpaused names
 abbrev pub own-views : History → List ℕ
 own-views h = map (λ w. w .set) (h .views)
 

@@ -4,5 +4,6 @@ pub mod Noon
 pub mod Own
 pub mod Moments
 pub mod Tight
+pub mod Listing
 pub mod Short
 pub mod Paused

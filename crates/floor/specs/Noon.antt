@@ -6,6 +6,7 @@ use mathlib.Core.Logic.{_⊎_}
 use Prim.Native.Nat.{ℕ, _*_, _/_, min, _≤_, _<_}
 use lib.ListN.{length}
 use Rattle.finite.specs.Finite.{sum}
+use Rattle.powers.specs.Power.{share}
 use Rattle.campaigns.specs.Campaign.{whole}
 use Rattle.campaigns.specs.View.{full}
 use Rattle.day.specs.declared.Day.{Day}
@@ -14,7 +15,7 @@ use Rattle.day.specs.Calls.{Call}
 use Rattle.noon.specs.Noon.{due, total-due, floor-figure, figures-of, at-noon}
 use Rattle.demands.specs.Transcript.{transcript, final}
 use Rattle.floor.specs.History.{Starts, History, day-takings, history}
-use Rattle.floor.specs.Floor.{trace, price-of, whole-of}
+use Rattle.floor.specs.Floor.{trace, price-of, whole-of, unstruck, Allotted, takings-of}
 
 -- what is due to campaign i by what was handed in: the smaller of its whole plays and how many of the day's views named
 -- it / depth, rounded down
@@ -32,6 +33,9 @@ pub record Noon-floor (h : History) (s : Day) : Type 0 where
   -- and the total claim lies between those two figures
   pub claim-above : floor-figure s ≤ total-claim s
   pub claim-below : total-claim s ≤ full (s .plan) (total-takings s)
+  -- the claim bounds what an allotment takes of the campaigns that do not fall short: claim / (d^k − (d−1)^k) cents
+  pub claim-bounds : (to : ℕ → ℕ) → Allotted h to
+      → share (s .plan .depth) (s .plan .width) * takings-of h (unstruck h) to ≤ total-claim s
   -- what the record shows is what was handed in and what was answered
   pub plan-is : s .plan ≡ h .plan
   pub count-is : s .count ≡ length (h .terms)

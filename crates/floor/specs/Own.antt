@@ -4,7 +4,7 @@ use mathlib.Core.Path.{_≡_}
 use mathlib.Core.List.{List}
 use Prim.Native.Nat.{ℕ, _<_}
 use lib.ListN.{getD, length}
-use Rattle.allotments.specs.Allotment.{times}
+use Rattle.allotments.specs.Allotment.{times, nobody}
 use Rattle.day.specs.declared.Answer.{Answer}
 use Rattle.day.specs.declared.Answer.the-variants.{Refused, Done, Played, Nobody, Tallied, Closing}
 use Rattle.day.specs.declared.Day.{Day}
@@ -14,14 +14,14 @@ use Rattle.demands.specs.Transcript.{transcript, final}
 use Rattle.floor.specs.History.{Starts, History, day-takings, history}
 use Rattle.floor.specs.Floor.{price-of, Allotted, takings-of}
 
--- the campaign that an answer says has played, where nobody is 64
+-- the campaign that an answer says has played, or nobody
 abbrev pub player-in : Answer → ℕ
-player-in (Refused q) = 64
-player-in Done = 64
+player-in (Refused q) = nobody
+player-in Done = nobody
 player-in (Played i p) = i
-player-in Nobody = 64
-player-in (Tallied p t a n) = 64
-player-in (Closing t c f) = 64
+player-in Nobody = nobody
+player-in (Tallied p t a n) = nobody
+player-in (Closing t c f) = nobody
 
 -- view j is given to the campaign that played it; past the last view to nobody
 abbrev pub own-allotment : History → ℕ → ℕ

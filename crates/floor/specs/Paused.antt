@@ -7,6 +7,7 @@ use Prim.Native.Nat.{ℕ, _*_}
 use lib.Dec.{ltb}
 use lib.ListN.{getD}
 use Rattle.finite.specs.Finite.{one-if, total}
+use Rattle.allotments.specs.Allotment.{nobody}
 use Rattle.campaigns.specs.declared.View.{View}
 use Rattle.campaigns.specs.View.{names}
 use Rattle.day.specs.Day.{blank}
@@ -17,6 +18,7 @@ use Rattle.demands.specs.Cases.{plan, campaign-of, pause}
 use Rattle.floor.specs.History.{Starts, History, history}
 use Rattle.floor.specs.Floor.{price-of, whole-of, unstruck, falls-short, Allotted, takings-of, Covered}
 
+-- the view {0, 1}
 abbrev pub both : View
 both = record { set = 3 }
 
@@ -30,11 +32,11 @@ paused-day = history (transcript blank paused-calls)
 
 -- an allotment gives the first view to 1 and the second to 0, each of which the view found
 abbrev pub paused-to : ℕ → ℕ
-paused-to j = getD (1 ∷ 0 ∷ []) j 64
+paused-to j = getD (1 ∷ 0 ∷ []) j nobody
 
 -- no allotment gives the second view to 1, which was paused
 abbrev pub to-paused : ℕ → ℕ
-to-paused j = getD (0 ∷ 1 ∷ []) j 64
+to-paused j = getD (0 ∷ 1 ∷ []) j nobody
 
 -- the premise over the sets handed in
 abbrev pub short-by : List View → History → ℕ → Bool

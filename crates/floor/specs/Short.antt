@@ -5,6 +5,7 @@ use mathlib.Core.Bool.{true, false}
 use mathlib.Core.List.{List, [], _∷_}
 use Prim.Native.Nat.{ℕ}
 use lib.ListN.{getD}
+use Rattle.allotments.specs.Allotment.{nobody}
 use Rattle.day.specs.Day.{blank}
 use Rattle.day.specs.Calls.{Call}
 use Rattle.day.specs.Calls.Call.{start-day, close-day}
@@ -22,7 +23,7 @@ short-day = history (transcript blank short-calls)
 
 -- an allotment gives the first view to 1, and the second to 0
 abbrev pub short-to : ℕ → ℕ
-short-to j = getD (1 ∷ 0 ∷ []) j 64
+short-to j = getD (1 ∷ 0 ∷ []) j nobody
 
 -- campaign 0 was named often enough, campaign 1 was not; the allotment's takings are not covered, those without
 -- campaign 1's part are

@@ -31,6 +31,7 @@ use Rattle.floor.specs.Own.{own-allotment}
 use Rattle.floor.proofs.Reach.{Reached, reached}
 use Rattle.floor.proofs.Floor.{demand-3}
 use Rattle.floor.proofs.Own.{own-allotted}
+use Rattle.allotments.specs.Limits.{max-handed-in}
 use Rattle.optimum.specs.Optimum as optimum
 use Rattle.optimum.specs.Optimum.{failed, most-of, checked}
 use Rattle.optimum.specs.declared.Verdict.the-variants as verdict
@@ -59,10 +60,10 @@ two-parts h i = go (falls-short h i)
 
 module _ (s : Day) (h : History) (r : Reached s h) where
   -- what the state's plan says is what the history says
-  price-is : (i : ℕ) → i < s .count → optimum.price-of s i ≡ price-of h i
+  price-is : (i : ℕ) → i < s .count → optimum.plan-price s i ≡ price-of h i
   price-is i l = r .tracks .follows i l .price-is
 
-  whole-is : (i : ℕ) → i < s .count → optimum.whole-of s i ≡ whole-of h i
+  whole-is : (i : ℕ) → i < s .count → optimum.plan-whole s i ≡ whole-of h i
   unfolding whole
   whole-is i l = cc (r .tracks .follows i l .price-is, r .tracks .follows i l .budget-is)
 
@@ -71,7 +72,7 @@ module _ (s : Day) (h : History) (r : Reached s h) where
 
   -- an allotment of the day's views, said of the state and of the history, and its takings
   Of-state : (ℕ → ℕ) → Type 0
-  Of-state to = Allotment (s .count) (optimum.whole-of s) (length (own-views h)) (at (own-views h)) to
+  Of-state to = Allotment (s .count) (optimum.plan-whole s) (length (own-views h)) (at (own-views h)) to
 
   module _ (to : ℕ → ℕ) where
     same-times : (i : ℕ) → times (length (own-views h)) to i ≡ times (length (h .views)) to i
@@ -100,13 +101,14 @@ module _ (s : Day) (h : History) (r : Reached s h) where
           omega (arith, al .bought i k, whole-is i k, same-times i);
     }
 
-    same-takings : takings (s .count) (optimum.price-of s) (length (own-views h)) to ≡ takings-of h (price-of h) to
+    same-takings : takings (s .count) (optimum.plan-price s) (length (own-views h)) to ≡ takings-of h (price-of h) to
     same-takings =
-        takings-eq (s .count) (optimum.price-of s) (price-of h) (length (own-views h)) to price-is
+        takings-eq (s .count) (optimum.plan-price s) (price-of h) (length (own-views h)) to price-is
         ∙ ap (λ (m : ℕ). takings (s .count) (price-of h) m to) (own-length h)
         ∙ ap (λ (n : ℕ). takings n (price-of h) (length (h .views)) to) (sym (r .tracks .many))
 
-    taken-of : Of-state to → takings (s .count) (optimum.price-of s) (length (own-views h)) to ≡ most-of s (own-views h)
+    taken-of : Of-state to
+        → takings (s .count) (optimum.plan-price s) (length (own-views h)) to ≡ most-of s (own-views h)
         → Takes-most h s to
     taken-of al e = record { allotted = of-state al; takes-most = sym same-takings ∙ e }
 
@@ -135,7 +137,7 @@ module _ (s : Day) (h : History) (r : Reached s h) where
   greatest-figure : Greatest-figure h s
   unfolding Of-state
   greatest-figure =
-      let g = most-is-most (s .count) (optimum.price-of s) (optimum.whole-of s) (length (own-views h))
+      let g = most-is-most (s .count) (optimum.plan-price s) (optimum.plan-whole s) (length (own-views h))
       (at (own-views h)) few-campaigns in
       record {
         to = g .taken .to;
@@ -162,7 +164,7 @@ module _ (s : Day) (h : History) (r : Reached s h) where
       let n = length (own-views h) in
       rw (
         r .is-sound,
-        le-leb n 256 (omega (arith, own-length h, m .few)),
+        le-leb n max-handed-in (omega (arith, own-length h, m .few)),
         own-inside,
         le-leb n (length allotment) (omega (arith, own-length h, m .for-allotment)),
         le-leb (s .count) (length surplus) (m .for-campaigns),
@@ -199,7 +201,7 @@ floor-against-searched s cs st allotment allotment' surplus surplus' worth worth
     let floored = floor-against-accepted s cs st allotment' surplus' worth' ok in
     record {
       none-fails = z;
-      answer = found .answer ∙ ap (λ (q : ℕ). optimum.found q (most-of t (own-views h))) z;
+      answer = found .answer ∙ ap (λ (q : ℕ). optimum.answer-of q (most-of t (own-views h))) z;
       accepted = ok;
       taken = floored .0;
       against = floored .1;
@@ -223,6 +225,6 @@ own-views-taken s cs st allotment surplus worth =
     let h = history (transcript s cs) in
     let vs = own-views h in
     let r = reached s cs st in
-    neither (sound t) (leb (length vs) optimum.max-handed-in) (every (length vs) (λ j. within (t .count) (at vs j)))
+    neither (sound t) (leb (length vs) max-handed-in) (every (length vs) (λ j. within (t .count) (at vs j)))
     (leb (length vs) (length allotment) && leb (t .count) (length surplus) && leb (length vs) (length worth))
     (r .is-sound) (own-inside t h r)

@@ -7,7 +7,7 @@ use Prim.Native.Nat.{ℕ}
 use Rattle.day.specs.Day.{blank}
 use Rattle.day.specs.Calls.{Call}
 use Rattle.day.specs.Calls.Call.{start-day, close-day}
-use Rattle.demands.specs.Cases.{plan, campaign-of, view, pause}
+use Rattle.demands.specs.Cases.{calls-made, plan, campaign-of, view, pause, listing}
 use Rattle.demands.specs.Transcript.{transcript, final}
 use Rattle.allotments.specs.Allotment.{at}
 use Rattle.floor.specs.History.{Starts, History, day-takings, history}
@@ -18,22 +18,17 @@ use Rattle.optimum.specs.Optimum.{most-of, checked}
 use Rattle.floor.specs.History.{own-views}
 use Rattle.hindsight.specs.Hindsight.{given-short}
 
-abbrev pub day-of : List Call → History
-day-of cs = history (transcript blank cs)
+abbrev pub recorded-day : List Call → History
+recorded-day cs = history (transcript blank cs)
 
 -- a list of calls from the blank state, and an allotment with figures that the check accepts for its day: the takings,
 -- the greatest figure, and what the allotment gives to campaigns that fall short
 pub record Example (cs : List Call) (allotment surplus worth : List ℕ) (paid most short : ℕ) : Type 0 where
   pub starts : Starts blank cs
-  pub accepted : checked (final blank cs) (own-views (day-of cs)) allotment surplus worth ≡ Accepted
-  pub paid-is : day-takings (day-of cs) ≡ paid
-  pub most-is : most-of (final blank cs) (own-views (day-of cs)) ≡ most
-  pub short-is : given-short (day-of cs) (at allotment) ≡ short
-
-abbrev pub listed : List Call
-listed =
-    plan 2 2 ∷ campaign-of 5 10 ∷ campaign-of 3 6 ∷ start-day ∷ view 3 ∷ view 3 ∷ view 3 ∷ view 1 ∷ view 2 ∷ view 4 ∷
-    close-day ∷ []
+  pub accepted : checked (final blank cs) (own-views (recorded-day cs)) allotment surplus worth ≡ Accepted
+  pub paid-is : day-takings (recorded-day cs) ≡ paid
+  pub most-is : most-of (final blank cs) (own-views (recorded-day cs)) ≡ most
+  pub short-is : given-short (recorded-day cs) (at allotment) ≡ short
 
 -- campaign 0 of price 5 and one play, 1 of price 3 and two; with 1 paused the second and the third view find 0 alone
 abbrev pub paused-listed : List Call
@@ -43,16 +38,16 @@ paused-listed =
 -- that day: what its views found, and the sets handed in. Over the sets handed in more could be taken, by giving a view
 -- to the paused campaign; the check accepts such an allotment for them, and rejects it for what the views found
 pub record Paused (found handed-in allotment surplus worth : List ℕ) : Type 0 where
-  pub found-is : own-views (day-of paused-listed) ≡ found
+  pub found-is : own-views (recorded-day paused-listed) ≡ found
   pub more : most-of (final blank paused-listed) handed-in ≡ 11
   pub accepted : checked (final blank paused-listed) handed-in allotment surplus worth ≡ Accepted
-  pub rejected : checked (final blank paused-listed) (own-views (day-of paused-listed)) allotment surplus worth
+  pub rejected : checked (final blank paused-listed) (own-views (recorded-day paused-listed)) allotment surplus worth
       ≡ Rejected
 
 pub record Examples : Type 0 where
-  pub listing : Example listed (0 ∷ 0 ∷ 1 ∷ 64 ∷ 1 ∷ []) (5 ∷ 3 ∷ []) (0 ∷ 0 ∷ 0 ∷ 0 ∷ 0 ∷ []) 16 16 0
+  pub of-listing : Example (calls-made listing) (0 ∷ 0 ∷ 1 ∷ 64 ∷ 1 ∷ []) (5 ∷ 3 ∷ []) (0 ∷ 0 ∷ 0 ∷ 0 ∷ 0 ∷ []) 16 16 0
   pub short : Example short-calls (1 ∷ 0 ∷ []) (2 ∷ 2 ∷ []) (0 ∷ 0 ∷ []) 2 4 2
-  pub not-covered : Covered (day-of short-calls) 4 → ⊥
+  pub not-covered : Covered (recorded-day short-calls) 4 → ⊥
   pub paused : Example paused-listed (1 ∷ 0 ∷ 64 ∷ []) (5 ∷ 0 ∷ []) (3 ∷ 0 ∷ 0 ∷ []) 5 8 3
-  pub paused-not-covered : Covered (day-of paused-listed) 8 → ⊥
+  pub paused-not-covered : Covered (recorded-day paused-listed) 8 → ⊥
   pub found-alone : Paused (3 ∷ 1 ∷ 1 ∷ []) (3 ∷ 3 ∷ 3 ∷ []) (0 ∷ 1 ∷ 1 ∷ []) (2 ∷ 0 ∷ []) (3 ∷ 3 ∷ 3 ∷ [])

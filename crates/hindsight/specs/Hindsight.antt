@@ -16,7 +16,8 @@ use Rattle.floor.specs.Floor.{price-of, falls-short, Allotted, takings-of, Cove
 use Rattle.optimum.specs.declared.Optimum.{Optimum}
 use Rattle.optimum.specs.declared.Optimum.the-variants.{Takings}
 use Rattle.optimum.specs.declared.Verdict.the-variants.{Accepted}
-use Rattle.optimum.specs.Optimum.{max-handed-in, failed, most-of, Searched, checked}
+use Rattle.allotments.specs.Limits.{max-handed-in}
+use Rattle.optimum.specs.Optimum.{failed, most-of, Searched, checked}
 
 -- what an allotment gives to campaigns that fall short
 abbrev pub given-short : History → (ℕ → ℕ) → ℕ

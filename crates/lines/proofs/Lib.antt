@@ -9,3 +9,4 @@ pub mod Plain
 pub mod Choice
 pub mod Inverse
 pub mod Before
+pub mod Examples

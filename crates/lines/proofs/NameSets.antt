@@ -15,7 +15,7 @@ use Rattle.sets.proofs.Algebra.{mod-suc, add-low, add-top, none-above, empty-me
 use Rattle.lines.specs.Limits.{max-campaign, set-bits}
 use Rattle.lines.specs.Numeral.{numeral}
 use Rattle.lines.specs.Form.{campaign-slot, in-slot, names-text}
-use Rattle.lines.specs.Reading.{Seen, seen, unseen, is-digit, numeral-at, ranged, with-name, and-then, names-at}
+use Rattle.lines.specs.Reading.{Seen, seen, unseen, is-digit, numeral-at, ranged, with-name, and-then, set-at}
 use Rattle.lines.proofs.Digits.{clash, ranged-yes}
 use Rattle.lines.proofs.Numerals.{stops, numeral-one, numeral-more, numeral-sound, numeral-back}
 
@@ -74,36 +74,36 @@ same-set v l u m h e =
     let b : l ≡ m = cc in
     (ap₂ (λ (x : ℕ) (y : List ℕ). names-text set-bits x ++ y) a b, omega arith)
 
-names-sound : (k v : ℕ) (l : List ℕ) (u : ℕ) (m : List ℕ) → v < 2 ^ 64 → names-at k v l ≡ seen u m → Read v l u m
-unfolding names-at
+names-sound : (k v : ℕ) (l : List ℕ) (u : ℕ) (m : List ℕ) → v < 2 ^ 64 → set-at k v l ≡ seen u m → Read v l u m
+unfolding set-at
 names-sound zero v l u m h e = clash (cc)
 names-sound (suc k) v [] u m h e = same-set v [] u m h e
 names-sound (suc k) v (b ∷ l) u m h e = go (eqb b 32) refl e (λ x l′. names-sound k x l′ u m)
   where
     go : (t : Bool) → eqb b 32 ≡ t
-        → cond t (and-then (with-name v (ranged campaign-slot (numeral-at l))) (names-at k)) (seen v (b ∷ l)) ≡ seen u m
-        → ((x : ℕ) (l′ : List ℕ) → x < 2 ^ 64 → names-at k x l′ ≡ seen u m → Read x l′ u m) → Read v (b ∷ l) u m
+        → cond t (and-then (with-name v (ranged campaign-slot (numeral-at l))) (set-at k)) (seen v (b ∷ l)) ≡ seen u m
+        → ((x : ℕ) (l′ : List ℕ) → x < 2 ^ 64 → set-at k x l′ ≡ seen u m → Read x l′ u m) → Read v (b ∷ l) u m
     go false q e ih = same-set v (b ∷ l) u m h e
     go true q e ih = by (numeral-at l) refl e
       where
-        by : (s : Seen) → numeral-at l ≡ s → and-then (with-name v (ranged campaign-slot s)) (names-at k) ≡ seen u m
+        by : (s : Seen) → numeral-at l ≡ s → and-then (with-name v (ranged campaign-slot s)) (set-at k) ≡ seen u m
             → Read v (b ∷ l) u m
         by unseen p e = clash (cc)
         by (seen n l′) p e = rises (in-slot campaign-slot n) (ltb v (2 ^ n)) refl refl e
           where
             rises : (x t : Bool) → in-slot campaign-slot n ≡ x → ltb v (2 ^ n) ≡ t
-                → and-then (with-name v (cond x (seen n l′) unseen)) (names-at k) ≡ seen u m → Read v (b ∷ l) u m
+                → and-then (with-name v (cond x (seen n l′) unseen)) (set-at k) ≡ seen u m → Read v (b ∷ l) u m
             rises false t f g e = clash (cc)
             rises true false f g e =
                 let z : unseen ≡ seen u m =
-                ap (λ (t : Bool). and-then (cond t (seen (v + 2 ^ n) l′) unseen) (names-at k)) (sym g) ∙ e in
+                ap (λ (t : Bool). and-then (cond t (seen (v + 2 ^ n) l′) unseen) (set-at k)) (sym g) ∙ e in
                 clash (cc)
             rises true true f g e =
                 let low : v < 2 ^ n = ltb-true v (2 ^ n) g in
                 let sm : n < set-bits = name-below n f in
                 let r =
                 ih (v + 2 ^ n) l′ (omega (arith, pow-mono {i = n} {j = max-campaign} (omega arith)))
-                (ap (λ (t : Bool). and-then (cond t (seen (v + 2 ^ n) l′) unseen) (names-at k)) (sym g) ∙ e) in (
+                (ap (λ (t : Bool). and-then (cond t (seen (v + 2 ^ n) l′) unseen) (set-at k)) (sym g) ∙ e) in (
                   ap (λ (x : ℕ). names-text set-bits v ++ (x ∷ l)) (eqb-true b 32 q)
                       ∙ ap (λ (x : List ℕ). names-text set-bits v ++ (32 ∷ x)) (numeral-sound l n l′ (omega arith) p)
                       ∙ sym (append-assoc (names-text set-bits v) (32 ∷ numeral n) l′)
@@ -118,7 +118,7 @@ names-zero (suc n) =
     ap (λ (x : List ℕ). x ++ cond (member 0 n) (32 ∷ numeral n) []) (names-zero n)
     ∙ ap (λ (t : Bool). cond t (32 ∷ numeral n) []) (empty-member n)
 
-pub set-sound : (l : List ℕ) (u : ℕ) (m : List ℕ) → names-at (suc set-bits) 0 l ≡ seen u m
+pub set-sound : (l : List ℕ) (u : ℕ) (m : List ℕ) → set-at (suc set-bits) 0 l ≡ seen u m
     → (l ≡ names-text set-bits u ++ m) × (u < 2 ^ 64)
 set-sound l u m e =
     let s = names-sound (suc set-bits) 0 l u m (omega arith) e in
@@ -140,16 +140,16 @@ mod-not v n e =
 record Passed (k n v : ℕ) (m : List ℕ) : Type 0 where
   left : ℕ
   most : k ≤ left
-  read : names-at (n + k) 0 (names-text n v ++ m) ≡ names-at left (v % 2 ^ n) m
+  read : set-at (n + k) 0 (names-text n v ++ m) ≡ set-at left (v % 2 ^ n) m
 
 one-name : (k set n : ℕ) (m : List ℕ) → n < set-bits → set < 2 ^ n → stops m ≡ true
-    → names-at (suc k) set ((32 ∷ numeral n) ++ m) ≡ names-at k (set + 2 ^ n) m
-unfolding names-at in-slot
+    → set-at (suc k) set ((32 ∷ numeral n) ++ m) ≡ set-at k (set + 2 ^ n) m
+unfolding set-at in-slot
 one-name k set n m h low s =
-    ap (λ (x : Seen). and-then (with-name set (ranged campaign-slot x)) (names-at k)) (numeral-back n m (omega arith) s)
-    ∙ ap (λ (x : Seen). and-then (with-name set x) (names-at k))
+    ap (λ (x : Seen). and-then (with-name set (ranged campaign-slot x)) (set-at k)) (numeral-back n m (omega arith) s)
+    ∙ ap (λ (x : Seen). and-then (with-name set x) (set-at k))
     (ranged-yes campaign-slot n m (le-leb n max-campaign (omega arith)))
-    ∙ ap (λ (t : Bool). and-then (cond t (seen (set + 2 ^ n) m) unseen) (names-at k)) (lt-ltb set (2 ^ n) low)
+    ∙ ap (λ (t : Bool). and-then (cond t (seen (set + 2 ^ n) m) unseen) (set-at k)) (lt-ltb set (2 ^ n) low)
 
 passed : (n k v : ℕ) (m : List ℕ) → n ≤ set-bits → stops m ≡ true → Passed k n v m
 unfolding names-text is-digit
@@ -157,7 +157,7 @@ passed zero k v m h s =
     record {
       left = k;
       most = omega arith;
-      read = ap₂ (λ (x y : ℕ). names-at x y m) (omega arith)
+      read = ap₂ (λ (x y : ℕ). set-at x y m) (omega arith)
           (sym (ap (λ (x : ℕ). v % x) (pow-zero 2) ∙ mod-one v));
     }
 passed (suc n) k v m h s = go (member v n) refl (λ m′ p. passed n (suc k) v m′ (omega arith) p)
@@ -171,11 +171,11 @@ passed (suc n) k v m h s = go (member v n) refl (λ m′ p. passed n (suc k) v m
           left = f .left - 1;
           most = omega (arith, f .most);
           read =
-              ap₂ (λ (x : ℕ) (y : List ℕ). names-at x 0 (y ++ m)) fuel (names-here n v e)
-              ∙ ap (names-at (n + suc k) 0) (append-assoc (names-text n v) (32 ∷ numeral n) m) ∙ f .read
-              ∙ ap (λ (x : ℕ). names-at x (v % 2 ^ n) ((32 ∷ numeral n) ++ m)) left
+              ap₂ (λ (x : ℕ) (y : List ℕ). set-at x 0 (y ++ m)) fuel (names-here n v e)
+              ∙ ap (set-at (n + suc k) 0) (append-assoc (names-text n v) (32 ∷ numeral n) m) ∙ f .read
+              ∙ ap (λ (x : ℕ). set-at x (v % 2 ^ n) ((32 ∷ numeral n) ++ m)) left
               ∙ one-name (f .left - 1) (v % 2 ^ n) n m (omega arith) (mod-lt v (pow-pos n)) s
-              ∙ ap (λ (x : ℕ). names-at (f .left - 1) x m) (mod-here v n e);
+              ∙ ap (λ (x : ℕ). set-at (f .left - 1) x m) (mod-here v n e);
         }
     go false e ih =
         let f = ih m s in
@@ -184,8 +184,8 @@ passed (suc n) k v m h s = go (member v n) refl (λ m′ p. passed n (suc k) v m
           left = f .left;
           most = omega (arith, f .most);
           read =
-              ap₂ (λ (x : ℕ) (y : List ℕ). names-at x 0 (y ++ m)) fuel (names-not n v e) ∙ f .read
-              ∙ ap (λ (x : ℕ). names-at (f .left) x m) (mod-not v n e);
+              ap₂ (λ (x : ℕ) (y : List ℕ). set-at x 0 (y ++ m)) fuel (names-not n v e) ∙ f .read
+              ∙ ap (λ (x : ℕ). set-at (f .left) x m) (mod-not v n e);
         }
 
 -- l does not begin with a space
@@ -194,14 +194,14 @@ ends [] = true
 ends (b ∷ l) = not (eqb b 32)
 
 -- no name follows
-names-end : (k set : ℕ) (m : List ℕ) → 1 ≤ k → ends m ≡ true → names-at k set m ≡ seen set m
-unfolding names-at
+names-end : (k set : ℕ) (m : List ℕ) → 1 ≤ k → ends m ≡ true → set-at k set m ≡ seen set m
+unfolding set-at
 names-end zero set m h s = absurd (omega arith)
 names-end (suc k) set [] h s = refl
 names-end (suc k) set (b ∷ m) h s = simp (not-true (eqb b 32) s)
 
 pub set-back : (v : ℕ) (m : List ℕ) → v < 2 ^ 64 → stops m ≡ true → ends m ≡ true
-    → names-at (suc set-bits) 0 (names-text set-bits v ++ m) ≡ seen v m
+    → set-at (suc set-bits) 0 (names-text set-bits v ++ m) ≡ seen v m
 set-back v m h s e =
     let f = passed set-bits 1 v m (omega arith) s in
     f .read ∙ names-end (f .left) (v % 2 ^ 64) m (f .most) e ∙ ap (λ (x : ℕ). seen x m) (mod-eq-of-lt h)

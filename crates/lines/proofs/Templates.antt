@@ -13,7 +13,7 @@ use Rattle.lines.specs.Limits.{set-bits, max-u64, max-digits, max-names}
 use Rattle.lines.specs.Numeral.{numeral}
 use Rattle.lines.specs.Form.{names-slot, is-slot, in-slot, names-text, slot-text, piece, numbers-after, filled}
 use Rattle.lines.specs.Form.{in-slots}
-use Rattle.lines.specs.Reading.{Rest, none, some, Seen, seen, unseen, numeral-at, ranged, names-at, slot-at}
+use Rattle.lines.specs.Reading.{Rest, none, some, Seen, seen, unseen, numeral-at, ranged, set-at, slot-at}
 use Rattle.lines.specs.Reading.{strip, step, rest-of, slot-then, numbers-of}
 use Rattle.lines.proofs.Digits.{clash, slot-small, ranged-yes, ranged-sound}
 use Rattle.lines.proofs.Places.{strip-hit}
@@ -32,7 +32,7 @@ unfolding slot-at slot-text
 slot-back slot n m h f = go (eqb slot names-slot) (both-right (stops m) (cond (eqb slot names-slot) (ends m) true) f)
   where
     go : (t : Bool) → cond t (ends m) true ≡ true
-        → cond t (names-at (suc set-bits) 0 (cond t (names-text set-bits n) (numeral n) ++ m))
+        → cond t (set-at (suc set-bits) 0 (cond t (names-text set-bits n) (numeral n) ++ m))
         (ranged slot (numeral-at (cond t (names-text set-bits n) (numeral n) ++ m))) ≡ seen n m
     go true e = set-back n m (slot-small slot n h) (both-left (stops m) (cond (eqb slot names-slot) (ends m) true) f) e
     go false e =
@@ -45,7 +45,7 @@ unfolding slot-at slot-text in-slot
 slot-sound slot n l m e = go (eqb slot names-slot) refl e
   where
     go : (t : Bool) → eqb slot names-slot ≡ t
-        → cond t (names-at (suc set-bits) 0 l) (ranged slot (numeral-at l)) ≡ seen n m
+        → cond t (set-at (suc set-bits) 0 l) (ranged slot (numeral-at l)) ≡ seen n m
         → (l ≡ cond t (names-text set-bits n) (numeral n) ++ m) × (in-slot slot n ≡ true)
     go true f q =
         let s = set-sound l n m q in

@@ -13,7 +13,7 @@ use Rattle.lines.specs.declared.Record.{Record}
 use Rattle.lines.specs.declared.Record.the-variants.{Plan, Campaign, Start, View, Close, Done, Play, Nobody}
 use Rattle.lines.specs.declared.Record.the-variants.{Refused, Closed, Tally, Pause, Resume}
 
--- A slot of a form is an upper-case letter.
+-- A slot of a form is an upper-case letter. M (takings, claim or full) has no range of its own.
 
 -- I: a number of an input line
 abbrev pub input-slot : ℕ
@@ -30,10 +30,6 @@ campaign-slot = 67
 -- R: a refusal number
 abbrev pub refusal-slot : ℕ
 refusal-slot = 82
-
--- M: takings, claim or full
-abbrev pub money-slot : ℕ
-money-slot = 77
 
 -- S: the names of a view
 abbrev pub names-slot : ℕ
@@ -94,7 +90,7 @@ is-output (Tally _ _ _ _ _) = true
 is-output (Pause _) = false
 is-output (Resume _) = false
 
--- the greatest number in each slot; M and S have all of 64 bits
+-- the greatest number in each slot; the others, M and S, have all of 64 bits
 abbrev pub slot-max : ℕ → ℕ
 slot-max slot =
     cond (eqb slot input-slot) max-input

@@ -9,7 +9,7 @@ max-line = 200
 abbrev pub line-buffer : ℕ
 line-buffer = max-line + 1
 
--- the longest line that is written as an answer, and its room with the byte 10
+-- no line that is written as an answer is longer; and room for it with its byte 10
 abbrev pub max-answer : ℕ
 max-answer = 200
 
@@ -39,7 +39,7 @@ max-question = 19
 abbrev pub max-u64 : ℕ
 max-u64 = 18446744073709551615
 
--- the most digits of such a number, and the most bytes of a view's names, each of them a space and two digits
+-- the most digits of such a number; and no view's names take more bytes, at a space and two digits for each of 64
 abbrev pub max-digits : ℕ
 max-digits = 20
 

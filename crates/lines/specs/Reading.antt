@@ -60,16 +60,16 @@ and-then unseen f = unseen
 and-then (seen n l) f = f n l
 
 -- fewer than k names, each with a space before it, that join a set
-unfoldable pub names-at : ℕ → ℕ → List ℕ → Seen
-names-at zero set l = unseen
-names-at (suc k) set [] = seen set []
-names-at (suc k) set (b ∷ l) =
-    cond (eqb b 32) (and-then (with-name set (ranged campaign-slot (numeral-at l))) (names-at k)) (seen set (b ∷ l))
+unfoldable pub set-at : ℕ → ℕ → List ℕ → Seen
+set-at zero set l = unseen
+set-at (suc k) set [] = seen set []
+set-at (suc k) set (b ∷ l) =
+    cond (eqb b 32) (and-then (with-name set (ranged campaign-slot (numeral-at l))) (set-at k)) (seen set (b ∷ l))
 
 -- what stands in a slot
 unfoldable pub slot-at : ℕ → Rest → Seen
 slot-at slot none = unseen
-slot-at slot (some l) = cond (eqb slot names-slot) (names-at (suc set-bits) 0 l) (ranged slot (numeral-at l))
+slot-at slot (some l) = cond (eqb slot names-slot) (set-at (suc set-bits) 0 l) (ranged slot (numeral-at l))
 
 -- the line without the byte b at its front
 unfoldable pub strip : ℕ → Rest → Rest

@@ -1,5 +1,5 @@
 -- The set of campaigns that are not served: all at first, one fewer at each turn, and its walk to the dearest of them.
-use mathlib.Core.Path.{_≡_, refl, ap, sym, _∙_}
+use mathlib.Core.Path.{_≡_, refl, ap, sym, _∙_, subst⁻¹}
 use mathlib.Core.Bool.{Bool, true, false, cond, not, _&&_}
 use mathlib.Core.List.{List}
 use Prim.Native.Nat.{ℕ, zero, suc, _+_, _^_, _≤_, _<_}
@@ -9,13 +9,13 @@ use lib.Dec.{eqb, ltb}
 use borrow.Author.Tests.{eqb-false, ltb-true, ltb-false}
 use Rattle.finite.specs.Finite.{one-if, count}
 use Rattle.finite.proofs.Sums.{sum-le, sum-split, hide}
-use Rattle.finite.proofs.Tests.{never}
+use Rattle.finite.proofs.Tests.{never, both-left}
 use Rattle.sets.specs.Set.{member, size, next, collect, beyond, including}
 use Rattle.sets.proofs.Algebra.{empty-member, none-above, collect-lt, collect-member, without-member}
 use Rattle.sets.proofs.Algebra.{including-same, including-other}
 use Rattle.allotments.specs.Allotment.{at}
 use Rattle.allotments.proofs.Walks.{Walking, walking-end, hand-small, hand-in, walking-turn}
-use Rattle.matching.specs.Contracts.{Everyone, Dearest, without-one}
+use Rattle.matching.specs.Method.{Everyone, Dearest, without-one}
 
 -- the numbers below n are those of 2 to the power n, less one
 all-below : (n : ℕ) → collect n (λ i. true) + 1 ≡ 2 ^ n
@@ -32,6 +32,11 @@ everyone-of n set e d l = ap (λ (x : ℕ). member x d) same ∙ go (ltb d n) re
     go : (b : Bool) → ltb d n ≡ b → member (collect n (λ i. true)) d ≡ b
     go true q = collect-member n (λ i. true) d (ltb-true d n q)
     go false q = none-above (collect n (λ i. true)) n (collect-lt n (λ i. true)) d (ltb-false d n q)
+
+-- who is left of a set without one campaign was in it
+pub was-in : (unserved c d : ℕ) → d < 64 → member (without-one unserved c) d ≡ true → member unserved d ≡ true
+was-in unserved c d l m = both-left (member unserved d) (not (member (including 0 c) d))
+    (sym (without-member unserved (including 0 c) d l) ∙ m)
 
 -- one campaign taken off
 module _ (unserved c : ℕ) (small : c < 64) where
@@ -85,10 +90,17 @@ pub record Choosing (prices : List ℕ) (unserved best top left : ℕ) : Type 0 
   pub top-is : top ≡ at prices best
   pub walk : Walking unserved left (No-dearer prices unserved top)
 
-module _ (prices : List ℕ) (unserved : ℕ) where
-  pub choose-start : unserved < 2 ^ 64 → (unserved ≡ 0 → ⊥) → (c left top : ℕ) → c ≡ next unserved 0
+-- the same two, told otherwise
+pub same-choosing : {prices : List ℕ} {unserved best best' top top' left : ℕ} → best' ≡ best → top' ≡ top
+    → Choosing prices unserved best top left → Choosing prices unserved best' top' left
+same-choosing {prices} {unserved} {best} {best'} {top} {top'} {left} e f w =
+    subst⁻¹ (λ (b : ℕ). Choosing prices unserved b top' left) e
+    (subst⁻¹ (λ (t : ℕ). Choosing prices unserved best t left) f w)
+
+module _ {prices : List ℕ} {unserved : ℕ} where
+  pub choose-start : unserved < 2 ^ 64 → (unserved ≡ 0 → ⊥) → {c left top : ℕ} → c ≡ next unserved 0
       → left ≡ beyond unserved c → top ≡ at prices c → Choosing prices unserved c top left
-  choose-start small some c left top c-is e t = record {
+  choose-start small some {c} {left} {top} c-is e t = record {
     inside = hand-small unserved small some c c-is;
     waiting = hand-in unserved small some c c-is;
     top-is = t;
@@ -99,7 +111,7 @@ module _ (prices : List ℕ) (unserved : ℕ) where
         (λ m. omega (arith, t));
   }
 
-  module _ (best top left : ℕ) (w : Choosing prices unserved best top left) (some : left ≡ 0 → ⊥) (c left' : ℕ)
+  module _ {best top left : ℕ} (w : Choosing prices unserved best top left) (some : left ≡ 0 → ⊥) {c left' : ℕ}
       (c-is : c ≡ next left 0) (e : left' ≡ beyond left c) where
     small : left < 2 ^ 64
     small = w .walk .small
@@ -127,9 +139,9 @@ module _ (prices : List ℕ) (unserved : ℕ) where
           (No-dearer prices unserved top) e (w .walk) (λ d l ne h. h) (λ m. k);
     }
 
-  pub choose-end : (best top left : ℕ) → Choosing prices unserved best top left → left ≡ 0
-      → Dearest prices unserved best
-  choose-end best top left w e = record {
+  pub choose-end : {best top left : ℕ} → Choosing prices unserved best top left → left ≡ 0
+      → Dearest (at prices) unserved best
+  choose-end {best} {top} {left} w e = record {
     inside = w .inside;
     waiting = w .waiting;
     top = λ d l m. omega (

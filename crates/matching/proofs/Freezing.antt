@@ -19,9 +19,9 @@ pub record Freezing (level now : List ℕ) (who price left : ℕ) : Type 0 where
   pub long : length now ≡ 64
   pub walk : Walking who left (Has level now who price)
 
-pub freeze-start : (level : List ℕ) (who price : ℕ) → length level ≡ 64 → who < 2 ^ 64 → Freezing level level who
+pub freeze-start : {level : List ℕ} {who price : ℕ} → length level ≡ 64 → who < 2 ^ 64 → Freezing level level who
     price who
-freeze-start level who price len small = record {
+freeze-start {level} {who} {price} len small = record {
   long = len;
   walk = record {
     small = small;
@@ -31,10 +31,10 @@ freeze-start level who price len small = record {
   };
 }
 
-pub freeze-turn : (level now : List ℕ) (who price left c left' : ℕ) → (left ≡ 0 → ⊥) → c ≡ next left 0 → left' ≡
+pub freeze-turn : {level now : List ℕ} {who price left c left' : ℕ} → (left ≡ 0 → ⊥) → c ≡ next left 0 → left' ≡
     beyond left c → Freezing level now who price left
     → Freezing level (set now c price) who price left'
-freeze-turn level now who price left c left' some c-is e f =
+freeze-turn {level} {now} {who} {price} {left} {c} {left'} some c-is e f =
     let small = f .walk .small in
     let l = hand-small left small some c c-is in
     record {
@@ -46,9 +46,9 @@ freeze-turn level now who price left c left' some c-is e f =
           (f .walk .part c l (hand-in left small some c c-is))));
     }
 
-pub freeze-end : (level now : List ℕ) (who price left : ℕ) → left ≡ 0 → length level ≡ 64 → Freezing level now who
+pub freeze-end : {level now : List ℕ} {who price left : ℕ} → left ≡ 0 → length level ≡ 64 → Freezing level now who
     price left → Frozen level now who price
-freeze-end level now who price left e len f = record {
+freeze-end {level} {now} {who} {price} {left} e len f = record {
   long = f .long ∙ sym len;
   each = walking-end who left
       (Has level now who price) (f .walk) e;

@@ -1,7 +1,9 @@
+pub mod Turns
 pub mod Fill
 pub mod Freezing
 pub mod Serving
 pub mod Choosing
 pub mod Standing
+pub mod Method
 pub mod Matching
 pub mod Best

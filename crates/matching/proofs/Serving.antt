@@ -9,13 +9,15 @@ use lib.ListN.{length}
 use Rattle.sets.specs.Set.{member, including}
 use Rattle.sets.proofs.Algebra.{including-keeps}
 use Rattle.allotments.specs.Allotment.{at}
-use Rattle.exchange.specs.Contracts.{Taken, Bare, Ready, Gained}
+use Rattle.exchange.specs.Contracts.{None-free, Bare, Seekable, Gained}
+use Rattle.matching.specs.Method.Found.{none, one-more}
 use Rattle.matching.specs.Contracts.{Gains}
 use Rattle.exchange.proofs.Search.{taken-kept}
 
 -- at first nothing is gained
 pub gains-none : (views to : List ℕ) (c closed : ℕ) → Gains views to to c closed 0
 gains-none views to c closed = record {
+  found = none;
   more = omega arith;
   same = λ d l ne. refl;
   changed = λ j l. inl refl;
@@ -28,6 +30,7 @@ gains-none views to c closed = record {
 pub gains-one : (views to to' to'' : List ℕ) (c closed k : ℕ) → Gains views to to' c closed k → Gained views to' to''
     c closed → Gains views to to'' c closed (k + 1)
 gains-one views to to' to'' c closed k g h = record {
+  found = one-more (g .found) (h .chain);
   more = omega (arith, g .more, h .more);
   same = λ d l ne. h .same d l ne ∙ g .same d l ne;
   changed = λ j l. ⊎-elim (λ e. ⊎-elim (λ q. inl (e ∙ q)) (λ q. inr (rw e (q .0), rw e (q .1))) (g .changed j l))
@@ -40,8 +43,8 @@ gains-one views to to' to'' c closed k g h = record {
 }
 
 -- a search may follow from a later place
-pub ready-from : (views to : List ℕ) (c closed first bare first' : ℕ) → Ready views to c closed first bare
-    → (first' ≤ length views) × Taken to first' → Ready views to c closed first' bare
+pub ready-from : (views to : List ℕ) (c closed first bare first' : ℕ) → Seekable views to c closed first bare
+    → (first' ≤ length views) × None-free to first' → Seekable views to c closed first' bare
 ready-from views to c closed first bare first' r h = record {
   room = r .room;
   entries = r .entries;
@@ -53,9 +56,9 @@ ready-from views to c closed first bare first' r h = record {
 }
 
 -- and after one that found a view: the entries stay campaigns or 64
-pub ready-after : (views to to' : List ℕ) (c closed first bare bare' : ℕ) → Ready views to c closed first bare
+pub ready-after : (views to to' : List ℕ) (c closed first bare bare' : ℕ) → Seekable views to c closed first bare
     → length to' ≡ length to → Gained views to to' c closed → Bare views to' bare'
-    → Ready views to' c closed first bare'
+    → Seekable views to' c closed first bare'
 ready-after views to to' c closed first bare bare' r e g b = record {
   room = omega (arith, r .room);
   entries = λ j l. ⊎-elim (λ q. omega (arith, r .entries j l)) (λ q. omega arith) (g .changed j l);

@@ -17,10 +17,11 @@ use Rattle.allotments.proofs.Cases.{same-or-not, true-or-not}
 use Rattle.allotments.proofs.Takings.{by-campaign}
 use Rattle.exchange.specs.Contracts.{holds, Failed}
 use Rattle.allotments.specs.Contracts.{Market}
-use Rattle.matching.specs.Contracts.{Gains, Served, Everyone, Dearest, without-one, Frozen, Entry, Standing}
+use Rattle.matching.specs.Method.{Everyone, Dearest, without-one}
+use Rattle.matching.specs.Contracts.{Gains, Served-is, Frozen, Entry, Standing}
 use Rattle.matching.specs.Contracts.{campaign-figure, view-figure}
 use Rattle.exchange.proofs.Entries.{holds-none}
-use Rattle.matching.proofs.Choosing.{one-out, others-stay}
+use Rattle.matching.proofs.Choosing.{was-in, one-out, others-stay}
 
 -- the levels after the newly closed campaigns are frozen: theirs are the price, the others stand
 new-level : (level level' : List ℕ) (closed closed' price : ℕ) → Frozen level level' (without closed' closed) price
@@ -44,10 +45,10 @@ old-level level level' closed closed' price f d l h =
 -- one more campaign is served
 module _ (n : ℕ) (prices wholes views to to' level level' : List ℕ) (closed closed' unserved c bare : ℕ)
     (mk : Market n views) (st : Standing n prices wholes views to level closed unserved)
-    (ch : Dearest prices unserved c)
-    (sv : Served views to to' c closed (at wholes c) closed' bare) (fz : Frozen level level' (without closed' closed)
+    (ch : Dearest (at prices) unserved c)
+    (sv : Served-is views to to' c closed (at wholes c) closed' bare) (fz : Frozen level level' (without closed' closed)
     (at prices c)) where
-  g : Gains views to to' c closed (sv .found)
+  g : Gains views to to' c closed (sv .plays)
   g = sv .gains
 
   c-small : c < 64
@@ -64,7 +65,7 @@ module _ (n : ℕ) (prices wholes views to to' level level' : List ℕ) (closed 
   other d z e = never (member now c) (one-out unserved c c-small) (ap (member now) (sym e) ∙ z)
 
   before : (d : ℕ) → d < 64 → member now d ≡ true → member unserved d ≡ true
-  before d l z = sym (others-stay unserved c c-small d l (other d z)) ∙ z
+  before d l z = was-in unserved c d l z
 
   planned' : (d : ℕ) → d < 64 → member now d ≡ true → d < n
   planned' d l z = st .planned d l (before d l z)

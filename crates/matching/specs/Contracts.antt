@@ -7,40 +7,28 @@ use mathlib.Core.List.{List}
 use Prim.Native.Nat.{ℕ, _+_, _-_, _≤_, _<_}
 use lib.Dec.{ltb}
 use lib.ListN.{length}
-use Rattle.sets.specs.Set.{member, without, including}
-use Rattle.allotments.specs.Allotment.{at, certified}
+use Rattle.sets.specs.Set.{member}
+use Rattle.allotments.specs.Allotment.{at, nobody, certified}
 use Rattle.allotments.specs.Contracts.{Market}
 use Rattle.exchange.specs.Contracts.{holds, Bare, Changed, Failed}
+use Rattle.matching.specs.Method.{Found, By-falling-price}
 
--- k more views for c, and none fewer for the others; what a closed campaign held it still holds
+-- k more views for c, and as many for the others; what a closed campaign held it still holds
 pub record Gains (views to to' : List ℕ) (c closed k : ℕ) : Type 0 where
+  pub found : Found views to c to' k
   pub more : holds views to' c ≡ k + holds views to c
   pub same : (d : ℕ) → d < 64 → (d ≡ c → ⊥) → holds views to' d ≡ holds views to d
   pub changed : (j : ℕ) → j < length views → Changed views to to' j
   pub kept : (j : ℕ) → at to j < 64 → member closed (at to j) ≡ true → at to' j ≡ at to j
   pub beyond : (j : ℕ) → length views ≤ j → at to' j ≡ at to j
 
--- all the plays found a view and none is newly closed, or fewer did and the last search failed
-pub record Served (views to to' : List ℕ) (c closed plays closed' bare : ℕ) : Type 0 where
-  pub found : ℕ
-  pub gains : Gains views to to' c closed found
-  pub most : found ≤ plays
-  pub ended : ((found ≡ plays) × (closed' ≡ closed)) ⊎ Failed views to' to' c closed closed'
+-- all the whole plays found a view and none is newly closed, or fewer did and the last search failed
+pub record Served-is (views to to' : List ℕ) (c closed whole closed' bare : ℕ) : Type 0 where
+  pub plays : ℕ
+  pub gains : Gains views to to' c closed plays
+  pub most : plays ≤ whole
+  pub ended : ((plays ≡ whole) × (closed' ≡ closed)) ⊎ Failed views to' to' c closed closed'
   pub none-free : Bare views to' bare
-
--- the campaigns of the plan, as a set
-abbrev pub Everyone : (n set : ℕ) → Type 0
-Everyone n set = (d : ℕ) → d < 64 → member set d ≡ ltb d n
-
--- the campaign to serve next: of those not served the dearest
-pub record Dearest (prices : List ℕ) (unserved r : ℕ) : Type 0 where
-  pub inside : r < 64
-  pub waiting : member unserved r ≡ true
-  pub top : (d : ℕ) → d < 64 → member unserved d ≡ true → at prices d ≤ at prices r
-
--- the set without one campaign
-abbrev pub without-one : (unserved c : ℕ) → ℕ
-without-one unserved c = without unserved (including 0 c)
 
 -- the members of the set at the price, the others as before
 pub record Frozen (level level' : List ℕ) (set price : ℕ) : Type 0 where
@@ -51,13 +39,13 @@ pub record Frozen (level level' : List ℕ) (set price : ℕ) : Type 0 where
 pub record Unserved (n : ℕ) (views to level : List ℕ) : Type 0 where
   pub market : Market n views
   pub room : length views ≤ length to
-  pub free : (j : ℕ) → j < length views → at to j ≡ 64
+  pub free : (j : ℕ) → j < length views → at to j ≡ nobody
   pub long : length level ≡ 64
   pub zeros : (d : ℕ) → at level d ≡ 0
 
 -- a view is given to nobody, or to a campaign of the plan that it names
 abbrev pub Entry : ℕ → List ℕ → List ℕ → ℕ → Type 0
-Entry n views to j = (at to j ≡ 64) ⊎ ((at to j < n) × (member (at views j) (at to j) ≡ true))
+Entry n views to j = (at to j ≡ nobody) ⊎ ((at to j < n) × (member (at views j) (at to j) ≡ true))
 
 -- between two served campaigns: those served have their plays or are closed at their own price; a closed campaign is
 -- shut off from those that are open, and from those at a lower level
@@ -79,8 +67,9 @@ pub record Standing (n : ℕ) (prices wholes views to level : List ℕ) (closed 
   pub levels : (d : ℕ) → d < 64 → member unserved d ≡ true → (e : ℕ) → e < 64 → member closed e ≡ true
       → at prices d ≤ at level e
 
--- all are served, and the standing holds
+-- all are served, in falling price, and the standing holds
 pub record Matched (n : ℕ) (prices wholes views to to' level : List ℕ) : Type 0 where
+  pub method : By-falling-price n (at prices) (at wholes) views to' 0
   pub closed : ℕ
   pub standing : Standing n prices wholes views to' level closed 0
   pub beyond : (j : ℕ) → length views ≤ j → at to' j ≡ at to j
@@ -100,8 +89,9 @@ pub record Filled (xs xs' : List ℕ) (n : ℕ) (f : ℕ → ℕ) : Type 0 where
   pub front : (j : ℕ) → j < n → at xs' j ≡ f j
   pub beyond : (j : ℕ) → n ≤ j → at xs' j ≡ at xs j
 
--- what comes out is certified, and entries beyond keep their values
+-- what comes out is certified and made by the method, and entries beyond keep their values
 pub record Best-is (n : ℕ) (prices wholes views to to' us us' vs vs' : List ℕ) : Type 0 where
+  pub method : By-falling-price n (at prices) (at wholes) views to' 0
   pub accepted : certified n (at prices) (at wholes) (length views) (at views) (at to') (at us') (at vs') ≡ true
   pub to-beyond : (j : ℕ) → length views ≤ j → at to' j ≡ at to j
   pub us-beyond : (c : ℕ) → n ≤ c → at us' c ≡ at us c

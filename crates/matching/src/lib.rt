@@ -4,10 +4,11 @@ use campaigns::entry::wide32;
 ghost use mathlib.Core.Path.{_≡_};
 ghost use Prim.Native.Nat.{ℕ, _<_, _≤_};
 ghost use lib.ListN.{length};
-ghost use Rattle.allotments.specs.Allotment.{at};
-ghost use Rattle.allotments.specs.Contracts.{Lent};
-ghost use Rattle.exchange.specs.Contracts.{Ready};
-ghost use Rattle.matching.specs.Contracts.{Served, Everyone, Dearest, Frozen, Unserved, Matched};
+ghost use Rattle.allotments.specs.Allotment.{at, nobody};
+ghost use Rattle.allotments.specs.Contracts.{Enough-lent};
+ghost use Rattle.exchange.specs.Contracts.{Seekable};
+ghost use Rattle.matching.specs.Method.{Everyone, Dearest};
+ghost use Rattle.matching.specs.Contracts.{Served-is, Frozen, Unserved, Matched};
 ghost use Rattle.matching.specs.Contracts.{campaign-figure, level-of, view-figure, Filled, Best-is};
 
 // After a campaign is served: the campaigns closed, and those that no free view names.
@@ -26,8 +27,8 @@ fn serve(
     from: usize,
     bare: u64,
 ) -> After
-    requires { ⌜ Ready (now views) (now allotment) campaign closed from bare ⌝ }
-    ensures { λ r. ⌜ Served (now (views .entry)) (now (allotment .entry)) (now (allotment .exit)) campaign closed
+    requires { ⌜ Seekable (now views) (now allotment) campaign closed from bare ⌝ }
+    ensures { λ r. ⌜ Served-is (now (views .entry)) (now (allotment .entry)) (now (allotment .exit)) campaign closed
         plays (r .closed) (r .bare) ⌝ }
 {
     let n = views.len();
@@ -67,7 +68,7 @@ fn everyone(count: u64) -> u64
 // takings.
 fn dearest(prices: &[u32; 128], unserved: u64) -> u64
     requires { ⌜ (unserved ≡ 0 → ⊥) ⌝ }
-    ensures { λ r. ⌜ Dearest (now (prices .entry)) unserved r ⌝ }
+    ensures { λ r. ⌜ Dearest (at (now (prices .entry))) unserved r ⌝ }
 {
     let mut best = sets::first(unserved);
     let start = best as usize;
@@ -102,7 +103,7 @@ fn freeze(level: &mut [u64; 64], set: u64, price: u64)
 // No view is given.
 fn clear(allotment: &mut [u64], n: usize)
     requires { ⌜ n ≤ length (now allotment) ⌝ }
-    ensures { λ _. ⌜ Filled (now (allotment .entry)) (now (allotment .exit)) n (λ j. 64) ⌝ }
+    ensures { λ _. ⌜ Filled (now (allotment .entry)) (now (allotment .exit)) n (λ j. nobody) ⌝ }
 {
     let mut j = 0;
     while j < n {
@@ -202,7 +203,7 @@ pub fn allot<'a>(
     surplus: &'a mut [u64],
     worth: &'a mut [u64],
 )
-    requires { ⌜ Lent count (now views) (now allotment) (now surplus) (now worth) ⌝ }
+    requires { ⌜ Enough-lent count (now views) (now allotment) (now surplus) (now worth) ⌝ }
     ensures { λ _. ⌜ Best-is count (now (prices .entry)) (now (wholes .entry)) (now (views .entry))
         (now (allotment .entry)) (now (allotment .exit)) (now (surplus .entry)) (now (surplus .exit))
         (now (worth .entry)) (now (worth .exit)) ⌝ }

@@ -38,16 +38,17 @@ values (Figures x c f) = x ∷ c ∷ f ∷ []
 abbrev pub noon-questions : Day → List Question
 noon-questions s = question 1 (sound s) ∷ []
 
-abbrev pub answered : ℕ → Noon → Noon
-answered zero x = x
-answered (suc q) x = Refused (suc q)
+-- the question that failed, or x where none did
+abbrev pub refused-or : ℕ → Noon → Noon
+refused-or zero x = x
+refused-or (suc q) x = Refused (suc q)
 
 -- full, the total claim and the floor's figure
 abbrev pub figures-of : Day → Noon
 figures-of s = Figures (full (s .plan) (total-takings s)) (total-claim s) (floor-figure s)
 
 unfoldable pub at-noon : Day → Noon
-at-noon s = answered (first-failed (noon-questions s)) (figures-of s)
+at-noon s = refused-or (first-failed (noon-questions s)) (figures-of s)
 
 pub record Tells (s : Day) : Type 0 where
   pub number-is : number (at-noon s) ≡ first-failed (noon-questions s)

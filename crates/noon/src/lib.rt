@@ -12,6 +12,7 @@ use day::ops::audited;
 ghost use mathlib.Core.Path.{_≡_};
 ghost use mathlib.Core.Bool.{true};
 ghost use Prim.Native.Nat.{_≤_};
+ghost use Rattle.powers.specs.Limits.{max-power};
 ghost use Rattle.powers.specs.Power.{share};
 ghost use Rattle.campaigns.specs.Limits.{max-budget};
 ghost use Rattle.campaigns.specs.Campaign.{sound-plan};
@@ -57,7 +58,7 @@ fn total_due<'a>(head: Head, terms: &'a [u32; 128], counts: &'a [u16; 256]) -> u
 // d^k − (d−1)^k of a plan that passes questions 3 to 5.
 fn share(plan: Plan) -> u64
     requires { ⌜ sound-plan plan ≡ true ⌝ }
-    ensures { λ r. ⌜ (r ≡ share (plan .depth) (plan .width)) × (r ≤ 4294967296) ⌝ }
+    ensures { λ r. ⌜ (r ≡ share (plan .depth) (plan .width)) × (r ≤ max-power) ⌝ }
 {
     let list = weights(plan);
     let high = weigh(plan.depth, plan, &list);

@@ -10,6 +10,7 @@ use lib.Seq.{getD-take, length-take-le}
 use borrow.Author.Tests.{le-leb}
 use Rattle.finite.specs.Finite.{one-if}
 use Rattle.finite.proofs.Sums.{sum-eq}
+use Rattle.allotments.specs.Limits.{max-handed-in}
 use Rattle.allotments.specs.Allotment.{at, brings, takings}
 use Rattle.allotments.proofs.Duality.{test-certified, certified-test, certified-greatest}
 use Rattle.allotments.proofs.Most.{certified-most}
@@ -17,8 +18,8 @@ use Rattle.day.specs.declared.Day.{Day}
 use Rattle.questions.specs.Questions.{first-failed}
 use Rattle.optimum.specs.declared.Verdict.{Verdict}
 use Rattle.optimum.specs.declared.Verdict.the-variants as verdict
-use Rattle.optimum.specs.Optimum.{price-of, whole-of, questions, failed, Fits, fits, most-of, takings-of}
-use Rattle.optimum.specs.Optimum.{number, values, found, takings-questions, takings-answer}
+use Rattle.optimum.specs.Optimum.{plan-price, plan-whole, questions, failed, Fits, fits, most-of}
+use Rattle.optimum.specs.Optimum.{allotment-takings, number, values, answer-of, takings-questions, takings-answer}
 use Rattle.optimum.specs.Optimum.{verdict-of, Accepts-exactly, Accepted-is-best, Search-accepted, Search-taken}
 use Rattle.optimum.specs.Optimum.{verdict-number, verdict-values, Always-tells}
 use Rattle.optimum.proofs.Asked.{Granted, granted, few-campaigns}
@@ -35,18 +36,13 @@ accepts q b z t = ap₂ verdict-of z t
 module _ (s : Day) (views allotment surplus worth : List ℕ) where
   fits-of : fits s views allotment surplus worth ≡ true → Fits s views allotment surplus worth
   unfolding fits
-  fits-of e = test-certified (s .count) (price-of s) (whole-of s) (length views) (at views) (at allotment)
+  fits-of e = test-certified (s .count) (plan-price s) (plan-whole s) (length views) (at views) (at allotment)
       (at surplus) (at worth) e
 
   of-fits : Fits s views allotment surplus worth → fits s views allotment surplus worth ≡ true
   unfolding fits
-  of-fits f = certified-test (s .count) (price-of s) (whole-of s) (length views) (at views) (at allotment)
+  of-fits f = certified-test (s .count) (plan-price s) (plan-whole s) (length views) (at views) (at allotment)
       (at surplus) (at worth) f
-
-  granted-of : failed s views allotment surplus worth ≡ 0 → Granted s views (length allotment) (length surplus)
-      (length worth)
-  unfolding failed
-  granted-of e = granted s views (length allotment) (length surplus) (length worth) e
 
 pub accepts-exactly : Accepts-exactly
 accepts-exactly s views allotment surplus worth =
@@ -61,38 +57,40 @@ accepts-exactly s views allotment surplus worth =
 pub accepted-is-best : Accepted-is-best
 accepted-is-best s views allotment surplus worth e =
     let f = accepts-exactly s views allotment surplus worth .0 e in
-    let few = few-campaigns s views allotment surplus worth (granted-of s views allotment surplus worth (f .0)) in
+    let g : Granted s views allotment surplus worth = granted (f .0) in
+    let few = few-campaigns g in
     record {
       allotted = f .1 .allotted;
-      greatest = certified-greatest (s .count) (price-of s) (whole-of s) (length views) (at views) (at allotment)
+      greatest = certified-greatest (s .count) (plan-price s) (plan-whole s) (length views) (at views) (at allotment)
           (at surplus) (at worth) few (f .1);
-      takes-most = certified-most (s .count) (price-of s) (at views) few (whole-of s) (length views) (at allotment)
+      takes-most = certified-most (s .count) (plan-price s) (at views) few (plan-whole s) (length views) (at allotment)
           (at surplus) (at worth) (f .1);
     }
 
 pub search-accepted : Search-accepted
 unfolding failed
-search-accepted s views allotment allotment' surplus surplus' worth worth' r found z =
+search-accepted s views allotment allotment' surplus surplus' worth worth' r answer-of z =
     accepts (first-failed (questions s views (length allotment') (length surplus') (length worth')))
     (fits s views allotment' surplus' worth')
-    (rw (found .in-allotment .same-length, found .in-surplus .same-length, found .in-worth .same-length) z)
-    (found .fit z)
+    (rw (answer-of .in-allotment .same-length, answer-of .in-surplus .same-length, answer-of .in-worth .same-length) z)
+    (answer-of .fit z)
 
 -- the takings of the entries for the views alone
 front-taken : (s : Day) (views allotment : List ℕ) → length views ≤ length allotment
-    → takings-of s (take (length views) allotment) (take (length views) allotment) ≡ takings-of s views allotment
+    → allotment-takings s (length (take (length views) allotment)) (take (length views) allotment)
+    ≡ allotment-takings s (length views) allotment
 unfolding takings
 front-taken s views allotment l =
     let m = length views in
-    ap (λ (n : ℕ). takings (s .count) (price-of s) n (at (take m allotment))) (length-take-le m allotment l)
-    ∙ sum-eq m (λ j. brings (s .count) (price-of s) (at (take m allotment) j))
-    (λ j. brings (s .count) (price-of s) (at allotment j))
-    (λ j k. ap (brings (s .count) (price-of s)) (getD-take m allotment j 0 k))
+    ap (λ (n : ℕ). takings (s .count) (plan-price s) n (at (take m allotment))) (length-take-le m allotment l)
+    ∙ sum-eq m (λ j. brings (s .count) (plan-price s) (at (take m allotment) j))
+    (λ j. brings (s .count) (plan-price s) (at allotment j))
+    (λ j k. ap (brings (s .count) (plan-price s)) (getD-take m allotment j 0 k))
 
 pub search-taken : Search-taken
 unfolding takings-answer first-failed
 search-taken s views allotment allotment' surplus surplus' worth worth' r found' z =
-    let g = granted-of s views allotment surplus worth z in
+    let g : Granted s views allotment surplus worth = granted z in
     let m = length views in
     let room : m ≤ length allotment' = omega (arith, g .for-allotment, found' .in-allotment .same-length) in
     let best = accepted-is-best s views allotment' surplus' worth'
@@ -100,13 +98,13 @@ search-taken s views allotment allotment' surplus surplus' worth worth' r found'
     let none : first-failed (takings-questions s (take m allotment')) ≡ 0 = rw (
       g .is-sound,
       length-take-le m allotment' room,
-      le-leb m 256 (g .few),
+      le-leb m max-handed-in (g .few),
     ) in
-    ap₂ found none (front-taken s views allotment' room ∙ best .takes-most)
-    ∙ sym (found' .answer ∙ ap (λ (q : ℕ). found q (most-of s views)) z)
+    ap₂ answer-of none (front-taken s views allotment' room ∙ best .takes-most)
+    ∙ sym (found' .answer ∙ ap (λ (q : ℕ). answer-of q (most-of s views)) z)
 
 -- the numbers and the values of the answers
-number-found : (q t : ℕ) → number (found q t) ≡ q
+number-found : (q t : ℕ) → number (answer-of q t) ≡ q
 number-found zero t = refl
 number-found (suc q) t = refl
 
@@ -125,7 +123,7 @@ tells s views allotment surplus worth =
     let b = fits s views allotment surplus worth in
     record {
       search-number = number-found q (most-of s views);
-      search-values = λ z. ap (λ (k : ℕ). values (found k (most-of s views))) z;
+      search-values = λ z. ap (λ (k : ℕ). values (answer-of k (most-of s views))) z;
       check-number = number-told q b;
       check-values = λ z. ap (λ (k : ℕ). verdict-values (verdict-of k b)) z ∙ values-told b;
     }

@@ -13,23 +13,21 @@ use Rattle.campaigns.specs.Campaign.{whole}
 use Rattle.day.specs.declared.Day.{Day}
 use Rattle.day.specs.Day.{campaign, sound}
 use Rattle.questions.specs.Questions.{Question, question, first-failed}
+use Rattle.allotments.specs.Limits.{max-handed-in}
 use Rattle.allotments.specs.Allotment.{at, Allotment, takings, Greatest, Certified, certified}
 use Rattle.allotments.specs.Most.{most}
+use Rattle.matching.specs.Method.{By-falling-price}
 use Rattle.optimum.specs.declared.Optimum.{Optimum}
 use Rattle.optimum.specs.declared.Optimum.the-variants as optimum
 use Rattle.optimum.specs.declared.Verdict.{Verdict}
 use Rattle.optimum.specs.declared.Verdict.the-variants as verdict
 
--- the plan of a state
-abbrev pub price-of : Day → ℕ → ℕ
-price-of s i = campaign s i .price
+-- the plan of a state: its prices and whole plays
+abbrev pub plan-price : Day → ℕ → ℕ
+plan-price s i = campaign s i .price
 
-abbrev pub whole-of : Day → ℕ → ℕ
-whole-of s i = whole (campaign s i)
-
--- question 19: up to 256 views are handed in
-abbrev pub max-handed-in : ℕ
-max-handed-in = 256
+abbrev pub plan-whole : Day → ℕ → ℕ
+plan-whole s i = whole (campaign s i)
 
 -- the questions, where entries are lent for an allotment, for campaign figures and for view figures
 abbrev pub questions : Day → (views : List ℕ) → (for-allotment for-campaigns for-views : ℕ) → List Question
@@ -45,19 +43,19 @@ failed s views allotment surplus worth =
 
 -- an allotment with figures that fit it: `surplus` has the campaign figures and `worth` the view figures
 abbrev pub Fits : Day → (views allotment surplus worth : List ℕ) → Type 0
-Fits s views allotment surplus worth = Certified (s .count) (price-of s) (whole-of s) (length views) (at views)
+Fits s views allotment surplus worth = Certified (s .count) (plan-price s) (plan-whole s) (length views) (at views)
     (at allotment) (at surplus) (at worth)
 
 unfoldable pub fits : Day → (views allotment surplus worth : List ℕ) → Bool
-fits s views allotment surplus worth = certified (s .count) (price-of s) (whole-of s) (length views) (at views)
+fits s views allotment surplus worth = certified (s .count) (plan-price s) (plan-whole s) (length views) (at views)
     (at allotment) (at surplus) (at worth)
 
--- the greatest takings, as a number, and those of an allotment
+-- the greatest takings, as a number, and those of an allotment of m views
 abbrev pub most-of : Day → (views : List ℕ) → ℕ
-most-of s views = most (s .count) (price-of s) (whole-of s) (length views) (at views)
+most-of s views = most (s .count) (plan-price s) (plan-whole s) (length views) (at views)
 
-abbrev pub takings-of : Day → (views allotment : List ℕ) → ℕ
-takings-of s views allotment = takings (s .count) (price-of s) (length views) (at allotment)
+abbrev pub allotment-takings : Day → (m : ℕ) (allotment : List ℕ) → ℕ
+allotment-takings s m allotment = takings (s .count) (plan-price s) m (at allotment)
 
 -- an answer with takings: its number, that of the question that failed or 0, and its values
 abbrev pub number : Optimum → ℕ
@@ -69,13 +67,13 @@ values (optimum.Refused q) = q ∷ []
 values (optimum.Takings t) = t ∷ []
 
 -- the answer, from the number of the question that failed
-abbrev pub found : (question takings : ℕ) → Optimum
-found zero t = optimum.Takings t
-found (suc q) t = optimum.Refused (suc q)
+abbrev pub answer-of : (question takings : ℕ) → Optimum
+answer-of zero t = optimum.Takings t
+answer-of (suc q) t = optimum.Refused (suc q)
 
 -- that of the search
 abbrev pub search-answer : Day → (views allotment surplus worth : List ℕ) → Optimum
-search-answer s views allotment surplus worth = found (failed s views allotment surplus worth) (most-of s views)
+search-answer s views allotment surplus worth = answer-of (failed s views allotment surplus worth) (most-of s views)
 
 -- what the search leaves in a lent list: as many entries, as they were where a question failed, else from n on
 pub record Left-as-it-was (question n : ℕ) (before after : List ℕ) : Type 0 where
@@ -84,11 +82,14 @@ pub record Left-as-it-was (question n : ℕ) (before after : List ℕ) : Type 0 
   pub beyond : (j : ℕ) → n ≤ j → at after j ≡ at before j
 
 -- The search. Its answer is determined. Which of several greatest allotments it leaves is free, and so are the figures
--- that fit it: they fit, whatever comes out.
+-- that fit it: they fit, whatever comes out. The allotment is made by serving campaigns in falling price, until none is
+-- left unserved.
 pub record Searched (s : Day) (views allotment allotment' surplus surplus' worth worth' : List ℕ) (r : Optimum)
     : Type 0 where
   pub answer : r ≡ search-answer s views allotment surplus worth
   pub fit : failed s views allotment surplus worth ≡ 0 → fits s views allotment' surplus' worth' ≡ true
+  pub method : failed s views allotment surplus worth ≡ 0
+      → By-falling-price (s .count) (plan-price s) (plan-whole s) views allotment' 0
   pub in-allotment : Left-as-it-was (failed s views allotment surplus worth) (length views) allotment allotment'
   pub in-surplus : Left-as-it-was (failed s views allotment surplus worth) (s .count) surplus surplus'
   pub in-worth : Left-as-it-was (failed s views allotment surplus worth) (length views) worth worth'
@@ -98,7 +99,8 @@ abbrev pub takings-questions : Day → (allotment : List ℕ) → List Question
 takings-questions s allotment = question 1 (sound s) ∷ question 19 (leb (length allotment) max-handed-in) ∷ []
 
 unfoldable pub takings-answer : Day → (allotment : List ℕ) → Optimum
-takings-answer s allotment = found (first-failed (takings-questions s allotment)) (takings-of s allotment allotment)
+takings-answer s allotment =
+    answer-of (first-failed (takings-questions s allotment)) (allotment-takings s (length allotment) allotment)
 
 -- the check's answer: its number, as above, and its values, 1 where it accepts
 abbrev pub verdict-number : Verdict → ℕ
@@ -127,14 +129,14 @@ Accepts-exactly = (s : Day) (views allotment surplus worth : List ℕ)
     ↔ ((failed s views allotment surplus worth ≡ 0) × Fits s views allotment surplus worth)
 
 -- what it accepts is an allotment that none exceeds, and its takings are the most
-pub record Best (s : Day) (views allotment : List ℕ) : Type 0 where
-  pub allotted : Allotment (s .count) (whole-of s) (length views) (at views) (at allotment)
-  pub greatest : Greatest (s .count) (price-of s) (whole-of s) (length views) (at views) (at allotment)
-  pub takes-most : takings-of s views allotment ≡ most-of s views
+pub record Best-allotment (s : Day) (views allotment : List ℕ) : Type 0 where
+  pub allotted : Allotment (s .count) (plan-whole s) (length views) (at views) (at allotment)
+  pub greatest : Greatest (s .count) (plan-price s) (plan-whole s) (length views) (at views) (at allotment)
+  pub takes-most : allotment-takings s (length views) allotment ≡ most-of s views
 
 abbrev pub Accepted-is-best : Type 0
 Accepted-is-best = (s : Day) (views allotment surplus worth : List ℕ)
-    → checked s views allotment surplus worth ≡ verdict.Accepted → Best s views allotment
+    → checked s views allotment surplus worth ≡ verdict.Accepted → Best-allotment s views allotment
 
 -- and it accepts what the search leaves
 abbrev pub Search-accepted : Type 0

@@ -13,6 +13,9 @@ ghost use Rattle.allotments.specs.Allotment.{at};
 ghost use Rattle.optimum.specs.Optimum.{questions, Searched, takings-answer, checked};
 ghost use Rattle.optimum.specs.Contracts.{Divided};
 
+// Question 19: the contracts have it as `max-handed-in`.
+const MAX_HANDED_IN: usize = 256;
+
 // The number of the question that failed, or takings: of the search, the greatest.
 pub enum Optimum {
     Refused(u64),
@@ -58,7 +61,7 @@ fn first_failed<'a>(
         return 1;
     }
     let n = views.len();
-    if 256 < n {
+    if MAX_HANDED_IN < n {
         return 19;
     }
     if !all_within(head.count, views) {
@@ -124,7 +127,7 @@ pub fn takings<'a>(
         return Optimum::Refused(1);
     }
     let entries = allotment.len();
-    if 256 < entries {
+    if MAX_HANDED_IN < entries {
         return Optimum::Refused(19);
     }
     Optimum::Takings(certificate::takings(head.count, terms, entries, allotment))

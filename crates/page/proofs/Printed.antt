@@ -15,9 +15,9 @@ use Rattle.day.specs.Day.{sound}
 use Rattle.day.proofs.State.{sound-facts}
 use Rattle.page.specs.declared.Printing.the-variants.{Length, Refusal}
 use Rattle.page.specs.Page.{line-length, total-text, page}
-use Rattle.page.specs.Figures.{row-of, figures}
+use Rattle.page.specs.Figures.{page-row, figures}
 use Rattle.page.specs.Printing.{page-of, page-question, printing, printed}
-use Rattle.page.specs.Contracts.{Lays, lines-of}
+use Rattle.page.specs.Contracts.{Lays, campaign-lines}
 use Rattle.page.proofs.Lays.{lays-before}
 use Rattle.page.proofs.ReadBack.{page-length}
 use Rattle.page.proofs.Promises.{sound-fits}
@@ -31,7 +31,8 @@ module _ (s : Day) (d : List ℕ) where
     -- a line for each campaign, and the last
     pub long : length (page-of s) ≡ line-length * s .count + line-length
     unfolding figures
-    long = omega (arith, page-length (figures s) (sound-fits s e), length-table (s .count) (λ i. row-of (campaign s i)))
+    long =
+        omega (arith, page-length (figures s) (sound-fits s e), length-table (s .count) (λ i. page-row (campaign s i)))
 
     pub no-room : length d < line-length * s .count + line-length → (Refusal 18 ≡ printing s d) × (d ≡ printed s d)
     unfolding printing printed page-question first-failed
@@ -43,7 +44,7 @@ module _ (s : Day) (d : List ℕ) where
     -- spaces, the last line, and the others before it
     pub laid : {d₁ d₂ d₃ : List ℕ} (n : ℕ) → n ≡ line-length * s .count + line-length → n ≤ length d
         → d₁ ≡ replicate n 32 ++ drop n d → Lays d₁ d₂ (n - line-length) n (total-text (total-takings s) ++ (10 ∷ []))
-        → Lays d₂ d₃ 0 (line-length * s .count) (lines-of (s .count) (campaign s))
+        → Lays d₂ d₃ 0 (line-length * s .count) (campaign-lines (s .count) (campaign s))
         → (Length n ≡ printing s d) × (d₃ ≡ printed s d)
     unfolding printing printed page-question first-failed page figures
     laid {d₁} {d₂} {d₃} n k l c p q =

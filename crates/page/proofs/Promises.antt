@@ -20,8 +20,8 @@ use Rattle.day.specs.Day.{campaign, total-takings, total-budgets}
 use Rattle.day.specs.Day.{sound}
 use Rattle.day.proofs.State.{Sound, sound-facts, held-at}
 use Rattle.page.specs.declared.Printing.the-variants.{Length, Refusal}
-use Rattle.page.specs.Page.{Row, Row-fits, All-fit, Fits, read-page}
-use Rattle.page.specs.Figures.{row-of, figures}
+use Rattle.page.specs.Page.{Row, Row-fits, All-fit, Figures-fit, read-page}
+use Rattle.page.specs.Figures.{page-row, figures}
 use Rattle.page.specs.Printing.{page-of, page-question, printing, number, values, Tells}
 use Rattle.page.specs.Promises.{Promises}
 use Rattle.page.proofs.ReadBack.{page-length, page-back, page-ended}
@@ -41,7 +41,7 @@ table-fits (suc n) f h = (h 0 (omega arith), table-fits n (λ i. f (suc i)) (λ 
 
 module _ (s : Day) (h : Sound s) where
   -- of each campaign
-  pub row-fits : (i : ℕ) → i < s .count → Row-fits (row-of (campaign s i))
+  pub row-fits : (i : ℕ) → i < s .count → Row-fits (page-row (campaign s i))
   row-fits i l =
       let c = campaign s i in
       let k = held-at s h i l in
@@ -64,13 +64,13 @@ module _ (s : Day) (h : Sound s) where
             (λ i l. let k = held-at s h i l in spending-within (campaign s i) (k .price-least) (k .within-whole)),
       )
 
-pub sound-fits : (s : Day) → sound s ≡ true → Fits (figures s)
+pub sound-fits : (s : Day) → sound s ≡ true → Figures-fit (figures s)
 unfolding figures
 sound-fits s e =
     let h = sound-facts s e in
     record {
-      few = omega (arith, length-table (s .count) (λ i. row-of (campaign s i)), h .few);
-      rows-fit = table-fits (s .count) (λ i. row-of (campaign s i)) (row-fits s h);
+      few = omega (arith, length-table (s .count) (λ i. page-row (campaign s i)), h .few);
+      rows-fit = table-fits (s .count) (λ i. page-row (campaign s i)) (row-fits s h);
       takings-fit = omega (arith, takings-fit s h);
     }
 

@@ -13,7 +13,7 @@ use Rattle.lines.specs.Numeral.{numeral}
 use Rattle.lines.specs.Form.{bytes}
 use Rattle.lines.proofs.Plain.{plain, plain-at}
 use Rattle.page.specs.Page.{Row, Figures, line-length, flush, spaces, cents, row-text, total-text, row-lines}
-use Rattle.page.specs.Page.{page, Row-fits, All-fit, Fits, value}
+use Rattle.page.specs.Page.{page, Row-fits, All-fit, Figures-fit, number-in}
 use Rattle.page.specs.Page.{figure-in, read-row, with-row, read-lines, read-page}
 use Rattle.page.proofs.Texts.{flush-length, number-3, number-6, cents-11, cents-14, row-length, total-length}
 use Rattle.page.proofs.Texts.{row-plain, total-plain, value-number, value-amount}
@@ -51,18 +51,18 @@ module _ (i : ℕ) (r : Row) (k : i < 10 ^ 3) (h : Row-fits r) (m : List ℕ) wh
       let e₄ : row-text i r ++ m ≡ ((number ++ plays) ++ price) ++ (paid ++ (named ++ m)) = simp append-assoc in
       let e₅ : row-text i r ++ m ≡ (((number ++ plays) ++ price) ++ paid) ++ (named ++ m) = simp append-assoc in
       let c₂ : figure-in 4 9 (row-text i r ++ m) ≡ r .plays =
-      ap (figure-in 4 9) e₂ ∙ ap (value 0) (column-at number plays (price ++ (paid ++ (named ++ m))) 3 6 l₁ l₂)
+      ap (figure-in 4 9) e₂ ∙ ap (number-in 0) (column-at number plays (price ++ (paid ++ (named ++ m))) 3 6 l₁ l₂)
       ∙ value-number 4 9 (r .plays) (omega (arith, h .plays-fit)) in
       let c₃ : figure-in 10 20 (row-text i r ++ m) ≡ r .price =
-      ap (figure-in 10 20) e₃ ∙ ap (value 0) (column-at (number ++ plays) price (paid ++ (named ++ m)) 9 11 n₂ l₃)
+      ap (figure-in 10 20) e₃ ∙ ap (number-in 0) (column-at (number ++ plays) price (paid ++ (named ++ m)) 9 11 n₂ l₃)
       ∙ value-amount 10 20 (r .price) (omega (arith, h .price-fits)) in
       let c₄ : figure-in 21 34 (row-text i r ++ m) ≡ r .paid =
       ap (figure-in 21 34) e₄
-      ∙ ap (value 0) (column-at ((number ++ plays) ++ price) paid (named ++ m) 20 14 n₃ l₄)
+      ∙ ap (number-in 0) (column-at ((number ++ plays) ++ price) paid (named ++ m) 20 14 n₃ l₄)
       ∙ value-amount 21 34 (r .paid) (omega (arith, h .paid-fits)) in
       let c₅ : figure-in 35 40 (row-text i r ++ m) ≡ r .named =
       ap (figure-in 35 40) e₅
-      ∙ ap (value 0) (column-at (((number ++ plays) ++ price) ++ paid) named m 34 6 n₄ l₅)
+      ∙ ap (number-in 0) (column-at (((number ++ plays) ++ price) ++ paid) named m 34 6 n₄ l₅)
       ∙ value-number 35 40 (r .named) (omega (arith, h .named-fit)) in
       same-row r c₂ c₃ c₄ c₅
 
@@ -75,7 +75,7 @@ total-back t m h =
     let amount = flush 21 34 (cents t) in
     let e : total-text t ++ m ≡ front ++ (amount ++ (spaces 35 40 ++ m)) = simp append-assoc in
     ap (figure-in 21 34) e
-    ∙ ap (value 0)
+    ∙ ap (number-in 0)
     (column-at front amount (spaces 35 40 ++ m) 20 14 refl (flush-length 21 34 (cents t) (cents-14 t h)))
     ∙ value-amount 21 34 t (omega arith)
 
@@ -118,7 +118,7 @@ rows-length i (r ∷ rs) k h =
       rows-length (suc i) rs (omega arith) (h .1),
     )
 
-pub page-length : (f : Figures) → Fits f → length (page f) ≡ line-length * (length (f .rows) + 1)
+pub page-length : (f : Figures) → Figures-fit f → length (page f) ≡ line-length * (length (f .rows) + 1)
 unfolding page
 page-length f h =
     omega (
@@ -129,7 +129,7 @@ page-length f h =
       total-length (f .takings) (h .takings-fit),
     )
 
-pub page-back : (f : Figures) → Fits f → read-page (page f) ≡ f
+pub page-back : (f : Figures) → Figures-fit f → read-page (page f) ≡ f
 unfolding page read-page
 page-back f h =
     let n : length (page f) / line-length - 1 ≡ length (f .rows) = omega (arith, page-length f h) in
@@ -183,7 +183,7 @@ rows-ended i (r ∷ rs) m k h e =
 none-ended : Ended []
 none-ended i h = absurd (omega arith)
 
-pub page-ended : (f : Figures) → Fits f → (i : ℕ) → i < length (page f)
+pub page-ended : (f : Figures) → Figures-fit f → (i : ℕ) → i < length (page f)
     → eqb (getD (page f) i 0) 10 ≡ eqb (i % line-length) 40
 unfolding page
 page-ended f h =

@@ -15,7 +15,7 @@ use Rattle.lines.proofs.Digits.{digit-yes}
 use Rattle.lines.proofs.Numerals.{numeral-one, numeral-more}
 use Rattle.lines.proofs.Plain.{plain, append-plain, digit-plain, numeral-plain}
 use Rattle.print.proofs.Lengths.{len-within}
-use Rattle.page.specs.Page.{Row, Row-fits, flush, spaces, cents, row-text, total-text, value}
+use Rattle.page.specs.Page.{Row, Row-fits, flush, spaces, cents, row-text, total-text, number-in}
 
 -- Lengths.
 
@@ -100,58 +100,58 @@ total-plain t =
 
 -- Values.
 
-value-append : (a : ℕ) (l m : List ℕ) → value a (l ++ m) ≡ value (value a l) m
-unfolding value
+value-append : (a : ℕ) (l m : List ℕ) → number-in a (l ++ m) ≡ number-in (number-in a l) m
+unfolding number-in
 value-append a [] m = refl
 value-append a (b ∷ l) m = value-append (cond (is-digit b) (a * 10 + (b - 48)) a) l m
 
-value-spaces : (k a : ℕ) (t : List ℕ) → value a (replicate k 32 ++ t) ≡ value a t
-unfolding value is-digit
+value-spaces : (k a : ℕ) (t : List ℕ) → number-in a (replicate k 32 ++ t) ≡ number-in a t
+unfolding number-in is-digit
 value-spaces zero a t = refl
 value-spaces (suc k) a t = value-spaces k a t
 
-value-digit : (a d : ℕ) → d < 10 → value a ((48 + d) ∷ []) ≡ a * 10 + d
-unfolding value
+value-digit : (a d : ℕ) → d < 10 → number-in a ((48 + d) ∷ []) ≡ a * 10 + d
+unfolding number-in
 value-digit a d h =
     let e : 48 + d - 48 ≡ d = omega arith in
     simp (digit-yes (48 + d) (omega arith) (omega arith)) (ap (λ (x : ℕ). a * 10 + x) e)
 
 -- a digit by itself
-value-one : (n : ℕ) → n < 10 → value 0 (numeral n) ≡ n
-value-one n h = let e : 0 * 10 + n ≡ n = omega arith in ap (value 0) (numeral-one n h) ∙ value-digit 0 n h ∙ e
+value-one : (n : ℕ) → n < 10 → number-in 0 (numeral n) ≡ n
+value-one n h = let e : 0 * 10 + n ≡ n = omega arith in ap (number-in 0) (numeral-one n h) ∙ value-digit 0 n h ∙ e
 
-value-in : (k n : ℕ) → n < 10 ^ suc k → n < 2 ^ 64 → value 0 (numeral n) ≡ n
+value-in : (k n : ℕ) → n < 10 ^ suc k → n < 2 ^ 64 → number-in 0 (numeral n) ≡ n
 value-in zero n h b = value-one n h
 value-in (suc k) n h b = go (ltb n 10) refl (λ p. value-in k (n / 10) p (omega arith))
   where
-    go : (t : Bool) → ltb n 10 ≡ t → (n / 10 < 10 ^ suc k → value 0 (numeral (n / 10)) ≡ n / 10)
-        → value 0 (numeral n) ≡ n
+    go : (t : Bool) → ltb n 10 ≡ t → (n / 10 < 10 ^ suc k → number-in 0 (numeral (n / 10)) ≡ n / 10)
+        → number-in 0 (numeral n) ≡ n
     go true e ih = value-one n (ltb-true n 10 e)
     go false e ih =
         let one = (48 + n % 10) ∷ [] in
         let whole : n / 10 * 10 + n % 10 ≡ n = omega arith in
-        ap (value 0) (numeral-more n (ltb-false n 10 e) b) ∙ value-append 0 (numeral (n / 10)) one
-        ∙ ap (λ (x : ℕ). value x one) (ih (div-lt-iff-lt-mul (lit< tt) .1 (rw pow-suc at h)))
+        ap (number-in 0) (numeral-more n (ltb-false n 10 e) b) ∙ value-append 0 (numeral (n / 10)) one
+        ∙ ap (λ (x : ℕ). number-in x one) (ih (div-lt-iff-lt-mul (lit< tt) .1 (rw pow-suc at h)))
         ∙ value-digit (n / 10) (n % 10) (omega arith) ∙ whole
 
-value-cents : (n : ℕ) → n < 2 ^ 64 → value 0 (cents n) ≡ n
-unfolding cents value is-digit
+value-cents : (n : ℕ) → n < 2 ^ 64 → number-in 0 (cents n) ≡ n
+unfolding cents number-in is-digit
 value-cents n h =
     let tens = (48 + n / 10 % 10) ∷ [] in
     let ones = (48 + n % 10) ∷ [] in
     let whole : (n / 100 * 10 + n / 10 % 10) * 10 + n % 10 ≡ n = omega arith in
     value-append 0 (numeral (n / 100)) (46 ∷ (tens ++ ones))
-    ∙ ap (λ (x : ℕ). value x (tens ++ ones)) (value-in 19 (n / 100) (omega arith) (omega arith))
+    ∙ ap (λ (x : ℕ). number-in x (tens ++ ones)) (value-in 19 (n / 100) (omega arith) (omega arith))
     ∙ value-append (n / 100) tens ones
-    ∙ ap (λ (x : ℕ). value x ones) (value-digit (n / 100) (n / 10 % 10) (omega arith))
+    ∙ ap (λ (x : ℕ). number-in x ones) (value-digit (n / 100) (n / 10 % 10) (omega arith))
     ∙ value-digit (n / 100 * 10 + n / 10 % 10) (n % 10) (omega arith) ∙ whole
 
 -- a figure is read from its columns
-pub value-number : (a b n : ℕ) → n < 2 ^ 64 → value 0 (flush a b (numeral n)) ≡ n
+pub value-number : (a b n : ℕ) → n < 2 ^ 64 → number-in 0 (flush a b (numeral n)) ≡ n
 unfolding flush
 value-number a b n h =
     value-spaces (b + 1 - a - length (numeral n)) 0 (numeral n) ∙ value-in 19 n (omega arith) h
 
-pub value-amount : (a b n : ℕ) → n < 2 ^ 64 → value 0 (flush a b (cents n)) ≡ n
+pub value-amount : (a b n : ℕ) → n < 2 ^ 64 → number-in 0 (flush a b (cents n)) ≡ n
 unfolding flush
 value-amount a b n h = value-spaces (b + 1 - a - length (cents n)) 0 (cents n) ∙ value-cents n h

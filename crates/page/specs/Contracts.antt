@@ -6,8 +6,9 @@ use mathlib.Core.List.{List, _++_}
 use lib.ListN.{length, replicate}
 use Rattle.finite.specs.Finite.{table}
 use Rattle.campaigns.specs.declared.Campaign.{Campaign}
+use Rattle.campaigns.specs.Limits.{max-campaigns}
 use Rattle.page.specs.Page.{Row-fits, line-length, row-lines}
-use Rattle.page.specs.Figures.{row-of}
+use Rattle.page.specs.Figures.{page-row}
 
 -- the buffer d has spaces up to the place at, and the bytes w from there on
 pub record Spaced (d : List ℕ) (at : ℕ) (w : List ℕ) : Type 0 where
@@ -24,10 +25,10 @@ Line-room d to = (line-length ≤ to) × (to ≤ length d)
 
 -- the figures of the first n campaigns f fit, and there is room for their lines
 pub record Rows-room (n : ℕ) (f : ℕ → Campaign) (d : List ℕ) : Type 0 where
-  pub few : n ≤ 64
+  pub few : n ≤ max-campaigns
   pub room : line-length * n ≤ length d
-  pub all-fit : (i : ℕ) → i < n → Row-fits (row-of (f i))
+  pub all-fit : (i : ℕ) → i < n → Row-fits (page-row (f i))
 
 -- their lines
-abbrev pub lines-of : ℕ → (ℕ → Campaign) → List ℕ
-lines-of n f = row-lines 0 (table n (λ i. row-of (f i)))
+abbrev pub campaign-lines : ℕ → (ℕ → Campaign) → List ℕ
+campaign-lines n f = row-lines 0 (table n (λ i. page-row (f i)))

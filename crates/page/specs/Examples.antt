@@ -1,5 +1,5 @@
--- Pages as they read, computed: that of document 01's listing at its end, that of no campaigns, and two with the
--- greatest figures, those that the limits allow and those that the columns hold.
+-- Pages as they read, computed: that of document 01's listing at its end, that of no campaigns, and two with great
+-- figures, a campaign at the limits of document 01 and the greatest that the columns hold; three are read back.
 use mathlib.Core.Path.{_≡_}
 use mathlib.Core.List.{List, [], _∷_, _++_}
 use Prim.Native.Nat.{ℕ}
@@ -21,9 +21,11 @@ listing = record { rows = row 2 5 10 4 ∷ row 2 3 6 4 ∷ []; takings = 16 }
 abbrev pub nothing : Figures
 nothing = record { rows = []; takings = 0 }
 
+-- a campaign of the greatest price that spent the greatest budget, on a day of as many views as there may be
 abbrev pub limits : Figures
 limits = record { rows = row 2_000 1_000_000 2_000_000_000 4_096 ∷ []; takings = 2_000_000_000 }
 
+-- the greatest figures that the columns hold, with no space between them
 abbrev pub columns : Figures
 columns = record {
   rows = row 999_999 9_999_999_999 9_999_999_999_999 999_999 ∷ [];
@@ -36,7 +38,9 @@ pub record Examples : Type 0 where
       "  0     2       0.05          0.10     4" ∷
       "  1     2       0.03          0.06     4" ∷
       "total                         0.16      " ∷ [])
+  pub listing-back : read-page (page listing) ≡ listing
   pub nothing-is : page nothing ≡ text-of ("total                         0.00      " ∷ [])
+  pub nothing-back : read-page (page nothing) ≡ nothing
   pub limits-are : page limits ≡
       text-of (
       "  0  2000   10000.00   20000000.00  4096" ∷

@@ -11,8 +11,8 @@ use Rattle.page.specs.Page.{Row, Figures}
 abbrev pub price-shown : Campaign → ℕ
 price-shown c = c .price
 
-abbrev pub row-of : Campaign → Row
-row-of c = record { plays = c .plays; price = price-shown c; paid = spending c; named = c .named }
+abbrev pub page-row : Campaign → Row
+page-row c = record { plays = c .plays; price = price-shown c; paid = spending c; named = c .named }
 
 unfoldable pub figures : Day → Figures
-figures s = record { rows = table (s .count) (λ i. row-of (campaign s i)); takings = total-takings s }
+figures s = record { rows = table (s .count) (λ i. page-row (campaign s i)); takings = total-takings s }

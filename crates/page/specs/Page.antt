@@ -65,7 +65,7 @@ abbrev pub All-fit : List Row → Type 0
 All-fit [] = Unit {0}
 All-fit (r ∷ rs) = Row-fits r × All-fit rs
 
-pub record Fits (f : Figures) : Type 0 where
+pub record Figures-fit (f : Figures) : Type 0 where
   pub few : length (f .rows) ≤ 10 ^ 3
   pub rows-fit : All-fit (f .rows)
   pub takings-fit : f .takings < 10 ^ 13
@@ -73,13 +73,13 @@ pub record Fits (f : Figures) : Type 0 where
 -- Reading a page, given nothing but its bytes.
 
 -- the number whose digits stand in l, behind a; spaces and the point are passed over
-unfoldable pub value : ℕ → List ℕ → ℕ
-value a [] = a
-value a (b ∷ l) = value (cond (is-digit b) (a * 10 + (b - 48)) a) l
+unfoldable pub number-in : ℕ → List ℕ → ℕ
+number-in a [] = a
+number-in a (b ∷ l) = number-in (cond (is-digit b) (a * 10 + (b - 48)) a) l
 
 -- the figure in the columns from first to last of the line at the front of l
 abbrev pub figure-in : (first last : ℕ) → List ℕ → ℕ
-figure-in first last l = value 0 (take (last + 1 - first) (drop (first - 1) l))
+figure-in first last l = number-in 0 (take (last + 1 - first) (drop (first - 1) l))
 
 abbrev pub read-row : List ℕ → Row
 read-row l = record {

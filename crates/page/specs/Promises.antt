@@ -8,17 +8,17 @@ use lib.Dec.{eqb}
 use lib.ListN.{length, getD}
 use Rattle.day.specs.declared.Day.{Day}
 use Rattle.day.specs.Day.{sound}
-use Rattle.page.specs.Page.{Figures, line-length, Fits, page, read-page}
+use Rattle.page.specs.Page.{Figures, line-length, Figures-fit, page, read-page}
 use Rattle.page.specs.Figures.{figures}
 use Rattle.page.specs.Printing.{Tells}
 
 pub record Promises : Type 0 where
   -- the figures of every sound state fit
-  pub none-overflows : (s : Day) → sound s ≡ true → Fits (figures s)
+  pub none-overflows : (s : Day) → sound s ≡ true → Figures-fit (figures s)
   -- so many lines of 41 bytes, and byte 10 is the last of each and stands nowhere else
-  pub lines-are : (f : Figures) → Fits f → length (page f) ≡ line-length * (length (f .rows) + 1)
-  pub ends-are : (f : Figures) → Fits f → (i : ℕ) → i < length (page f)
+  pub lines-are : (f : Figures) → Figures-fit f → length (page f) ≡ line-length * (length (f .rows) + 1)
+  pub ends-are : (f : Figures) → Figures-fit f → (i : ℕ) → i < length (page f)
       → eqb (getD (page f) i 0) 10 ≡ eqb (i % line-length) 40
-  pub reads-back : (f : Figures) → Fits f → read-page (page f) ≡ f
-  pub prints-once : (f g : Figures) → Fits f → Fits g → page f ≡ page g → f ≡ g
+  pub reads-back : (f : Figures) → Figures-fit f → read-page (page f) ≡ f
+  pub prints-once : (f g : Figures) → Figures-fit f → Figures-fit g → page f ≡ page g → f ≡ g
   pub tells : (s : Day) (d : List ℕ) → Tells s d

@@ -14,9 +14,9 @@ ghost use Rattle.buffer.specs.Buffer.{Put, Room-for};
 ghost use Rattle.campaigns.specs.Campaign.{campaign-at};
 ghost use Rattle.day.specs.Day.{state-of};
 ghost use Rattle.page.specs.Page.{Row-fits, line-length, cents, row-text, total-text};
-ghost use Rattle.page.specs.Figures.{row-of};
+ghost use Rattle.page.specs.Figures.{page-row};
 ghost use Rattle.page.specs.Printing.{printing, printed};
-ghost use Rattle.page.specs.Contracts.{Lays, Line-room, Rows-room, lines-of};
+ghost use Rattle.page.specs.Contracts.{Lays, Line-room, Rows-room, campaign-lines};
 
 // What printing answers: the length of the page, or the number of the first question that fails.
 pub enum Printing {
@@ -53,9 +53,9 @@ fn put_cents(out: &mut [u8], to: usize, n: u64) -> usize
 
 // The line of campaign i, which ends at the place to: its columns end 38, 32, 21, 7 and 1 bytes before.
 fn put_row(out: &mut [u8], to: usize, i: u64, c: Campaign)
-    requires { ⌜ Line-room (now out) to × (i < 10 ^ 3) × Row-fits (row-of c) ⌝ }
+    requires { ⌜ Line-room (now out) to × (i < 10 ^ 3) × Row-fits (page-row c) ⌝ }
     ensures { λ _. ⌜ Lays (now (out .entry)) (now (out .exit)) (to - line-length) to
-        (row-text i (row-of c) ++ (10 ∷ [])) ⌝ }
+        (row-text i (page-row c) ++ (10 ∷ [])) ⌝ }
 {
     out[to - 1] = b'\n';
     put_number(out, to - 1, c.named);
@@ -69,7 +69,7 @@ fn put_row(out: &mut [u8], to: usize, i: u64, c: Campaign)
 fn put_rows<'a>(n: usize, terms: &'a [u32; 128], counts: &'a [u16; 256], out: &mut [u8])
     requires { ⌜ Rows-room n (campaign-at (now terms) (now counts)) (now out) ⌝ }
     ensures { λ _. ⌜ Lays (now (out .entry)) (now (out .exit)) 0 (line-length * n)
-        (lines-of n (campaign-at (now (terms .entry)) (now (counts .entry)))) ⌝ }
+        (campaign-lines n (campaign-at (now (terms .entry)) (now (counts .entry)))) ⌝ }
 {
     let mut i = n;
     while i > 0 {

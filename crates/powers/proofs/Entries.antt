@@ -9,7 +9,7 @@ use lib.Dec.{leb}
 use lib.ListN.{getD}
 use borrow.Author.Tests.{le-leb}
 use Rattle.finite.proofs.Tables.{getD-table}
-use Rattle.powers.specs.Power.{entry, row-of, grid, weight}
+use Rattle.powers.specs.Power.{entry, No-true-entry-is-0, row-of, grid, weight}
 
 -- a column of a row, and a place of the table
 pub row-at : (b e : ℕ) → e ≤ 32 → getD (row-of b) e 0 ≡ entry b e
@@ -28,8 +28,7 @@ pub entry-is : (b e : ℕ) → b ^ e ≤ 4_294_967_296 → entry b e ≡ b ^ e
 unfolding entry
 entry-is b e h = rw (le-leb (b ^ e) 4_294_967_296 h)
 
--- no true entry is 0, so an entry of 0 is above the limit
-pub entry-over : (b e : ℕ) → 1 ≤ b → entry b e ≡ 0 → leb (b ^ e) 4_294_967_296 ≡ false
+pub entry-over : No-true-entry-is-0
 unfolding entry
 entry-over b e p h = go (leb (b ^ e) 4_294_967_296) h
   where

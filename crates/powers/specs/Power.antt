@@ -1,5 +1,5 @@
 -- Powers as the table holds them, and the weights made of them, at depth k and width d.
-use mathlib.Core.Bool.{cond, _&&_}
+use mathlib.Core.Bool.{false, cond, _&&_}
 use mathlib.Core.List.{List}
 use mathlib.Core.Path.{_≡_}
 use Prim.Native.Nat.{ℕ, _+_, _-_, _*_, _^_, _≤_}
@@ -11,13 +11,18 @@ use Rattle.powers.specs.Limits.{max-depth, max-width, max-power}
 unfoldable pub entry : ℕ → ℕ → ℕ
 entry base exponent = cond (leb (base ^ exponent) max-power) (base ^ exponent) 0
 
+-- no true entry is 0: where a width's entry is 0, its power is above 4,294,967,296
+abbrev pub No-true-entry-is-0 : Type 0
+No-true-entry-is-0 =
+    (base exponent : ℕ) → 1 ≤ base → entry base exponent ≡ 0 → leb (base ^ exponent) max-power ≡ false
+
 -- one column for each exponent from 0 to 32
 unfoldable pub row-of : ℕ → List ℕ
-row-of base = table 33 (entry base)
+row-of base = table (max-depth + 1) (entry base)
 
 -- one row for each width from 1 to 16
 unfoldable pub grid : List (List ℕ)
-grid = table 16 (λ i. row-of (i + 1))
+grid = table max-width (λ i. row-of (i + 1))
 
 -- the entry for a width and an exponent, or 0 where the table has none
 unfoldable pub listed : ℕ → ℕ → ℕ

@@ -1,12 +1,12 @@
 -- Any blocks can be handed to a new stream: what it hands back is written out from the definitions, with room for every
 -- answer, and the theorem for any chunking says what was written. Of the day in two blocks the answers are computed
--- line by line.
-use mathlib.Core.Path.{_≡_, refl, sym, ap, _∙_, subst, subst⁻¹}
+-- line by line, and of the block of which a part is taken the bytes.
+use mathlib.Core.Path.{_≡_, refl, sym, ap, ap₂, _∙_, subst, subst⁻¹}
 use mathlib.Core.Bool.{Bool, cond}
 use mathlib.Core.List.{List, [], _∷_, _++_}
 use Prim.Native.Nat.{ℕ, suc, _+_, _-_, _≤_}
 use native.Mathlib.Omega.{arith}
-use lib.ListN.{length, take, replicate, length-append}
+use lib.ListN.{length, take, drop, replicate, length-append}
 use lib.Seq.{take-length, take-append-seam, drop-length}
 use borrow.Author.Tests.{le-leb}
 use Rattle.finite.specs.Finite.{sum, count, every, table}
@@ -19,23 +19,26 @@ use Rattle.lines.specs.Numeral.{numeral, numeral-in}
 use Rattle.lines.specs.Form.{bytes, template, in-slot, in-range, text, filled, slot-text, names-text, piece, numbers}
 use Rattle.lines.specs.Form.{numbers-after}
 use Rattle.lines.specs.Reading.{reading, first-of, forms, held-or, ended-or, made, numbers-of, rest-of, step, strip}
-use Rattle.lines.specs.Reading.{slot-at, names-at, numeral-at, digits, is-digit}
+use Rattle.lines.specs.Reading.{slot-at, set-at, numeral-at, digits, is-digit}
 use Rattle.writer.specs.Writing.{line}
 use Rattle.audit.specs.Sound.{sound-record}
 use Rattle.day.specs.Day.{blank, total-takings, total-claim, total-budgets, sound}
 use Rattle.questions.specs.Questions.{first-failed, width-holds}
 use Rattle.day.specs.Calls.{call}
 use Rattle.reply.specs.Reply.{reply, reply-text, next, outcome, tallies}
-use Rattle.reply.specs.Session.{Session, after-byte, fed, consumed-count, upto}
+use Rattle.reply.specs.Session.{Session, reply-room, after-byte, fed, consumed-count, upto}
 use Rattle.reply.proofs.Sessions.{fed-append}
 use Rattle.stream.specs.declared.feed.Stream.{Stream}
+use Rattle.stream.specs.declared.feed.Fed.{Fed}
 use Rattle.stream.specs.Stream.{finished, new-stream, session-of, silent, stream-of, handed-back, answered-in}
-use Rattle.stream.specs.Stream.{Comes-to, Feeds, Finishes}
+use Rattle.stream.specs.Stream.{consumed-bytes, Comes-to, Feeds, Finishes}
 use Rattle.stream.specs.Chunking.{joined, Plain, All-plain, after-lines, replies, last-reply, Split}
-use Rattle.stream.specs.Chunking.{Feeding, Takes, stream-after}
+use Rattle.stream.specs.Chunking.{Feeding, In-blocks, stream-after}
 use Rattle.stream.proofs.Chunking.{fed-said, fed-lines, any-chunking}
-use Rattle.programs.specs.Examples.{whole-of, blocks-of, Any-blocks}
-use Rattle.programs.specs.Examples.{Handed, lines-of, first-block, second-block, answers, Day-in-two-blocks}
+use Rattle.programs.specs.Examples.{in-one, blocks-of, Any-blocks}
+use Rattle.stream.specs.Listing.{lines-of}
+use Rattle.programs.specs.Examples.{Handed, first-block, second-block, answers, Day-in-two-blocks, two-lines}
+use Rattle.programs.specs.Examples.{In-part}
 
 -- What is handed back.
 
@@ -92,7 +95,7 @@ feedings d k [] = []
 feedings d k (b ∷ bs) =
     record {
       block = b;
-      later = whole-of bs;
+      later = in-one bs;
       before = d;
       after = answered-in (fed (session-of k) b) d;
       back = handed-back (fed (session-of k) b) (length b);
@@ -113,15 +116,15 @@ answers-add k b m =
     ∙ ap (λ (s : Session). length (y .output) + length (fed s m .output)) (sym (session-kept y))
 
 takes-all : (d : List ℕ) (k : Stream) (bs : List (List ℕ))
-    → length (fed (session-of k) (whole-of bs) .output) + 16384 ≤ length d → Takes k (whole-of bs) (feedings d k bs)
+    → length (fed (session-of k) (in-one bs) .output) + 16384 ≤ length d → In-blocks k (in-one bs) (feedings d k bs)
 takes-all d k [] h = refl
 takes-all d k (b ∷ bs) h =
     let n = stream-of (fed (session-of k) b) in
-    let m = whole-of bs in
+    let m = in-one bs in
     let q = answers-add k b m in (
       refl,
       feeds-all k b d (omega (arith, h, q)),
-      subst⁻¹ (λ (l : List ℕ). Takes n (l ++ m) (feedings d n bs)) (drop-length b)
+      subst⁻¹ (λ (l : List ℕ). In-blocks n (l ++ m) (feedings d n bs)) (drop-length b)
           (takes-all d n bs (omega (arith, h, q))),
     )
 
@@ -130,7 +133,7 @@ any-blocks bs i d room =
     let fs = feedings d new-stream bs in
     let z = finished (session-of (stream-after new-stream fs)) in
     let f = fed-lines blank [] (i .lines) (i .rest) (i .lines-plain) (i .rest-plain) in
-    let all : length (fed (session-of new-stream) (whole-of bs) .output) + 16384 ≤ length d =
+    let all : length (fed (session-of new-stream) (in-one bs) .output) + 16384 ≤ length d =
     subst (λ (l : List ℕ). length (fed (session-of new-stream) l .output) + 16384 ≤ length d) (i .whole)
     (subst⁻¹ (λ (y : Session). length (y .output) + 16384 ≤ length d) f room) in
     let some : 16384 ≤ length d = omega (arith, room) in
@@ -143,7 +146,7 @@ any-blocks bs i d room =
       after = answered-in z d;
       back = handed-back z 0;
       finishes = h;
-      writes = any-chunking (whole-of bs) fs t d (answered-in z d) (handed-back z 0) some h
+      writes = any-chunking (in-one bs) fs t d (answered-in z d) (handed-back z 0) some h
           (i .lines) (i .rest) (i .lines-plain) (i .rest-plain) (i .whole);
     }
 
@@ -157,11 +160,11 @@ day-plain : All-plain day-lines × Plain (bytes "(close)")
 unfolding upto
 day-plain = ((refl, (refl, (refl, (refl, tt)))), refl)
 
-day-joined : joined day-lines (bytes "(close)") ≡ whole-of (first-block ∷ second-block ∷ [])
+day-joined : joined day-lines (bytes "(close)") ≡ in-one (first-block ∷ second-block ∷ [])
 unfolding joined
 day-joined = refl
 
-abbrev day-split : Split (whole-of (first-block ∷ second-block ∷ []))
+abbrev day-split : Split (in-one (first-block ∷ second-block ∷ []))
 day-split = record {
   lines = day-lines;
   rest = bytes "(close)";
@@ -172,7 +175,7 @@ day-split = record {
 
 day-answers : replies blank day-lines ++ last-reply (after-lines blank day-lines) (bytes "(close)") ≡ answers
 unfolding replies after-lines joined reply reply-text next outcome tallies reading first-of forms held-or ended-or
-    made numbers-of rest-of step strip slot-at names-at numeral-at digits is-digit template in-slot in-range line text
+    made numbers-of rest-of step strip slot-at set-at numeral-at digits is-digit template in-slot in-range line text
     filled slot-text names-text piece numbers numeral numeral-in numbers-after call first-failed sound sound-record
     blank sum count every table within size member width-holds weight share whole claim total-takings total-claim
     total-budgets sound-plan priced counted uncounted empty sound-campaign best choice collect without
@@ -189,3 +192,29 @@ day-in-two-blocks d h =
     sym (length-append (replies blank day-lines) last) ∙ ap (λ (w : List ℕ). length w) day-answers ∙ answers-length in
     subst (λ (w : List ℕ). Handed (first-block ∷ second-block ∷ []) d w) day-answers
     (any-blocks (first-block ∷ second-block ∷ []) day-split d (omega (arith, n, h)))
+
+-- A block in part.
+
+taken : (room n : ℕ) (w : List ℕ) (d e : List ℕ) (r : Fed) → consumed-count room (session-of new-stream) two-lines ≡ n
+    → fed (session-of new-stream) (take n two-lines) .output ≡ w → length d ≡ room → Feeds new-stream two-lines d e r
+    → (r .consumed ≡ n) × (take (r .written) e ≡ w)
+taken room n w d e r count said same f =
+    let x = session-of new-stream in
+    let here : consumed-count (length d) x two-lines ≡ n =
+    ap (λ (i : ℕ). consumed-count i x two-lines) same ∙ count in
+    let y = fed x (consumed-bytes x two-lines d) in
+    let out : y .output ≡ w = ap (λ (i : ℕ). fed x (take i two-lines) .output) here ∙ said in (
+      ap (λ (z : Fed). z .consumed) (f .back-is) ∙ here,
+      ap₂ (λ (i : ℕ) (l : List ℕ). take i l) (ap (λ (z : Fed). z .written) (f .back-is)) (f .out-is)
+          ∙ take-append-seam (y .output) (drop (length (y .output)) d) ∙ out,
+    )
+
+pub in-part : In-part
+unfolding fed after-byte consumed-count joined reply reply-text next outcome reading first-of forms held-or ended-or
+    made numbers-of rest-of step strip slot-at set-at numeral-at digits is-digit template in-slot line text filled
+    slot-text piece numbers numeral numeral-in numbers-after
+in-part = record {
+  first-alone = λ d e r. taken reply-room 11 _ d e r refl refl;
+  one-byte-short = λ d e r. taken (reply-room + 12) 11 _ d e r refl refl;
+  both = λ d e r. taken (reply-room + 13) 22 _ d e r refl refl;
+}

@@ -51,14 +51,11 @@ use Rattle.reply.specs.Reply.Request.{makes, fails}
 use Rattle.reply.specs.Contracts.{answer-in-range}
 use Rattle.reply.proofs.Replies.{Said, line-said}
 use Rattle.reply.proofs.Ranges.{said-range}
-use Rattle.reply.proofs.Sessions.{cut-next}
-use Rattle.reply.specs.Session.{Session, fed, upto}
-use Rattle.stream.specs.Stream.{finished, new-stream, session-of, silent}
-use Rattle.stream.specs.Chunking.{after-lines, replies, Split}
-use Rattle.stream.proofs.Chunking.{fed-lines}
+use Rattle.reply.specs.Session.{upto}
+use Rattle.stream.specs.Chunking.{after-lines, replies}
 use Rattle.programs.specs.Lines.{with-request, calls-of, with-exchange, exchanges, first-line, is-plan, is-ok}
 use Rattle.programs.specs.Lines.{price-in, of-reading, sum-after, sum-over, sum-paid, day-of}
-use Rattle.programs.specs.Lines.{Lines-keep-the-demands, with-rest, all-lines, Rest-is-a-line}
+use Rattle.programs.specs.Lines.{Lines-keep-the-demands, Rest-is-a-line}
 
 -- The first line of an answer.
 
@@ -134,16 +131,16 @@ exchanges-are s (l ∷ ls) =
 none-more : (p : ℕ) → p ≡ p + 0
 none-more p = omega arith
 
-refused-entered : (h : History) (c : Call) (q : ℕ) → entered h (record { made = c; answer = refusing (suc q) }) ≡ h
+pub refused-entered : (h : History) (c : Call) (q : ℕ) → entered h (record { made = c; answer = refusing (suc q) }) ≡ h
 refused-entered h c q =
     ap (λ (b : Bool). cond b (with-call h c (refusing (suc q))) h) (ne-eqb (suc q) 0 (λ e. omega arith))
 
 -- the day with a line more
-abbrev stepped : History → Request → Answer → History
+abbrev pub stepped : History → Request → Answer → History
 stepped h (makes c) a = entered h (record { made = c; answer = a })
 stepped h (fails q) a = h
 
-continued-step : (h : History) (r : Request) (a : Answer) (xs : List Exchange)
+pub continued-step : (h : History) (r : Request) (a : Answer) (xs : List Exchange)
     → continued h (with-exchange r a xs) ≡ continued (stepped h r a) xs
 unfolding continued
 continued-step h (makes c) a xs = refl
@@ -340,25 +337,3 @@ replies-last s (k ∷ ls) l =
 pub rest-is-a-line : Rest-is-a-line
 rest-is-a-line s ls [] = append-nil (replies s ls)
 rest-is-a-line s ls (b ∷ l) = replies-last s ls (b ∷ l)
-
--- The state at the end of an input.
-after-last : (s : Day) (ls : List (List ℕ)) (l : List ℕ) → next (after-lines s ls) l ≡ after-lines s (ls ++ (l ∷ []))
-unfolding after-lines
-after-last s [] l = refl
-after-last s (k ∷ ls) l = after-last (next s k) ls l
-
-state-after : (s : Day) (ls : List (List ℕ)) (rest : List ℕ)
-    → finished (record { day = after-lines s ls; pending = take 201 rest; output = [] }) .day
-    ≡ after-lines s (with-rest ls rest)
-unfolding finished
-state-after s ls [] = refl
-state-after s ls (b ∷ l) = cut-next (after-lines s ls) (b ∷ l) ∙ after-last s ls (b ∷ l)
-
-pub state-at-end : (input : List ℕ) (i : Split input) → finished (silent (fed (session-of new-stream) input)) .day
-    ≡ after-lines blank (all-lines i)
-state-at-end input i =
-    let x = session-of new-stream in
-    ap (λ (m : List ℕ). finished (silent (fed x m)) .day) (sym (i .whole))
-    ∙ ap (λ (y : Session). finished (silent y) .day) (fed-lines blank [] (i .lines) (i .rest) (i .lines-plain)
-    (i .rest-plain))
-    ∙ state-after blank (i .lines) (i .rest)

@@ -1,5 +1,5 @@
 -- That the theorem for any chunking has something to speak of: every list of blocks can be handed to a new stream, and
--- a day in two blocks, with the answers that it gets.
+-- a day in two blocks, with the answers that it gets; a block of which a part is taken for want of room.
 use mathlib.Core.Path.{_≡_}
 use mathlib.Core.List.{List, [], _∷_, _++_}
 use Prim.Native.Nat.{ℕ, _+_, _≤_}
@@ -9,14 +9,15 @@ use Rattle.lines.specs.Form.{bytes}
 use Rattle.day.specs.Day.{blank}
 use Rattle.reply.specs.Session.{reply-room}
 use Rattle.stream.specs.declared.feed.Fed.{Fed}
-use Rattle.stream.specs.Stream.{new-stream, Finishes}
+use Rattle.stream.specs.Stream.{new-stream, Feeds, Finishes}
+use Rattle.stream.specs.Listing.{lines-of}
 use Rattle.stream.specs.Chunking.{joined, after-lines, replies, last-reply, Split}
-use Rattle.stream.specs.Chunking.{Feeding, Takes, stream-after, all-written}
+use Rattle.stream.specs.Chunking.{Feeding, In-blocks, stream-after, all-written}
 
 -- the blocks as one input
-abbrev pub whole-of : List (List ℕ) → List ℕ
-whole-of [] = []
-whole-of (b ∷ bs) = b ++ whole-of bs
+abbrev pub in-one : List (List ℕ) → List ℕ
+in-one [] = []
+in-one (b ∷ bs) = b ++ in-one bs
 
 abbrev pub blocks-of : List Feeding → List (List ℕ)
 blocks-of [] = []
@@ -26,7 +27,7 @@ blocks-of (f ∷ fs) = f .block ∷ blocks-of fs
 pub record Handed (blocks : List (List ℕ)) (d w : List ℕ) : Type 0 where
   pub feedings : List Feeding
   pub blocks-are : blocks-of feedings ≡ blocks
-  pub takes : Takes new-stream (whole-of blocks) feedings
+  pub takes : In-blocks new-stream (in-one blocks) feedings
   pub after : List ℕ
   pub back : Fed
   pub finishes : Finishes (stream-after new-stream feedings) d after back
@@ -35,14 +36,9 @@ pub record Handed (blocks : List (List ℕ)) (d w : List ℕ) : Type 0 where
 -- with room for all answers any blocks can be handed in
 abbrev pub Any-blocks : Type 0
 Any-blocks =
-    (blocks : List (List ℕ)) (i : Split (whole-of blocks)) (d : List ℕ)
+    (blocks : List (List ℕ)) (i : Split (in-one blocks)) (d : List ℕ)
     → length (replies blank (i .lines)) + reply-room ≤ length d
     → Handed blocks d (replies blank (i .lines) ++ last-reply (after-lines blank (i .lines)) (i .rest))
-
--- lines of text, each ended by byte 10
-abbrev pub lines-of : List String → List (List ℕ)
-lines-of [] = []
-lines-of (s ∷ ss) = bytes s ∷ lines-of ss
 
 -- a day: a block that ends within its second line, and one whose last line is not ended
 abbrev pub first-block : List ℕ
@@ -61,3 +57,19 @@ answers =
 
 abbrev pub Day-in-two-blocks : Type 0
 Day-in-two-blocks = (d : List ℕ) → 65536 ≤ length d → Handed (first-block ∷ second-block ∷ []) d answers
+
+-- a block of two lines, each answered by 13 bytes
+abbrev pub two-lines : List ℕ
+two-lines = joined (lines-of ("(view 0 0)" ∷ "(view 1 0)" ∷ [])) []
+
+-- a new stream that is handed them with a buffer of so many bytes takes so many of theirs, and writes these lines
+abbrev pub Takes : (room taken : ℕ) → List String → Type 0
+Takes room taken w =
+    (d e : List ℕ) (r : Fed) → length d ≡ room → Feeds new-stream two-lines d e r
+    → (r .consumed ≡ taken) × (take (r .written) e ≡ joined (lines-of w) [])
+
+-- behind the first answer there is no room for another, whatever it is; with as many bytes more there is
+pub record In-part : Type 0 where
+  pub first-alone : Takes reply-room 11 ("(refused 17)" ∷ [])
+  pub one-byte-short : Takes (reply-room + 12) 11 ("(refused 17)" ∷ [])
+  pub both : Takes (reply-room + 13) 22 ("(refused 17)" ∷ "(refused 17)" ∷ [])

@@ -27,7 +27,7 @@ use Rattle.refinement.specs.Days.{Day-agrees}
 use Rattle.reply.specs.Reply.{Request, request-of, outcome, reply, next}
 use Rattle.reply.specs.Reply.Request.{makes, fails}
 use Rattle.reply.specs.Session.{upto}
-use Rattle.stream.specs.Chunking.{after-lines, replies, last-reply, Split}
+use Rattle.stream.specs.Chunking.{after-lines, replies, last-reply, with-rest}
 
 -- The calls.
 
@@ -146,16 +146,7 @@ pub record Of-lines (ls : List (List ℕ)) : Type 0 where
 abbrev pub Lines-keep-the-demands : Type 0
 Lines-keep-the-demands = (ls : List (List ℕ)) → Of-lines ls
 
--- a rest that has bytes is a last line
-abbrev pub with-rest : List (List ℕ) → (rest : List ℕ) → List (List ℕ)
-with-rest ls [] = ls
-with-rest ls (b ∷ l) = ls ++ ((b ∷ l) ∷ [])
-
--- the lines of an input, the last of which may lack its byte 10
-abbrev pub all-lines : {input : List ℕ} → Split input → List (List ℕ)
-all-lines i = with-rest (i .lines) (i .rest)
-
--- so that what a program tells over lines and a rest is what it tells over one list of lines
+-- What a program tells over lines and a rest is what it tells over one list of lines.
 abbrev pub Rest-is-a-line : Type 0
 Rest-is-a-line =
     (s : Day) (ls : List (List ℕ)) (rest : List ℕ)

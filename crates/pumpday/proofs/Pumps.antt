@@ -1,4 +1,4 @@
--- What parts of an input, taken one after the other, add up to. `Tells` says what a teller's stream has come to, and
+-- What parts of an input, taken one after the other, add up to. `Told` says what a teller's stream has come to, and
 -- that its answers were told; since feeding composes, a part and then a part is a part (`tells-more`), a block is the
 -- sum of its parts, and `Reached` carries the sum over the blocks that reads gave. At the end of input the theorem for
 -- any input turns what was told into the answers to the lines (`ran-through`).
@@ -14,28 +14,27 @@ use Rattle.day.specs.Day.{blank}
 use Rattle.reply.specs.Session.{Session, reply-room, fed, consumed-count}
 use Rattle.stream.specs.declared.feed.Fed.{Fed}
 use Rattle.stream.specs.Stream.{finished, session-of, silent, Feeds}
-use Rattle.stream.specs.Chunking.{Split}
-use Rattle.stream.proofs.Chunking.{front-said, session-next, split, any-input}
+use Rattle.stream.specs.Chunking.{Split, all-lines}
+use Rattle.stream.proofs.Chunking.{front-said, session-next, split, any-input, state-at-end}
 use Rattle.stream.proofs.Parts.{stream-more, said-more, part-fed, part-upto, part-inside, part-further, taken-further}
-use Rattle.programs.specs.Lines.{all-lines}
-use Rattle.programs.proofs.Lines.{lines-keep-the-demands, rest-is-a-line, state-at-end}
+use Rattle.programs.proofs.Lines.{lines-keep-the-demands, rest-is-a-line}
 use Rattle.wire.specs.declared.Wire.{Wire}
-use Rattle.wire.specs.Wires.{counted, Reads, Writes, input-of}
+use Rattle.wire.specs.Wires.{counted-on, Reads, Writes, input-of}
 use Rattle.wire.proofs.Blocks as reads
 use Rattle.wire.proofs.Blocks.{counted-more, writes-none, writes-more}
 use Rattle.pumpday.specs.declared.teller.Turn.{Turn}
 use Rattle.pumpday.specs.declared.teller.Teller.{Teller}
-use Rattle.pumpday.specs.Tells.{new-teller, Tells}
+use Rattle.pumpday.specs.Telling.{new-teller, Told}
 use Rattle.pumpday.specs.Pump.{Runs}
 use Rattle.pumpday.specs.Contracts.{held, by, Part, Whole, Taken}
 
 -- nothing taken
-pub tells-none : (w : Teller) → w .wire .told < 2 ^ 64 → Tells w (by w []) w
+pub tells-none : (w : Teller) → w .wire .told < 2 ^ 64 → Told w (by w []) w
 unfolding fed
 tells-none w h = record { stream-is = refl; writes = writes-none (w .wire) h }
 
 -- l, and then m
-tells-more : {w v u : Teller} (l m : List ℕ) → Tells w (by w l) v → Tells v (by v m) u → Tells w (by w (l ++ m)) u
+tells-more : {w v u : Teller} (l m : List ℕ) → Told w (by w l) v → Told v (by v m) u → Told w (by w (l ++ m)) u
 tells-more {w} {v} {u} l m t s = record {
   stream-is = stream-more (held w) l m (held v) (t .stream-is) (held u) (s .stream-is);
   writes =
@@ -63,12 +62,12 @@ module _ (w : Teller) (l d e : List ℕ) (from : ℕ) (r : Fed) (h : from ≤ le
   pub part-next : session-of (r .stream) ≡ silent (by w (take (from + r .consumed - from) (drop from l)))
   part-next = session-next fed-part ∙ sym (ap silent part-taken)
 
-  pub part-is : (v : Teller) → Tells w (by w (take (from + r .consumed - from) (drop from l))) v
+  pub part-is : (v : Teller) → Told w (by w (take (from + r .consumed - from) (drop from l))) v
       → Part w l d from (record { teller = v; from = from + r .consumed })
   part-is v q = record {
     upto-is = part-upto (w .stream) l d e from r h f;
     inside = part-inside (w .stream) l d e from r h f;
-    tells = subst (λ (y : Session). Tells w y v) part-taken q;
+    tells = subst (λ (y : Session). Told w y v) part-taken q;
   }
 
 -- The block, part by part.
@@ -76,14 +75,14 @@ module _ (l d : List ℕ) (t r : Turn) (p : Part (t .teller) l d (t .from) r) wh
   pub part-less : t .from < length l → reply-room ≤ length d → t .from < r .from
   part-less = part-further (t .teller .stream) l d (t .from) (r .from) (p .upto-is)
 
-  pub part-more : (w : Teller) → Tells w (by w (take (t .from) l)) (t .teller)
-      → Tells w (by w (take (r .from) l)) (r .teller)
+  pub part-more : (w : Teller) → Told w (by w (take (t .from) l)) (t .teller)
+      → Told w (by w (take (r .from) l)) (r .teller)
   part-more w h =
-      subst (λ (m : List ℕ). Tells w (by w m) (r .teller))
+      subst (λ (m : List ℕ). Told w (by w m) (r .teller))
       (taken-further (t .teller .stream) l d (t .from) (r .from) (p .upto-is))
       (tells-more (take (t .from) l) _ h (p .tells))
 
-pub stopped : (w : Teller) (l : List ℕ) {t : Turn} → t .from ≤ length l → Tells w (by w (take (t .from) l)) (t .teller)
+pub stopped : (w : Teller) (l : List ℕ) {t : Turn} → t .from ≤ length l → Told w (by w (take (t .from) l)) (t .teller)
     → t .teller .wire .sent ≡ false → Whole w l t
 stopped w l {t} h o e = record { inside = h; tells = o; all = λ s. absurd (never (t .teller .wire .sent) e s) }
 
@@ -110,7 +109,7 @@ pub record Reached (w : Teller) (turns : ℕ) : Type 0 where
   pub reads : reads.Reached (w .wire) blocks turns
   pub failed-ends : w .wire .failed ≡ true → w .wire .ended ≡ true
   pub stream-is : held w ≡ silent (by new-teller (input-of blocks))
-  pub told-is : w .wire .told ≡ counted 0 (by new-teller (input-of blocks) .output)
+  pub told-is : w .wire .told ≡ counted-on 0 (by new-teller (input-of blocks) .output)
 
 pub reached-none : Reached new-teller (2 ^ 64 - 1)
 unfolding fed
@@ -129,18 +128,18 @@ module _ {w : Teller} {turns : ℕ} (a : Reached w turns) {l : List ℕ} {v : Te
   abbrev given : List ℕ
   given = take (r .n) l
 
-  more-got : v .wire .got ≡ counted 0 (input ++ given)
+  more-got : v .wire .got ≡ counted-on 0 (input ++ given)
   more-got = r .writes .got-is ∙ reads.more-got (a .reads) (r .reads)
 
   more-stream : v .wire .sent ≡ true → held v ≡ silent (by new-teller (input ++ given))
   more-stream s = stream-more (held new-teller) input given (held w) (a .stream-is) (held v) (r .stream-is s)
 
-  more-told : v .wire .sent ≡ true → v .wire .told ≡ counted 0 (by new-teller (input ++ given) .output)
+  more-told : v .wire .sent ≡ true → v .wire .told ≡ counted-on 0 (by new-teller (input ++ given) .output)
   more-told s =
       r .writes .told-is
-      ∙ ap₂ counted (r .reads .told-is ∙ a .told-is) (r .told-is s)
+      ∙ ap₂ counted-on (r .reads .told-is ∙ a .told-is) (r .told-is s)
       ∙ counted-more 0 (by new-teller input .output) (by w given .output)
-      ∙ ap (counted 0) (said-more (held new-teller) input given (held w) (a .stream-is))
+      ∙ ap (counted-on 0) (said-more (held new-teller) input given (held w) (a .stream-is))
 
   -- whether the read gave nothing, whatever was written after it
   as-read : {b : Bool} → v .wire .ended ≡ b → r .read .ended ≡ b
@@ -174,19 +173,19 @@ module _ {w : Teller} {turns : ℕ} (a : Reached w turns) {l : List ℕ} {v : Te
       }
 
   -- the last read gave nothing
-  pub ran-through : v .wire .sent ≡ true → v .wire .ended ≡ true → {u : Teller} → Tells v (finished (held v)) u → Runs u
+  pub ran-through : v .wire .sent ≡ true → v .wire .ended ≡ true → {u : Teller} → Told v (finished (held v)) u → Runs u
   ran-through s e {u} q =
       let none = reads.no-more (a .reads) (r .reads) (as-read e) in
       let x = by new-teller input in
       let i : Split input = split input in
-      let told : v .wire .told ≡ counted 0 (x .output) =
-      more-told s ∙ ap (λ (m : List ℕ). counted 0 (by new-teller m .output)) none in
+      let told : v .wire .told ≡ counted-on 0 (x .output) =
+      more-told s ∙ ap (λ (m : List ℕ). counted-on 0 (by new-teller m .output)) none in
       let stream : held v ≡ silent x = more-stream s ∙ ap (λ (m : List ℕ). silent (by new-teller m)) none in
       record {
         blocks = a .blocks;
         none-empty = λ y. a .reads .none-empty;
         input = i;
-        got-is = q .writes .got-is ∙ more-got ∙ ap (counted 0) none;
+        got-is = q .writes .got-is ∙ more-got ∙ ap (counted-on 0) none;
         failed-ends = λ f. q .writes .ended-is ∙ e;
         ended-is = λ y h. q .writes .ended-is ∙ e;
         state-is = λ y h.
@@ -195,9 +194,9 @@ module _ {w : Teller} {turns : ℕ} (a : Reached w turns) {l : List ℕ} {v : Te
             ∙ state-at-end input i;
         told-is = λ y h.
             q .writes .told-is
-            ∙ ap₂ (λ (j : ℕ) (z : Session). counted j (finished z .output)) told stream
+            ∙ ap₂ (λ (j : ℕ) (z : Session). counted-on j (finished z .output)) told stream
             ∙ counted-more 0 (x .output) (finished (silent x) .output)
-            ∙ ap (counted 0)
+            ∙ ap (counted-on 0)
             (any-input input (i .lines) (i .rest) (i .lines-plain) (i .rest-plain) (i .whole)
             ∙ rest-is-a-line blank (i .lines) (i .rest));
         demands = lines-keep-the-demands (all-lines i);

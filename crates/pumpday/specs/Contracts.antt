@@ -10,7 +10,7 @@ use Rattle.wire.specs.declared.Wire.{Wire}
 use Rattle.wire.specs.Wires.{Reads, Writes}
 use Rattle.pumpday.specs.declared.teller.Turn.{Turn}
 use Rattle.pumpday.specs.declared.teller.Teller.{Teller}
-use Rattle.pumpday.specs.Tells.{Tells}
+use Rattle.pumpday.specs.Telling.{Told}
 
 -- what the teller's stream holds, and what it comes to by the bytes l
 abbrev pub held : Teller → Session
@@ -23,12 +23,12 @@ by w l = fed (held w) l
 pub record Part (w : Teller) (l d : List ℕ) (from : ℕ) (r : Turn) : Type 0 where
   pub upto-is : r .from ≡ from + consumed-count (length d) (held w) (drop from l)
   pub inside : r .from ≤ length l
-  pub tells : Tells w (by w (consumed-bytes (held w) (drop from l) d)) (r .teller)
+  pub tells : Told w (by w (consumed-bytes (held w) (drop from l) d)) (r .teller)
 
 -- the block l up to where the turn stands: all of it unless a write failed
 pub record Whole (w : Teller) (l : List ℕ) (r : Turn) : Type 0 where
   pub inside : r .from ≤ length l
-  pub tells : Tells w (by w (take (r .from) l)) (r .teller)
+  pub tells : Told w (by w (take (r .from) l)) (r .teller)
   pub all : r .teller .wire .sent ≡ true → r .from ≡ length l
 
 -- one read, which gave the first n bytes of l: they were taken and their answers told, unless a write failed

@@ -1,3 +1,3 @@
-pub mod Tells
+pub mod Telling
 pub mod Pump
 pub mod Contracts

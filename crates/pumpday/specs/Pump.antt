@@ -4,9 +4,9 @@ use mathlib.Core.Bool.{true}
 use mathlib.Core.List.{List}
 use Prim.Native.Nat.{ℕ, _-_, _^_, _<_}
 use Rattle.day.specs.Day.{blank}
-use Rattle.stream.specs.Chunking.{after-lines, replies, Split}
-use Rattle.programs.specs.Lines.{all-lines, Of-lines}
-use Rattle.wire.specs.Wires.{counted, input-of, None-empty}
+use Rattle.stream.specs.Chunking.{after-lines, replies, Split, all-lines}
+use Rattle.programs.specs.Lines.{Of-lines}
+use Rattle.wire.specs.Wires.{counted-on, input-of, None-empty}
 use Rattle.pumpday.specs.declared.teller.Teller.{Teller}
 
 -- A whole run: reads gave blocks, which are lines and a rest. Unless a write failed or 2^64 − 1 reads were made, the
@@ -18,11 +18,11 @@ pub record Runs (r : Teller) : Type 0 where
   pub blocks : List (List ℕ)
   pub none-empty : r .wire .sent ≡ true → None-empty blocks
   pub input : Split (input-of blocks)
-  pub got-is : r .wire .got ≡ counted 0 (input-of blocks)
+  pub got-is : r .wire .got ≡ counted-on 0 (input-of blocks)
   pub failed-ends : r .wire .failed ≡ true → r .wire .ended ≡ true
   pub ended-is : r .wire .sent ≡ true → r .wire .reads < 2 ^ 64 - 1 → r .wire .ended ≡ true
   pub state-is : r .wire .sent ≡ true → r .wire .reads < 2 ^ 64 - 1
       → r .stream .day ≡ after-lines blank (all-lines input)
   pub told-is : r .wire .sent ≡ true → r .wire .reads < 2 ^ 64 - 1
-      → r .wire .told ≡ counted 0 (replies blank (all-lines input))
+      → r .wire .told ≡ counted-on 0 (replies blank (all-lines input))
   pub demands : Of-lines (all-lines input)

@@ -5,7 +5,7 @@ ghost use Prim.Native.Nat.{_≤_};
 ghost use lib.ListN.{length};
 ghost use Rattle.reply.specs.Session.{reply-room};
 ghost use Rattle.stream.specs.Stream.{finished, session-of, silent};
-ghost use Rattle.pumpday.specs.Tells.{new-teller, session-after, Tells};
+ghost use Rattle.pumpday.specs.Telling.{new-teller, session-after, Told};
 ghost use Rattle.pumpday.specs.Contracts.{Part, Whole, Taken};
 use stream::feed::Stream;
 use wire::Wire;
@@ -38,7 +38,7 @@ impl Teller {
     fn tell(self, taken: &[u8], end: bool, next: Stream, bytes: &[u8]) -> Self
         requires { ⌜ (now bytes ≡ session-after (self .stream) (now taken) end .output)
             × (session-of next ≡ silent (session-after (self .stream) (now taken) end)) ⌝ }
-        ensures { λ r. ⌜ Tells self (session-after (self .stream) (now (taken .entry)) end) r ⌝ }
+        ensures { λ r. ⌜ Told self (session-after (self .stream) (now (taken .entry)) end) r ⌝ }
     {
         let wire = self.wire;
         let sent = wire.write(bytes);
@@ -106,7 +106,7 @@ impl Teller {
     // The end of input: the answer to a last line without byte 10.
     pub fn finish(self, out: &mut [u8]) -> Self
         requires { ⌜ reply-room ≤ length (now out) ⌝ }
-        ensures { λ r. ⌜ Tells self (finished (session-of (self .stream))) r ⌝ }
+        ensures { λ r. ⌜ Told self (finished (session-of (self .stream))) r ⌝ }
     {
         let stream = self.stream;
         let fed = stream.finish(out);

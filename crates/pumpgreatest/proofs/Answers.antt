@@ -26,7 +26,8 @@ use Rattle.floor.specs.History.Starts.{from-blank}
 use Rattle.floor.specs.Floor.{no-view}
 use Rattle.floor.proofs.Reach.{Reached, reached}
 use Rattle.allotments.specs.Allotment.{at}
-use Rattle.optimum.specs.Optimum.{max-handed-in, most-of}
+use Rattle.allotments.specs.Limits.{max-handed-in}
+use Rattle.optimum.specs.Optimum.{most-of}
 use Rattle.stream.specs.Chunking.{after-lines}
 use Rattle.programs.specs.Lines.{calls-of, day-of}
 use Rattle.programs.proofs.Lines.{lines-keep-the-demands}
@@ -72,31 +73,32 @@ module _ (s : Day) (h : History) (r : Reached s h) where
       (λ j l. ap (within (s .count)) (own-at (h .views) j)
       ∙ r .tracks .inside j (omega (arith, length-map (h .views) (λ (w : View). w .set))))
 
-  few : length (own-views h) ≤ 256 → earned s (own-views h) ≡ Figures (total-takings s) (most-of s (own-views h))
+  few : length (own-views h) ≤ max-handed-in
+      → earned s (own-views h) ≡ Figures (total-takings s) (most-of s (own-views h))
   unfolding earned question-of first-failed
   few l =
       rw (
         r .is-sound,
-        le-leb (length (own-views h)) 256 l,
+        le-leb (length (own-views h)) max-handed-in l,
         all-inside,
         le-leb (s .count) 64 (sound-facts s (r .is-sound) .few),
       )
 
-  many : (vs : List ℕ) → 256 < length vs → earned s vs ≡ Refused 19
+  many : (vs : List ℕ) → max-handed-in < length vs → earned s vs ≡ Refused 19
   unfolding earned question-of first-failed
-  many vs l = rw (r .is-sound, lt-leb (length vs) 256 l)
+  many vs l = rw (r .is-sound, lt-leb (length vs) max-handed-in l)
 
   pub answered : (n : ℕ) → max-handed-in < n → earned s (take n (own-views h)) ≡ answer s (own-views h)
-  answered n l = go (leb (length (own-views h)) 256) refl
+  answered n l = go (leb (length (own-views h)) max-handed-in) refl
     where
-      go : (b : Bool) → leb (length (own-views h)) 256 ≡ b
+      go : (b : Bool) → leb (length (own-views h)) max-handed-in ≡ b
           → earned s (take n (own-views h))
           ≡ cond b (Figures (total-takings s) (most-of s (own-views h))) (Refused 19)
       go true e =
-          let f = leb-true (length (own-views h)) 256 e in
+          let f = leb-true (length (own-views h)) max-handed-in e in
           ap (earned s) (take-all n (own-views h) (omega arith)) ∙ few f
       go false e =
-          let f : 256 < length (own-views h) = leb-false (length (own-views h)) 256 e in
+          let f : max-handed-in < length (own-views h) = leb-false (length (own-views h)) max-handed-in e in
           many (take n (own-views h)) (omega (arith, length-take n (own-views h)))
 
 pub lines-answered : (ls : List (List ℕ)) (n : ℕ) → max-handed-in < n

@@ -14,7 +14,7 @@ use Rattle.floor.specs.History.{continued}
 use Rattle.lines.specs.Numeral.{numeral, numeral-in}
 use Rattle.lines.specs.Form.{template, in-slot}
 use Rattle.lines.specs.Reading.{reading, first-of, forms, held-or, ended-or, made, numbers-of, rest-of, step, strip}
-use Rattle.lines.specs.Reading.{slot-at, names-at, numeral-at, digits, is-digit}
+use Rattle.lines.specs.Reading.{slot-at, set-at, numeral-at, digits, is-digit}
 use Rattle.allotments.specs.Most.{greatest, most}
 use Rattle.reply.specs.Reply.{outcome, next}
 use Rattle.stream.specs.Chunking.{after-lines}
@@ -25,7 +25,7 @@ use Rattle.pumpgreatest.specs.Examples.{Examples}
 
 pub examples : Examples
 unfolding after-lines next outcome exchanges continued
-    reading first-of forms held-or ended-or made numbers-of rest-of step strip slot-at names-at numeral-at digits
+    reading first-of forms held-or ended-or made numbers-of rest-of step strip slot-at set-at numeral-at digits
     is-digit template in-slot numeral numeral-in
     call marked first-failed sound sound-record blank sum count every table within size member width-holds weight share
     whole claim total-takings total-claim total-budgets sound-plan priced counted uncounted empty sound-campaign

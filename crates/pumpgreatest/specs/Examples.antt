@@ -4,23 +4,9 @@ use mathlib.Core.Path.{_≡_}
 use mathlib.Core.List.{List, [], _∷_}
 use Prim.Native.Nat.{ℕ}
 use Rattle.lines.specs.Form.{bytes}
-use Rattle.programs.specs.Examples.{lines-of}
+use Rattle.stream.specs.Listing.{lines-of, listing-lines}
 use Rattle.earnings.specs.Earnings.{earnings-text}
 use Rattle.pumpgreatest.specs.Prints.{day-earnings}
-
-abbrev pub listing : List (List ℕ)
-listing = lines-of (
-    "(plan (depth 2) (width 2))" ∷
-    "(campaign (price 5) (budget 10))" ∷
-    "(campaign (price 3) (budget 6))" ∷
-    "(start)" ∷
-    "(view 0 1)" ∷
-    "(view 0 1)" ∷
-    "(view 0 1)" ∷
-    "(view 0)" ∷
-    "(view 1)" ∷
-    "(view 2)" ∷
-    "(close)" ∷ [])
 
 abbrev pub less-than-all : List (List ℕ)
 less-than-all = lines-of (
@@ -35,5 +21,5 @@ less-than-all = lines-of (
     "(close)" ∷ [])
 
 pub record Examples : Type 0 where
-  pub of-the-listing : earnings-text (day-earnings listing) ≡ bytes "(takings 16) (greatest 16) (ratio 1/1)\n"
+  pub of-the-listing : earnings-text (day-earnings listing-lines) ≡ bytes "(takings 16) (greatest 16) (ratio 1/1)\n"
   pub of-less-than-all : earnings-text (day-earnings less-than-all) ≡ bytes "(takings 6) (greatest 9) (ratio 2/3)\n"

@@ -7,18 +7,19 @@ use lib.Dec.{leb}
 use lib.ListN.{length}
 use Rattle.day.specs.declared.Day.{Day}
 use Rattle.day.specs.Day.{blank, total-takings}
-use Rattle.optimum.specs.Optimum.{max-handed-in, most-of}
-use Rattle.stream.specs.Chunking.{after-lines, Split}
-use Rattle.programs.specs.Lines.{day-of, all-lines}
+use Rattle.allotments.specs.Limits.{max-handed-in}
+use Rattle.optimum.specs.Optimum.{most-of}
+use Rattle.stream.specs.Chunking.{after-lines, Split, all-lines}
+use Rattle.programs.specs.Lines.{day-of}
 use Rattle.floor.specs.History.{own-views}
 use Rattle.earnings.specs.declared.Earnings.{Earnings}
 use Rattle.earnings.specs.declared.Earnings.the-variants.{Refused, Figures}
 use Rattle.earnings.specs.Earnings.{earnings-text}
-use Rattle.wire.specs.Wires.{counted, input-of, None-empty}
+use Rattle.wire.specs.Wires.{counted-on, input-of, None-empty}
 use Rattle.pumpgreatest.specs.declared.teller.Teller.{Teller}
 
 -- a state and the views of its day: what it took and the most that these views could have earned, or 19 for more than
--- 256 of them
+-- 256 of them; on a day that lines record no other question of `earned` fails
 abbrev pub answer : Day → (views : List ℕ) → Earnings
 answer s views = cond (leb (length views) max-handed-in) (Figures (total-takings s) (most-of s views)) (Refused 19)
 
@@ -34,10 +35,10 @@ pub record Prints (r : Teller) : Type 0 where
   pub blocks : List (List ℕ)
   pub none-empty : r .wire .failed ≡ false → None-empty blocks
   pub input : Split (input-of blocks)
-  pub got-is : r .wire .got ≡ counted 0 (input-of blocks)
+  pub got-is : r .wire .got ≡ counted-on 0 (input-of blocks)
   pub ended-is : r .wire .failed ≡ false → r .wire .reads < 2 ^ 64 - 1 → r .wire .ended ≡ true
   pub earnings-is : r .wire .failed ≡ false → r .wire .reads < 2 ^ 64 - 1
       → r .earnings ≡ day-earnings (all-lines input)
   pub told-is : r .wire .failed ≡ false → r .wire .reads < 2 ^ 64 - 1
-      → r .wire .told ≡ counted 0 (earnings-text (day-earnings (all-lines input)))
+      → r .wire .told ≡ counted-on 0 (earnings-text (day-earnings (all-lines input)))
   pub none-told : r .wire .failed ≡ true → r .wire .told ≡ 0

@@ -6,9 +6,9 @@ mod teller;
 ghost use mathlib.Core.Path.{_≡_};
 ghost use Prim.Native.Nat.{min, _≤_, _<_};
 ghost use lib.ListN.{length};
-ghost use Rattle.optimum.specs.Optimum.{max-handed-in};
+ghost use Rattle.allotments.specs.Limits.{max-handed-in};
 ghost use Rattle.reply.specs.Session.{reply-room};
-ghost use Rattle.pumpgreatest.specs.Tells.{Tells};
+ghost use Rattle.pumpgreatest.specs.Telling.{Told};
 ghost use Rattle.pumpgreatest.specs.Prints.{Prints};
 ghost use Rattle.pumpgreatest.specs.Contracts.{Taken, earned-at-end};
 use earnings::ROOM;
@@ -62,7 +62,7 @@ fn at_most(n: u64, most: usize) -> usize
 // A last line without byte 10, and the day's line.
 fn finish(teller: Teller, stream: Stream, views: &mut [u64], out: &mut [u8]) -> Teller
     requires { ⌜ reply-room ≤ length (now out) ⌝ }
-    ensures { λ r. ⌜ Tells teller (earned-at-end stream (now (views .entry))) r ⌝ }
+    ensures { λ r. ⌜ Told teller (earned-at-end stream (now (views .entry))) r ⌝ }
 {
     let last = take_end(stream, views, out);
     let day = last.day;

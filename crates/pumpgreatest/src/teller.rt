@@ -3,7 +3,7 @@
 ghost use mathlib.Core.Path.{_≡_};
 ghost use Rattle.earnings.specs.Earnings.{earnings-text};
 ghost use Rattle.wire.specs.Wires.{Reads};
-ghost use Rattle.pumpgreatest.specs.Tells.{new-teller, Tells};
+ghost use Rattle.pumpgreatest.specs.Telling.{new-teller, Told};
 use earnings::Earnings;
 use wire::Wire;
 
@@ -49,7 +49,7 @@ impl Teller {
     // Writes the line of these earnings.
     pub fn tell(self, earnings: Earnings, bytes: &[u8]) -> Self
         requires { ⌜ now bytes ≡ earnings-text earnings ⌝ }
-        ensures { λ r. ⌜ Tells self earnings r ⌝ }
+        ensures { λ r. ⌜ Told self earnings r ⌝ }
     {
         let wire = self.wire;
         let next = wire.write(bytes);

@@ -12,7 +12,7 @@ use Rattle.day.specs.Calls.{call}
 use Rattle.lines.specs.Numeral.{numeral, numeral-in}
 use Rattle.lines.specs.Form.{template, in-slot}
 use Rattle.lines.specs.Reading.{reading, first-of, forms, held-or, ended-or, made, numbers-of, rest-of, step, strip}
-use Rattle.lines.specs.Reading.{slot-at, names-at, numeral-at, digits, is-digit}
+use Rattle.lines.specs.Reading.{slot-at, set-at, numeral-at, digits, is-digit}
 use Rattle.reply.specs.Reply.{outcome, next}
 use Rattle.stream.specs.Chunking.{after-lines}
 use Rattle.page.specs.Page.{flush, cents, row-text, total-text, row-lines, page}
@@ -21,7 +21,7 @@ use Rattle.pumppage.specs.Examples.{Page-of-the-listing}
 
 pub page-of-the-listing : Page-of-the-listing
 unfolding after-lines next outcome
-    reading first-of forms held-or ended-or made numbers-of rest-of step strip slot-at names-at numeral-at digits
+    reading first-of forms held-or ended-or made numbers-of rest-of step strip slot-at set-at numeral-at digits
     is-digit template in-slot numeral numeral-in
     call first-failed sound sound-record blank sum count every table within size member width-holds weight share
     whole claim total-takings total-claim total-budgets sound-plan priced counted uncounted empty sound-campaign

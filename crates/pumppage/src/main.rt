@@ -9,7 +9,7 @@ ghost use lib.ListN.{length};
 ghost use Rattle.day.specs.Day.{sound};
 ghost use Rattle.reply.specs.Session.{reply-room, fed};
 ghost use Rattle.stream.specs.Stream.{finished, session-of, silent};
-ghost use Rattle.pumppage.specs.Tells.{Tells};
+ghost use Rattle.pumppage.specs.Telling.{Told};
 ghost use Rattle.pumppage.specs.Prints.{Prints};
 ghost use Rattle.pumppage.specs.Contracts.{Part, Taken};
 use page::Printing;
@@ -76,7 +76,7 @@ fn read_block(teller: Teller, stream: Stream, block: &mut [u8], out: &mut [u8]) 
 // A last line without byte 10, and the page.
 fn finish(teller: Teller, stream: Stream, out: &mut [u8]) -> Teller
     requires { ⌜ (reply-room ≤ length (now out)) × (sound (stream .day) ≡ true) ⌝ }
-    ensures { λ r. ⌜ Tells teller (finished (session-of stream) .day) r ⌝ }
+    ensures { λ r. ⌜ Told teller (finished (session-of stream) .day) r ⌝ }
 {
     let fed = stream.finish(out);
     let next = fed.stream;

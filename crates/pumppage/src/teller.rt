@@ -3,7 +3,7 @@
 ghost use mathlib.Core.Path.{_≡_};
 ghost use Rattle.page.specs.Printing.{page-of};
 ghost use Rattle.wire.specs.Wires.{Reads};
-ghost use Rattle.pumppage.specs.Tells.{new-teller, Tells};
+ghost use Rattle.pumppage.specs.Telling.{new-teller, Told};
 use day::Day;
 use wire::Wire;
 
@@ -50,7 +50,7 @@ impl Teller {
     // Writes the page of a state.
     pub fn tell(self, day: Day, bytes: &[u8]) -> Self
         requires { ⌜ now bytes ≡ page-of day ⌝ }
-        ensures { λ r. ⌜ Tells self day r ⌝ }
+        ensures { λ r. ⌜ Told self day r ⌝ }
     {
         let wire = self.wire;
         let next = wire.write(bytes);

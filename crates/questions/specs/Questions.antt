@@ -3,7 +3,7 @@ use mathlib.Core.Bool.{Bool, cond}
 use mathlib.Core.List.{List, [], _∷_}
 use Prim.Native.Nat.{ℕ, _+_}
 use lib.Dec.{leb, ltb}
-use Rattle.sets.specs.Set.{size, within, without}
+use Rattle.sets.specs.Set.{size, within}
 use Rattle.campaigns.specs.declared.Head.{Head}
 use Rattle.campaigns.specs.declared.Plan.{Plan}
 use Rattle.campaigns.specs.declared.Terms.{Terms}
@@ -11,6 +11,7 @@ use Rattle.campaigns.specs.declared.View.{View}
 use Rattle.campaigns.specs.Limits.{max-campaigns, max-budget, max-views}
 use Rattle.campaigns.specs.Campaign.{depth-fits, width-fits, power-fits, price-fits, budget-fits}
 use Rattle.campaigns.specs.Phase.{is-filling, is-running}
+use Rattle.campaigns.specs.View.{unmarked}
 
 -- a question at the door, and whether the answer to it is yes
 pub record Question : Type 0 where
@@ -36,9 +37,9 @@ add-questions h t b =
     question 8 (price-fits (t .price)) ∷ question 9 (budget-fits (t .price) (t .budget)) ∷
     question 10 (leb (b + t .budget) max-budget) ∷ []
 
--- a view as it finds the campaigns (document 02, request 3): a paused one that it names is as one not named
+-- the unpaused of the campaigns that a view names
 abbrev pub unpaused : Head → View → View
-unpaused h w = record { set = without (w .set) (h .paused) }
+unpaused h w = unmarked (h .paused) w
 
 -- question 14: are at most d campaigns named
 unfoldable pub width-holds : Head → View → Bool

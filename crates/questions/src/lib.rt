@@ -5,6 +5,7 @@ use campaigns::Terms;
 use campaigns::View;
 ghost use mathlib.Core.Path.{_≡_};
 ghost use Prim.Native.Nat.{_≤_};
+ghost use Rattle.campaigns.specs.Contracts.{max-column};
 ghost use Rattle.questions.specs.Questions.{first-failed, plan-questions, add-questions, view-questions};
 ghost use Rattle.questions.specs.Questions.{mark-questions};
 
@@ -30,7 +31,7 @@ pub fn plan_question(plan: Plan) -> u64
 
 // The number of the first of questions 6 to 10 that an adding fails, or 0.
 pub fn add_question(head: Head, t: Terms, budgets: u64) -> u64
-    requires { ⌜ budgets ≤ 274877906944 ⌝ }
+    requires { ⌜ budgets ≤ max-column ⌝ }
     ensures { λ r. ⌜ r ≡ first-failed (add-questions head t budgets) ⌝ }
 {
     let phase = head.phase;

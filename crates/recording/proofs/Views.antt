@@ -2,28 +2,25 @@
 -- written by every line, and is one of them only where that number grows. By induction on the lines; the bytes of an
 -- input record what its lines do.
 use mathlib.Core.Path.{_≡_, refl, sym, ap, ap₂, _∙_, subst, subst⁻¹}
-use mathlib.Core.Bool.{Bool, true, false, cond}
-use mathlib.Core.List.{List, [], _∷_, _++_, map}
+use mathlib.Core.Bool.{Bool, true, false}
+use mathlib.Core.List.{List, [], _∷_, _++_, map, map-append}
 use Prim.Native.Nat.{ℕ, suc, min, _+_, _≤_, _<_}
 use native.Mathlib.Omega.{arith}
 use native.Mathlib.Numerals.{add-one}
 use lib.Dec.{leb, ltb}
 use lib.ListN.{length, take, set, length-append, length-set}
 use lib.Seq.{take-all, take-set-le, take-suc-set, take-append-le, set-out}
-use borrow.Author.Tests.{eq-eqb, ne-eqb, leb-true, leb-false, ltb-true, ltb-false}
+use borrow.Author.Tests.{eq-eqb, leb-true, leb-false, ltb-true, ltb-false}
 use Rattle.sets.specs.Set.{without}
 use Rattle.lines.specs.declared.Reading.{Reading}
 use Rattle.lines.specs.Reading.{reading}
 use Rattle.campaigns.specs.declared.View.{View}
-use Rattle.day.specs.declared.Answer.{Answer}
-use Rattle.day.specs.declared.Answer.the-variants.{Refused}
 use Rattle.day.specs.declared.Day.{Day}
 use Rattle.day.specs.declared.Outcome.{Outcome}
 use Rattle.day.specs.Day.{blank, blank-plan}
 use Rattle.day.specs.Calls.{number, marked, Call, result, call}
 use Rattle.day.specs.Calls.Call.{open-plan, add-campaign, start-day, show-view, ask-tally, close-day, mark-campaign}
 use Rattle.day.proofs.Questions.{call-elim}
-use Rattle.demands.specs.Transcript.{Exchange}
 use Rattle.demands.proofs.Refusals.{result-number}
 use Rattle.floor.specs.History.{History, opening, unpaused-in, with-call, entered, continued}
 use Rattle.reply.specs.Reply.{Request, request-of, executed, outcome, next, reply}
@@ -32,30 +29,14 @@ use Rattle.reply.specs.Session.{Session, longer, ended, fed}
 use Rattle.reply.proofs.Sessions.{cut-reading, cut-next, byte-end}
 use Rattle.batch.proofs.Rests.{rest-fed}
 use Rattle.stream.specs.Stream.{session, session-of, new-stream, silent}
-use Rattle.stream.specs.Chunking.{joined, Plain, All-plain, after-lines, Split}
-use Rattle.stream.proofs.Chunking.{fed-lines}
-use Rattle.programs.specs.Lines.{with-exchange, exchanges, day-of, with-rest, all-lines}
-use Rattle.programs.proofs.Lines.{state-at-end}
+use Rattle.stream.specs.Chunking.{joined, Plain, All-plain, after-lines, Split, with-rest, all-lines}
+use Rattle.stream.proofs.Chunking.{fed-lines, state-at-end}
+use Rattle.programs.specs.Lines.{exchanges, day-of}
+use Rattle.programs.proofs.Lines.{refused-entered, stepped, continued-step}
 use Rattle.floor.specs.History.{own-views}
 use Rattle.recording.specs.Recording.{shown-by-call, shown-in, noted, recorded}
 use Rattle.recording.specs.Recording.{last-session, last-views, Any-recording}
 use Rattle.recording.proofs.Bytes.{recorded-append, recorded-plain}
-
-own-snoc : (vs : List View) (w : View)
-    → map (λ (u : View). u .set) (vs ++ (w ∷ [])) ≡ map (λ (u : View). u .set) vs ++ (w .set ∷ [])
-own-snoc [] w = refl
-own-snoc (v ∷ vs) w = ap (λ (l : List ℕ). v .set ∷ l) (own-snoc vs w)
-
--- the day with a line more
-abbrev stepped : History → Request → Answer → History
-stepped h (makes c) a = entered h (record { made = c; answer = a })
-stepped h (fails q) a = h
-
-continued-step : (h : History) (r : Request) (a : Answer) (xs : List Exchange)
-    → continued h (with-exchange r a xs) ≡ continued (stepped h r a) xs
-unfolding continued
-continued-step h (makes c) a xs = refl
-continued-step h (fails q) a xs = refl
 
 -- the state s holds the day h, and the n entries v have its views, as many as they can
 pub record Keeps (n : ℕ) (s : Day) (h : History) (v : List ℕ) : Type 0 where
@@ -110,7 +91,7 @@ module _ (n : ℕ) (s : Day) (h : History) (v : List ℕ) (k : Keeps n s h v) wh
       let one = e ∙ add-one (s .accepted) in
       let more : own-views g ≡ own-views h ++ (a ∷ []) =
       ap (λ (vs : List View). map (λ (u : View). u .set) vs) f
-      ∙ own-snoc (h .views) (unpaused-in h w)
+      ∙ map-append (λ (u : View). u .set) (h .views) (unpaused-in h w ∷ [])
       ∙ sym (ap (λ (m : ℕ). own-views h ++ (without (w .set) m ∷ [])) (k .paused-is)) in
       record {
         counted = omega (arith, e, k .counted, ap length more, length-append (own-views h) (a ∷ []));
@@ -145,17 +126,13 @@ module _ (n : ℕ) (s : Day) (h : History) (v : List ℕ) (k : Keeps n s h v) wh
   result-keeps close-day = keeps-unshown _ _ _ refl refl (k .paused-is)
   result-keeps (mark-campaign b i) = keeps-unshown _ _ _ refl refl (ap (marked b i) (k .paused-is))
 
-  refused-entered : (c : Call) (q : ℕ) → entered h (record { made = c; answer = Refused (suc q) }) ≡ h
-  refused-entered c q =
-      ap (λ (b : Bool). cond b (with-call h c (Refused (suc q))) h) (ne-eqb (suc q) 0 (λ e. omega arith))
-
   call-keeps : (c : Call) → Keeps n (call s c .day) (entered h (record { made = c; answer = call s c .answer }))
       (set v (s .accepted) (without (shown-by-call c) (s .paused)))
   call-keeps c =
       let a = without (shown-by-call c) (s .paused) in
       let w = set v (s .accepted) a in
       call-elim (λ (o : Outcome). Keeps n (o .day) (entered h (record { made = c; answer = o .answer })) w) s c
-      (λ q. subst⁻¹ (λ (g : History). Keeps n s g w) (refused-entered c q)
+      (λ q. subst⁻¹ (λ (g : History). Keeps n s g w) (refused-entered h c q)
       (keeps-unshown a s h refl refl (k .paused-is)))
       (λ y. rw (eq-eqb (number (result s c .answer)) 0 (result-number s c)) (result-keeps c))
 

@@ -5,27 +5,20 @@ use mathlib.Core.List.{List, [], _∷_}
 use Prim.Native.Nat.{ℕ, min}
 use lib.Dec.{eqb}
 use lib.ListN.{length, take, set}
-use Rattle.sets.specs.Set.{without}
 use Rattle.lines.specs.Reading.{reading}
 use Rattle.day.specs.declared.Day.{Day}
 use Rattle.day.specs.Day.{blank}
-use Rattle.day.specs.Calls.{Call}
+use Rattle.day.specs.Calls.{Call, found}
 use Rattle.day.specs.Calls.Call.{open-plan, add-campaign, start-day, show-view, ask-tally, close-day, mark-campaign}
 use Rattle.floor.specs.History.{own-views}
 use Rattle.reply.specs.Reply.{Request, request-of}
 use Rattle.reply.specs.Reply.Request.{makes, fails}
 use Rattle.reply.specs.Session.{Session, after-byte, fed}
-use Rattle.stream.specs.Chunking.{after-lines, Split}
+use Rattle.stream.specs.Chunking.{after-lines, Split, all-lines}
 use Rattle.stream.specs.Stream.{session-of, new-stream, silent, finished}
-use Rattle.programs.specs.Lines.{day-of, all-lines}
+use Rattle.programs.specs.Lines.{day-of}
 
--- The promise.
-
--- the first entries of a list of views that is as long as is lent: as many as the state has accepted
-abbrev pub kept-views : Day → List ℕ → List ℕ
-kept-views s views = take (min (s .accepted) (length views)) views
-
--- How.
+-- How they are kept.
 
 -- the set that a line shows: that of a view, else none
 abbrev pub shown-by-call : Call → ℕ
@@ -41,16 +34,22 @@ abbrev pub shown-in : Request → ℕ
 shown-in (makes c) = shown-by-call c
 shown-in (fails q) = 0
 
--- the line l of the state s, before it is known whether it is accepted: what it shows, less the paused, stands behind
--- the views that were accepted
+-- the line l of the state s, before it is known whether it is accepted: what it shows, as a view finds it, stands
+-- behind the views that were accepted
 unfoldable pub noted : Day → (l views : List ℕ) → List ℕ
-noted s l views = set views (s .accepted) (without (shown-in (request-of (reading l))) (s .paused))
+noted s l views = set views (s .accepted) (found s (record { set = shown-in (request-of (reading l)) }) .set)
 
 -- the views after bytes that are fed to x: byte 10 ends a line
 unfoldable pub recorded : Session → (views bytes : List ℕ) → List ℕ
 recorded x views [] = views
 recorded x views (b ∷ l) =
     recorded (after-byte x b) (cond (eqb b 10) (noted (x .day) (x .pending) views) views) l
+
+-- The promise.
+
+-- the first entries of a list of views that is as long as is lent: as many as the state has accepted
+abbrev pub kept-views : Day → List ℕ → List ℕ
+kept-views s views = take (min (s .accepted) (length views)) views
 
 -- A whole input, handed to a new stream beside a list of entries for views, and its end: the state is that after its
 -- lines, and the entries have the day's own views, as many as there are entries.

@@ -4,13 +4,12 @@ use batch::line_end;
 use lines::Reading;
 use lines::Record;
 use lines::read_line;
-use lines::slots::LINE_BUFFER;
 use stream::feed::Stream;
+use stream::feed::at_most_held;
 ghost use mathlib.Core.Path.{_≡_};
 ghost use mathlib.Core.List.{_++_, _∷_, []};
-ghost use Prim.Native.Nat.{min, _≤_};
+ghost use Prim.Native.Nat.{_≤_};
 ghost use lib.ListN.{length};
-ghost use Rattle.lines.specs.Limits.{line-buffer};
 ghost use Rattle.lines.specs.Reading.{reading};
 ghost use Rattle.reply.specs.Reply.{request, request-of};
 ghost use Rattle.reply.specs.Session.{reply-room, upto};
@@ -63,15 +62,6 @@ fn shown_by(line: &[u8]) -> u64
         Reading::Got(input) => shown(input),
         Reading::Refusal(_) => 0,
     }
-}
-
-fn at_most_held(n: usize) -> usize
-    ensures { λ r. ⌜ r ≡ min n line-buffer ⌝ }
-{
-    if n > LINE_BUFFER {
-        return LINE_BUFFER;
-    }
-    n
 }
 
 // What the pending line shows, behind the accepted views. Whether it is one of them is not asked: if the line is

@@ -187,8 +187,8 @@ module _ (I : Instance) (i : ℕ) (deep : 0 < I .k) (wide : 1 < I .d) (bid : 0 <
   }
 
   -- "by our choice of C, after at most k i-edges, z_i^c = b_i/B_i" (the proof of Theorem 5.1)
-  pub copy-full : copy I i (I .k) ≈ part I i
-  copy-full =
+  pub copy-complete : copy I i (I .k) ≈ part I i
+  copy-complete =
       let y : I .d ^ I .k * 1 - 1 * (I .d - 1) ^ I .k ≡ C I .denominator =
       omega (arith, C-sum I, C-numerator I, weight-zero (I .k) (I .d)) in
       let u : C I .numerator ≡ (I .d - 1) ^ I .k = C-numerator I ∙ weight-zero (I .k) (I .d) in

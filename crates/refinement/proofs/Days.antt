@@ -1,5 +1,5 @@
--- Every list of calls keeps its day beside Algorithm 4 (`Alongside`): by induction on the list, and an accepted view is
--- one slot more.
+-- Every list of calls keeps its day beside Algorithm 4 (`Alongside`): by the induction of `floor`, and an accepted view
+-- is one slot more.
 use mathlib.Core.Path.{_≡_, refl, ap, sym, subst, _∙_}
 use mathlib.Core.Bool.{Bool, true, false}
 use mathlib.Core.List.{List, [], _∷_, _++_, map, map-append}
@@ -9,9 +9,8 @@ use native.Mathlib.Numerals.{add-one}
 use native.Mathlib.Omega.{arith}
 use lib.ListN.{getD, length, length-append, length-map, List·getD-append}
 use lib.Seq.{getD-append-seam}
-use borrow.Author.Tests.{eqb-true, eq-eqb, ne-eqb, ltb-true, leb-true}
+use borrow.Author.Tests.{ltb-true, leb-true}
 use Rattle.finite.proofs.Tests.{never, both-left, one-more}
-use Rattle.sets.specs.Set.{without}
 use Rattle.day.specs.declared.Day.{Day}
 use Rattle.campaigns.specs.declared.Phase.{Phase}
 use Rattle.campaigns.specs.declared.Phase.the-variants.{Filling, Running, Closed}
@@ -22,22 +21,21 @@ use Rattle.campaigns.specs.Campaign.{fresh}
 use Rattle.campaigns.specs.View.{names}
 use Rattle.day.specs.Day.{campaign, in-phase, empty-plan, no-terms, blank-plan, blank, total-takings}
 use Rattle.campaigns.specs.Phase.{is-filling}
-use Rattle.day.specs.Calls.{number, Call, questions, with-campaign, player, offers, shown, view-answer, result, call}
-use Rattle.day.specs.Calls.{found, marked, head-joined, head-shown}
+use Rattle.day.specs.Calls.{Call, questions, with-campaign, player, offers, shown, view-answer, result}
+use Rattle.day.specs.Calls.{found, head-joined, head-shown}
 use Rattle.day.specs.declared.Answer.the-variants.{Done}
 use Rattle.day.specs.Calls.Call.{open-plan, add-campaign, start-day, show-view, ask-tally, close-day, mark-campaign}
-use Rattle.day.proofs.Questions.{Yes, call-elim}
+use Rattle.day.proofs.Questions.{Yes}
 use Rattle.day.proofs.State.{sound-facts, campaign-of-state}
 use Rattle.demands.specs.Transcript.{transcript, final}
 use Rattle.demands.proofs.States.{with-campaign-old, with-campaign-new}
-use Rattle.demands.proofs.Refusals.{result-number}
-use Rattle.floor.specs.History.{accepted, Starts, History, opening, with-call, entered, continued, history}
-use Rattle.floor.specs.History.Starts.{from-blank, from-opening}
-use Rattle.floor.proofs.Reach.{with-view}
+use Rattle.floor.specs.History.{Starts, History, opening, with-call, history}
+use Rattle.floor.specs.Floor.{terms-of, price-of}
+use Rattle.floor.proofs.Reach.{with-view, view-found, Reached, of-every-reached}
 use Rattle.refinement.specs.Algorithm4.{Instance, Neighbors, Variables, line-1, line-2, line-4, lines-3-to-11}
 use Rattle.refinement.specs.Algorithm4.{matches-from, algorithm-4, matches}
 use Rattle.refinement.specs.Correspondence.{Buys-alike, slots, Valid}
-use Rattle.refinement.specs.Days.{terms-of, instance-of, Day-agrees, Days-as-Algorithm-4}
+use Rattle.refinement.specs.Days.{instance-of, Day-agrees, Days-as-Algorithm-4}
 use Rattle.refinement.proofs.Slots.{Simulates}
 use Rattle.refinement.proofs.Simulation.{Proper, proper, simulates-fresh, simulates-represents}
 use Rattle.refinement.proofs.Slot.{same-view, same-answer}
@@ -79,39 +77,31 @@ module _ (B : Terms → ℕ) (buys : Buys-alike B) where
       (campaign s i)
 
   abbrev pub Answered : History → Type 0
-  Answered h = h .answers ≡ map (view-answer (λ i. terms-of h i .price)) (matches (instance-of B h) (slots (h .views)))
+  Answered h = h .answers ≡ map (view-answer (price-of h)) (matches (instance-of B h) (slots (h .views)))
 
-  -- the state s holds the day h, and Algorithm 4 runs beside it
+  -- Algorithm 4 runs beside the day h, which the state s holds
   pub record Alongside (s : Day) (h : History) : Type 0 where
-    pub plan-is : s .plan ≡ h .plan
-    pub many : length (h .terms) ≡ s .count
-    pub deep : 1 ≤ h .plan .depth
-    pub priced : (i : ℕ) → i < length (h .terms) → 1 ≤ terms-of h i .price
-    pub funded : (i : ℕ) → i < length (h .terms) → terms-of h i .price ≤ terms-of h i .budget
-    pub unviewed : is-filling (s .phase) ≡ true → h .views ≡ []
+    pub valid : 1 < h .plan .width → Valid (h .plan) (length (h .terms)) (terms-of h)
     pub unplayed : is-filling (s .phase) ≡ true → (i : ℕ) → i < length (h .terms) → campaign s i ≡ fresh (terms-of h i)
     pub beside : 1 < h .plan .width → Beside h s
     pub answered : 1 < h .plan .width → Answered h
-    pub paused-is : s .paused ≡ h .paused
 
   alongside-opening : (p : Phase) (pl : Plan) → 1 ≤ pl .depth → Alongside (empty-plan p pl) (opening pl)
   unfolding matches-from
   alongside-opening p pl deep = record {
-    plan-is = refl;
-    many = refl;
-    deep = deep;
-    priced = λ i l. absurd (not-suc-le-zero l);
-    funded = λ i l. absurd (not-suc-le-zero l);
-    unviewed = λ _. refl;
+    valid = λ wide. record {
+      deep = deep;
+      wide = wide;
+      priced = λ i l. absurd (not-suc-le-zero l);
+      funded = λ i l. absurd (not-suc-le-zero l);
+    };
     unplayed = λ _ i l. absurd (not-suc-le-zero l);
     beside = λ _ i l. absurd (not-suc-le-zero l);
     answered = λ _. refl;
-    paused-is = refl;
   }
 
-  valid-of : (s : Day) (h : History) → Alongside s h → 1 < h .plan .width
-      → Valid (h .plan) (length (h .terms)) (terms-of h)
-  valid-of s h k wide = record { deep = k .deep; wide = wide; priced = k .priced; funded = k .funded }
+  opened : (s : Day) (pl : Plan) → Yes (questions s (open-plan pl)) → Alongside (empty-plan Filling pl) (opening pl)
+  opened s pl y = alongside-opening Filling pl (leb-true 1 (pl .depth) (both-left _ _ (y .1 .1 .0)))
 
   -- before the first view
   beside-fresh : (s : Day) (h : History) → Valid (h .plan) (length (h .terms)) (terms-of h) → h .views ≡ []
@@ -120,22 +110,23 @@ module _ (B : Terms → ℕ) (buys : Buys-alike B) where
   beside-fresh s h valid none same i l =
       rw (none, same i l) (simulates-fresh B buys (h .plan) (length (h .terms)) (terms-of h) valid i l)
 
-  module _ (s : Day) (h : History) (k : Alongside s h) where
+  module _ (s : Day) (h : History) (r : Reached s h) (k : Alongside s h) where
     module _ (t : Terms) (y : Yes (questions s (add-campaign t))) where
       more : History
       more = with-call h (add-campaign t) (result s (add-campaign t) .answer)
 
-      more-priced : (i : ℕ) → i < length (more .terms) → 1 ≤ terms-of more i .price
+      more-valid : 1 < h .plan .width → Valid (more .plan) (length (more .terms)) (terms-of more)
       unfolding more
-      more-priced =
-          snoc-all (λ i u. 1 ≤ u .price) (h .terms) t (k .priced)
-          (leb-true 1 (t .price) (both-left _ _ (y .1 .1 .1 .0)))
-
-      more-funded : (i : ℕ) → i < length (more .terms) → terms-of more i .price ≤ terms-of more i .budget
-      unfolding more
-      more-funded =
-          snoc-all (λ i u. u .price ≤ u .budget) (h .terms) t (k .funded)
-          (leb-true (t .price) (t .budget) (both-left _ _ (y .1 .1 .1 .1 .0)))
+      more-valid wide = record {
+        deep = k .valid wide .deep;
+        wide = wide;
+        priced =
+            snoc-all (λ i u. 1 ≤ u .price) (h .terms) t (k .valid wide .priced)
+            (leb-true 1 (t .price) (both-left _ _ (y .1 .1 .1 .0)));
+        funded =
+            snoc-all (λ i u. u .price ≤ u .budget) (h .terms) t (k .valid wide .funded)
+            (leb-true (t .price) (t .budget) (both-left _ _ (y .1 .1 .1 .1 .0)));
+      }
 
       more-fresh : (i : ℕ) → i < length (more .terms)
           → campaign (result s (add-campaign t) .day) i ≡ fresh (terms-of more i)
@@ -145,27 +136,22 @@ module _ (B : Terms → ℕ) (buys : Buys-alike B) where
           snoc-all (λ i u. campaign (result s (add-campaign t) .day) i ≡ fresh u) (h .terms) t
           (λ i l.
           campaign-of-state (head-joined s) (with-campaign s t) i
-          (omega (arith, k .many)) ∙ with-campaign-old s t i (λ e. omega (arith, k .many)) ∙ k .unplayed (y .1 .0) i l)
+          (omega (arith, r .tracks .many)) ∙ with-campaign-old s t i (λ e. omega (arith, r .tracks .many))
+          ∙ k .unplayed (y .1 .0) i l)
           (campaign-of-state (head-joined s) (with-campaign s t) (length (h .terms))
-          (omega (arith, k .many)) ∙ ap (with-campaign s t) (k .many) ∙ with-campaign-new s t)
+          (omega (arith, r .tracks .many)) ∙ ap (with-campaign s t) (r .tracks .many) ∙ with-campaign-new s t)
 
       alongside-add : Alongside (result s (add-campaign t) .day) more
       unfolding more matches-from
       alongside-add = record {
-        plan-is = k .plan-is;
-        many = length-append (h .terms) (t ∷ []) ∙ ap (λ n. n + 1) (k .many);
-        deep = k .deep;
-        priced = more-priced;
-        funded = more-funded;
-        unviewed = λ _. k .unviewed (y .1 .0);
+        valid = more-valid;
         unplayed = λ _. more-fresh;
         beside =
             λ wide.
-            beside-fresh (result s (add-campaign t) .day) more
-            (record { deep = k .deep; wide = wide; priced = more-priced; funded = more-funded })
-            (k .unviewed (y .1 .0)) more-fresh;
-        answered = λ wide. rw (k .unviewed (y .1 .0)) (rw (k .unviewed (y .1 .0)) at (k .answered wide));
-        paused-is = k .paused-is;
+            beside-fresh (result s (add-campaign t) .day) more (more-valid wide) (r .tracks .unviewed (y .1 .0))
+            more-fresh;
+        answered =
+            λ wide. rw (r .tracks .unviewed (y .1 .0)) (rw (r .tracks .unviewed (y .1 .0)) at (k .answered wide));
       }
 
     module _ (w : View) (y : Yes (questions s (show-view w))) where
@@ -184,30 +170,28 @@ module _ (B : Terms → ℕ) (buys : Buys-alike B) where
       module _ (wide : 1 < h .plan .width) where
         ok : Proper I
         unfolding I
-        ok = proper B buys (h .plan) (length (h .terms)) (terms-of h) (valid-of s h k wide)
+        ok = proper B buys (h .plan) (length (h .terms)) (terms-of h) (k .valid wide)
 
         view-simulates : (i : ℕ) → i < length (h .terms)
             → Simulates I (suc (length (h .views))) (lines-3-to-11 I (length (h .views)) (names (found s w)) so-far) i
             (shown s w i)
         unfolding I so-far ok
         view-simulates i l =
-            same-view I ok (length (h .views)) so-far s (sym (k .plan-is)) (k .many) (k .beside wide) w i l
+            same-view I ok (length (h .views)) so-far s (sym (r .tracks .plan-is)) (r .tracks .many)
+            (k .beside wide) w i l
 
         answers-as : view-answer (offers s w) (player s w)
-            ≡ view-answer (λ i. terms-of h i .price) (line-4 I (length (h .views)) (names (found s w)) so-far)
+            ≡ view-answer (price-of h) (line-4 I (length (h .views)) (names (found s w)) so-far)
         unfolding I so-far ok
-        answers-as = same-answer I ok (length (h .views)) so-far s (sym (k .plan-is)) (k .many) (k .beside wide) w
+        answers-as =
+            same-answer I ok (length (h .views)) so-far s (sym (r .tracks .plan-is)) (r .tracks .many)
+            (k .beside wide) w
 
       alongside-found : Alongside (result s (show-view w) .day)
           (with-view h (found s w) (result s (show-view w) .answer))
       unfolding I so-far
       alongside-found = record {
-        plan-is = k .plan-is;
-        many = k .many;
-        deep = k .deep;
-        priced = k .priced;
-        funded = k .funded;
-        unviewed = λ e. absurd (never false refl e);
+        valid = k .valid;
         unplayed = λ e. absurd (never false refl e);
         beside = λ wide i l.
             rw (
@@ -217,7 +201,7 @@ module _ (B : Terms → ℕ) (buys : Buys-alike B) where
               line-2-snoc I (slots (h .views)) (names (found s w)) 0 line-1,
               slots-many,
               campaign-of-state (head-shown s) (shown s w) i
-                  (omega (arith, sound-facts s (y .0) .few, k .many)),
+                  (omega (arith, sound-facts s (r .is-sound) .few, r .tracks .many)),
             )
             (view-simulates wide i l);
         answered = λ wide.
@@ -229,54 +213,32 @@ module _ (B : Terms → ℕ) (buys : Buys-alike B) where
               k .answered wide,
               answers-as wide,
             );
-        paused-is = k .paused-is;
       }
 
-      -- what the marks of the state leave is what those of the day leave
       alongside-view : Alongside (result s (show-view w) .day)
           (with-call h (show-view w) (result s (show-view w) .answer))
       alongside-view =
-          subst
-          (λ (m : ℕ).
-          Alongside (result s (show-view w) .day)
-          (with-view h (record { set = without (w .set) m }) (result s (show-view w) .answer)))
-          (k .paused-is) alongside-found
+          subst (Alongside (result s (show-view w) .day))
+          (view-found s h (r .tracks) w (result s (show-view w) .answer)) alongside-found
 
     -- a phase that is not Filling
     alongside-phase : (p : Phase) → is-filling p ≡ false → Alongside (in-phase s p) h
     alongside-phase p e = record {
-      plan-is = k .plan-is;
-      many = k .many;
-      deep = k .deep;
-      priced = k .priced;
-      funded = k .funded;
-      unviewed = λ f. absurd (never (is-filling p) e f);
+      valid = k .valid;
       unplayed = λ f. absurd (never (is-filling p) e f);
       beside = k .beside;
       answered = k .answered;
-      paused-is = k .paused-is;
     }
 
     alongside-marked : (b : Bool) (i : ℕ)
         → Alongside (result s (mark-campaign b i) .day) (with-call h (mark-campaign b i) Done)
-    alongside-marked b i = record {
-      plan-is = k .plan-is;
-      many = k .many;
-      deep = k .deep;
-      priced = k .priced;
-      funded = k .funded;
-      unviewed = k .unviewed;
-      unplayed = k .unplayed;
-      beside = k .beside;
-      answered = k .answered;
-      paused-is = ap (marked b i) (k .paused-is);
-    }
+    alongside-marked b i =
+        record { valid = k .valid; unplayed = k .unplayed; beside = k .beside; answered = k .answered }
 
     alongside-result : (c : Call) → Yes (questions s c)
         → Alongside (result s c .day) (with-call h c (result s c .answer))
     unfolding more
-    alongside-result (open-plan pl) y =
-        alongside-opening Filling pl (leb-true 1 (pl .depth) (both-left _ _ (y .1 .1 .0)))
+    alongside-result (open-plan pl) y = opened s pl y
     alongside-result (add-campaign t) y = alongside-add t y
     alongside-result start-day y = alongside-phase Running refl
     alongside-result (show-view w) y = alongside-view w y
@@ -284,50 +246,19 @@ module _ (B : Terms → ℕ) (buys : Buys-alike B) where
     alongside-result close-day y = alongside-phase (Closed (total-takings s)) refl
     alongside-result (mark-campaign b i) y = alongside-marked b i
 
-    alongside-call : (c : Call) → Alongside (call s c .day) (entered h (record { made = c; answer = call s c .answer }))
-    alongside-call c =
-        call-elim (λ o. Alongside (o .day) (entered h (record { made = c; answer = o .answer }))) s c
-        (λ q. rw (ne-eqb (suc q) 0 (λ z. omega arith)) k)
-        (λ y. rw (eq-eqb (number (result s c .answer)) 0 (result-number s c)) (alongside-result c y))
-
-  alongside-calls : (cs : List Call) (s : Day) (h : History) → Alongside s h
-      → Alongside (final s cs) (continued h (transcript s cs))
-  unfolding final transcript continued
-  alongside-calls [] s h k = k
-  alongside-calls (c ∷ cs) s h k =
-      alongside-calls cs (call s c .day) (entered h (record { made = c; answer = call s c .answer }))
-      (alongside-call s h k c)
-
   alongside-blank : Alongside blank (opening blank-plan)
   unfolding blank
   alongside-blank = alongside-opening (Closed 0) blank-plan (omega arith)
 
-  -- an accepted opening, from any state
-  alongside-from : (s : Day) (pl : Plan) → accepted (call s (open-plan pl) .answer) ≡ true
-      → Alongside (call s (open-plan pl) .day)
-      (entered (opening blank-plan) (record { made = open-plan pl; answer = call s (open-plan pl) .answer }))
-  alongside-from s pl e =
-      call-elim
-      (λ o. accepted (o .answer) ≡ true
-      → Alongside (o .day) (entered (opening blank-plan) (record { made = open-plan pl; answer = o .answer }))) s
-      (open-plan pl)
-      (λ q z. absurd (omega (arith, eqb-true (suc q) 0 z)))
-      (λ y z. alongside-opening Filling pl (leb-true 1 (pl .depth) (both-left _ _ (y .1 .1 .0)))) e
-
   alongside : (s : Day) (cs : List Call) → Starts s cs → Alongside (final s cs) (history (transcript s cs))
-  unfolding final transcript continued
-  alongside _ _ (from-blank cs) = alongside-calls cs blank (opening blank-plan) alongside-blank
-  alongside _ _ (from-opening s pl cs e) =
-      alongside-calls cs (call s (open-plan pl) .day)
-      (entered (opening blank-plan) (record { made = open-plan pl; answer = call s (open-plan pl) .answer }))
-      (alongside-from s pl e)
+  alongside = of-every-reached Alongside alongside-blank opened alongside-result
 
   agrees-of : (s : Day) (h : History) → Alongside s h → 1 < h .plan .width → Day-agrees B h s
   agrees-of s h k wide = record {
     same-answers = k .answered wide;
     same-tallies = λ i l.
         simulates-represents (instance-of B h)
-        (proper B buys (h .plan) (length (h .terms)) (terms-of h) (valid-of s h k wide)) (length (h .views))
+        (proper B buys (h .plan) (length (h .terms)) (terms-of h) (k .valid wide)) (length (h .views))
         (algorithm-4 (instance-of B h) (slots (h .views))) i (campaign s i) l (k .beside wide i l);
   }
 

@@ -26,11 +26,11 @@ use Rattle.refinement.specs.Fraction.{less}
 use Rattle.refinement.specs.Algorithm4.{Instance, Neighbors, Variables, feasible-neighbor, quantity, displaces}
 use Rattle.refinement.specs.Algorithm4.{line-1, line-2, line-3, line-4, lines-9-to-11, lines-3-to-11}
 use Rattle.refinement.specs.Algorithm4.{matches-from, algorithm-4}
-use Rattle.refinement.specs.Correspondence.{Buys-alike, instance, slots, Represents, Maximizes, Next, choices}
+use Rattle.refinement.specs.Correspondence.{Buys-alike, instance, slots, Represents, Maximizes, Arrives, choices}
 use Rattle.refinement.specs.Correspondence.{campaigns-after, Valid, Agrees, As-Algorithm-4}
 use Rattle.campaigns.proofs.Choices.{best-fits}
 use Rattle.refinement.proofs.Choices.{best-eq}
-use Rattle.refinement.proofs.Copies.{value-zero, value-copy, copy-full, one-age, one-turns, displaced}
+use Rattle.refinement.proofs.Copies.{value-zero, value-copy, copy-complete, one-age, one-turns, displaced}
 use Rattle.refinement.proofs.Copies.{value-quantity}
 use Rattle.refinement.proofs.Slots.{Simulates, unfinished, able-alike, after-slot}
 
@@ -112,7 +112,7 @@ module _ (I : Instance) (ok : Proper I) where
           ),
         )
 
-    pub next-slot : Next I j (names w) v
+    pub next-slot : Arrives I j (names w) v
     next-slot = record {
       maximizing = maximizes;
       only-one = λ m h′. one-maximizes I j (names w) v m (line-4 I j (names w) v) h′ maximizes;
@@ -190,7 +190,7 @@ module _ (B : Terms → ℕ) (buys : Buys-alike B) (pl : Plan) (n : ℕ) (t : �
         injective = λ i l. record {
           one-age = one-age I i (valid .deep) (valid .wide) (proper .bids i l) (proper .budgets i l);
           one-turns = one-turns I i (valid .deep) (valid .wide) (proper .bids i l) (proper .budgets i l);
-          full = copy-full I i (valid .deep) (valid .wide) (proper .bids i l) (proper .budgets i l);
+          complete = copy-complete I i (valid .deep) (valid .wide) (proper .bids i l) (proper .budgets i l);
         };
         same-counts =
             λ i l.

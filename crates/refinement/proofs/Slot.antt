@@ -33,12 +33,13 @@ use Rattle.day.specs.Calls.Call.{show-view}
 use Rattle.day.proofs.State.{Sound, sound-facts, held-at, campaign-of-state}
 use Rattle.demands.proofs.Refusals.{accepted-result}
 use Rattle.floor.specs.History.{accepted}
+use Rattle.floor.specs.Paused.{both}
 use Rattle.refinement.specs.Fraction.{_≈_}
 use Rattle.refinement.specs.Algorithm4.{Instance, Variables, C, feasible, feasible-neighbor, line-4}
 use Rattle.refinement.specs.Algorithm4.{lines-3-to-11}
 use Rattle.refinement.specs.Correspondence.{Buys-alike, copy, Represents}
 use Rattle.refinement.specs.Slot.{Represents-state, One-slot, terms-at, instance-at}
-use Rattle.refinement.specs.Slot.{variables-at, Represented, made-up, both, paper, Made-up}
+use Rattle.refinement.specs.Slot.{variables-at, Represented, made-up, made-up-instance, Made-up}
 use Rattle.refinement.proofs.Budgets.{budget-buys}
 use Rattle.refinement.proofs.Copies.{copy-value, copy-proper, value-quantity}
 use Rattle.refinement.proofs.Slots.{Simulates}
@@ -244,20 +245,21 @@ unfolding call first-failed sound sound-record sound-plan sound-campaign priced 
     whole claim sum count every table width-holds size within member choice best collect without including marked
 made-up-answered = refl
 
-made-up-matched : line-4 paper 5 (names (found made-up both)) (variables-at paper made-up) ≡ plays 1
+made-up-matched : line-4 made-up-instance 5 (names (found made-up both)) (variables-at made-up-instance made-up)
+    ≡ plays 1
 unfolding line-4 feasible C best member sum table collect without
 made-up-matched = refl
 
 -- so the theorem speaks of this state
 pub made-up-agrees : Made-up
 made-up-agrees =
-    let r : Represents-state paper 5 (variables-at paper made-up) made-up =
+    let r : Represents-state made-up-instance 5 (variables-at made-up-instance made-up) made-up =
     represented (λ t. t .budget) budget-buys made-up made-up-sound (omega arith) in
     record {
       is-sound = made-up-sound;
       answered = made-up-answered;
       matched = made-up-matched;
       after =
-          one-slot made-up made-up-sound (omega arith) paper 5 (variables-at paper made-up) r both
+          one-slot made-up made-up-sound (omega arith) made-up-instance 5 (variables-at made-up-instance made-up) r both
           (rw made-up-answered) .1;
     }

@@ -66,7 +66,7 @@ pub record Represents (I : Instance) (j : ℕ) (v : Variables) (i : ℕ) (c : Ca
 pub record Injective (I : Instance) (i : ℕ) : Type 0 where
   pub one-age : (a a′ : ℕ) → copy I i a ≈ copy I i a′ → a ≡ a′
   pub one-turns : (t t′ : ℕ) → integer t ⊗ part I i ≈ integer t′ ⊗ part I i → t ≡ t′
-  pub full : copy I i (I .k) ≈ part I i
+  pub complete : copy I i (I .k) ≈ part I i
 
 -- lines 3 and 4 in their words: a feasible neighbor is matched, none has a greater quantity, and none of a lower number
 -- an equal one; or there is no feasible neighbor
@@ -79,7 +79,7 @@ Maximizes I j N v (plays m) =
 
 -- slot j arrives: line 4 matches as its words say, and nobody else would do; and no copy waits to be finished, so that
 -- lines 9 to 11 do nothing where nobody is matched, whether they stand under line 3 or not
-pub record Next (I : Instance) (j : ℕ) (N : Neighbors) (v : Variables) : Type 0 where
+pub record Arrives (I : Instance) (j : ℕ) (N : Neighbors) (v : Variables) : Type 0 where
   pub maximizing : Maximizes I j N v (line-4 I j N v)
   pub only-one : (m : Choice) → Maximizes I j N v m → m ≡ line-4 I j N v
   pub none-waits : (i : ℕ) → i < I .n → line-9 I N v i ≡ false
@@ -107,7 +107,7 @@ pub record Agrees (I : Instance) (pl : Plan) (t : ℕ → Terms) (ws : List View
   pub injective : (i : ℕ) → i < I .n → Injective I i
   pub same-counts : (i : ℕ) → i < I .n → Represents I (length ws) (algorithm-4 I (slots ws)) i
       (campaigns-after (I .n) pl ws (λ i′. fresh (t i′)) i)
-  pub next : (w : View) → Next I (length ws) (names w) (algorithm-4 I (slots ws))
+  pub next : (w : View) → Arrives I (length ws) (names w) (algorithm-4 I (slots ws))
 
 abbrev pub As-Algorithm-4 : Type 0
 As-Algorithm-4 = (B : Terms → ℕ) → Buys-alike B → (pl : Plan) (n : ℕ) (t : ℕ → Terms) → Valid pl n t → (ws : List View)

@@ -3,20 +3,18 @@
 use mathlib.Core.Path.{_≡_}
 use mathlib.Core.List.{List, map}
 use Prim.Native.Nat.{ℕ, _<_}
-use lib.ListN.{getD, length}
+use lib.ListN.{length}
 use Rattle.day.specs.declared.Day.{Day}
 use Rattle.campaigns.specs.declared.Terms.{Terms}
-use Rattle.day.specs.Day.{campaign, no-terms}
+use Rattle.day.specs.Day.{campaign}
 use Rattle.day.specs.Calls.{Call, view-answer}
 use Rattle.demands.specs.Transcript.{transcript, final}
 use Rattle.floor.specs.History.{Starts, History, history}
+use Rattle.floor.specs.Floor.{terms-of, price-of}
 use Rattle.refinement.specs.Algorithm4.{Instance, algorithm-4, matches}
 use Rattle.refinement.specs.Correspondence.{Buys-alike, instance, slots, Represents}
 
 -- the paper's instance for a day: what was handed to the opening and to the accepted addings
-abbrev pub terms-of : History → ℕ → Terms
-terms-of h i = getD (h .terms) i no-terms
-
 abbrev pub instance-of : (Terms → ℕ) → History → Instance
 instance-of B h = instance B (h .plan) (length (h .terms)) (terms-of h)
 
@@ -24,7 +22,7 @@ instance-of B h = instance B (h .plan) (length (h .terms)) (terms-of h)
 -- matched, and the tallies represent its variables
 pub record Day-agrees (B : Terms → ℕ) (h : History) (s : Day) : Type 0 where
   pub same-answers : h .answers
-      ≡ map (view-answer (λ i. terms-of h i .price)) (matches (instance-of B h) (slots (h .views)))
+      ≡ map (view-answer (price-of h)) (matches (instance-of B h) (slots (h .views)))
   pub same-tallies : (i : ℕ) → i < length (h .terms)
       → Represents (instance-of B h) (length (h .views)) (algorithm-4 (instance-of B h) (slots (h .views))) i
       (campaign s i)

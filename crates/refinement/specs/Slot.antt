@@ -19,6 +19,7 @@ use Rattle.day.specs.Day.{campaign, state-with, no-terms, sound}
 use Rattle.day.specs.Calls.{found, view-answer, call}
 use Rattle.day.specs.Calls.Call.{show-view}
 use Rattle.floor.specs.History.{accepted}
+use Rattle.floor.specs.Paused.{both}
 use Rattle.refinement.specs.Fraction.{integer, _⊗_}
 use Rattle.refinement.specs.Algorithm4.{Instance, Variables, part, line-4, lines-3-to-11}
 use Rattle.refinement.specs.Correspondence.{Buys-alike, instance, copy, Represents}
@@ -70,17 +71,16 @@ made-up = state-with
     (λ i. getD (record { price = 5; budget = 10; plays = 1; turns = 1; age = 0; named = 3 } ∷
     record { price = 3; budget = 6; plays = 0; turns = 0; age = 1; named = 1 } ∷ []) i (fresh no-terms))
 
-abbrev pub both : View
-both = record { set = 3 }
-
-abbrev pub paper : Instance
-paper = instance-at (λ t. t .budget) made-up
+-- the paper's instance for it
+abbrev pub made-up-instance : Instance
+made-up-instance = instance-at (λ t. t .budget) made-up
 
 -- both sides of the theorem, computed
 pub record Made-up : Type 0 where
   pub is-sound : sound made-up ≡ true
   pub answered : call made-up (show-view both) .answer ≡ Played 1 3
-  pub matched : line-4 paper 5 (names (found made-up both)) (variables-at paper made-up) ≡ plays 1
-  pub after : Represents-state paper 6
-      (lines-3-to-11 paper 5 (names (found made-up both)) (variables-at paper made-up))
+  pub matched : line-4 made-up-instance 5 (names (found made-up both)) (variables-at made-up-instance made-up)
+      ≡ plays 1
+  pub after : Represents-state made-up-instance 6
+      (lines-3-to-11 made-up-instance 5 (names (found made-up both)) (variables-at made-up-instance made-up))
       (call made-up (show-view both) .day)

@@ -14,11 +14,14 @@ use Rattle.day.specs.Day.{blank, total-takings, total-claim, total-budgets}
 use Rattle.day.specs.Day.{sound}
 use Rattle.questions.specs.Questions.{first-failed, width-holds}
 use Rattle.day.specs.Calls.{marked, Call, call}
-use Rattle.demands.specs.Transcript.{transcript, final}
+use Rattle.demands.specs.Transcript.{Exchange, transcript, final}
+use Rattle.demands.specs.Cases.{calls-made, listing, listing-end}
+use Rattle.demands.proofs.Cases.{listing-runs, listing-ends}
 use Rattle.floor.specs.History.{Starts, day-takings, continued, history}
 use Rattle.floor.specs.History.Starts.{from-blank, from-opening}
+use Rattle.floor.specs.Moments.{second-day}
 use Rattle.replay.specs.Replay.{call-in, decode}
-use Rattle.replay.specs.Examples.{Example, Examples, listing, listed, next-day, with-pause, pausing}
+use Rattle.replay.specs.Examples.{Example, Examples, listing-words, next-day, with-pause, pausing}
 
 example : (s : Day) (words : List ℕ) (calls : List Call) (paid : ℕ) → decode words ≡ calls → Starts s calls
     → day-takings (history (transcript s calls)) ≡ paid → Example s words calls paid
@@ -33,7 +36,9 @@ unfolding call-in decode transcript final continued call first-failed sound soun
     total within size member width-holds weight share whole claim total-takings total-claim total-budgets sound-plan
     priced counted uncounted empty sound-campaign best choice collect without including marked
 examples = (
-  example blank listing listed 16 refl (from-blank listed) refl,
-  example (final blank listed) next-day _ 2 refl (from-opening (final blank listed) _ _ refl) refl,
+  example blank listing-words (calls-made listing) 16 refl (from-blank (calls-made listing))
+      (ap (λ (xs : List Exchange). day-takings (history xs)) listing-runs),
+  subst⁻¹ (λ (s : Day). Example s next-day second-day 2) listing-ends
+      (example listing-end next-day second-day 2 refl (from-opening listing-end _ _ refl) refl),
   example blank with-pause pausing 10 refl (from-blank pausing) refl,
 )

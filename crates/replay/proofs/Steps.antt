@@ -39,7 +39,7 @@ use Rattle.floor.proofs.Floor.{demand-3}
 use Rattle.floor.proofs.Noon.{noon-at-end}
 use Rattle.replay.specs.declared.Replayed.{Replayed}
 use Rattle.replay.specs.Replay.{call-in, decode, Replays}
-use Rattle.replay.specs.Contracts.{at, Runs}
+use Rattle.replay.specs.Contracts.{at, Replays-to}
 
 -- a sound state pays at most 1,000,000 for a view
 pays-most : (s : Day) (w : View) → Sound s → paid-in (view-answer (offers s w) (player s w)) ≤ max-price
@@ -125,7 +125,7 @@ bounded-calls (c ∷ cs) s h b =
 -- One call as the code makes it.
 module _ (s : Day) (p : ℕ) (c : Call) (o : Outcome) (e : o ≡ call s c) (x : ℕ)
     (paid : (h : History) → day-takings h ≡ p → day-takings (entered h (exchange c (o .answer))) ≡ x) where
-  pub one-call : Runs s p (c ∷ []) (at (o .day) x)
+  pub one-call : Replays-to s p (c ∷ []) (at (o .day) x)
   unfolding final transcript continued
   one-call h q =
       subst (λ (r : Outcome). at (o .day) x ≡ at (r .day) (day-takings (entered h (exchange c (r .answer))))) e
@@ -133,15 +133,15 @@ module _ (s : Day) (p : ℕ) (c : Call) (o : Outcome) (e : o ≡ call s c) (x : 
 
 module _ (s : Day) (p : ℕ) (pl : Plan) (o : Outcome) (e : o ≡ call s (open-plan pl)) where
   -- an opening's answer tells whether the takings begin again
-  pub opened : number (o .answer) ≡ 0 → Runs s p (open-plan pl ∷ []) (at (o .day) 0)
+  pub opened : number (o .answer) ≡ 0 → Replays-to s p (open-plan pl ∷ []) (at (o .day) 0)
   unfolding total
   opened z = one-call s p (open-plan pl) o e 0 (λ h q. rw (eq-eqb (number (o .answer)) 0 z))
 
-  pub not-opened : (number (o .answer) ≡ 0 → ⊥) → Runs s p (open-plan pl ∷ []) (at (o .day) p)
+  pub not-opened : (number (o .answer) ≡ 0 → ⊥) → Replays-to s p (open-plan pl ∷ []) (at (o .day) p)
   not-opened z = one-call s p (open-plan pl) o e p (λ h q. rw (ne-eqb (number (o .answer)) 0 z) q)
 
 pub viewed-once : (s : Day) (p : ℕ) (w : View) (o : Outcome) → o ≡ call s (show-view w)
-    → Runs s p (show-view w ∷ []) (at (o .day) (p + paid-in (o .answer)))
+    → Replays-to s p (show-view w ∷ []) (at (o .day) (p + paid-in (o .answer)))
 viewed-once s p w o e =
     one-call s p (show-view w) o e (p + paid-in (o .answer))
     (λ h q. view-takings h w (o .answer) ∙ ap (λ (n : ℕ). n + paid-in (o .answer)) q)
@@ -149,7 +149,7 @@ viewed-once s p w o e =
 -- the other calls leave the takings
 pub unpaid : (s : Day) (p : ℕ) (c : Call) (o : Outcome) → o ≡ call s c
     → ((h : History) (a : Answer) → day-takings (with-call h c a) ≡ day-takings h)
-    → Runs s p (c ∷ []) (at (o .day) p)
+    → Replays-to s p (c ∷ []) (at (o .day) p)
 unpaid s p c o e k = one-call s p c o e p (λ h q. quiet h c (o .answer) (k h (o .answer)) ∙ q)
 
 -- A list and what follows it.
@@ -198,7 +198,7 @@ rest-start s ws = record {
 
 -- a call made of three words
 pub rest-step : (s : Day) (ws : List ℕ) (i : ℕ) (s₁ : Day) (p : ℕ) (r : Replayed) → i + 3 ≤ length ws
-    → Rest s ws i s₁ p → Runs s₁ p (call-in (getD ws i 0) (getD ws (i + 1) 0) (getD ws (i + 2) 0)) r
+    → Rest s ws i s₁ p → Replays-to s₁ p (call-in (getD ws i 0) (getD ws (i + 1) 0) (getD ws (i + 2) 0)) r
     → Rest s ws (i + 3) (r .day) (r .paid)
 unfolding decode
 rest-step s ws i s₁ p r l k runs =
@@ -247,7 +247,7 @@ pub no-call : (kind a b : ℕ) → 8 ≤ kind → call-in kind a b ≡ []
 unfolding call-in
 no-call kind a b h = ap (take 1) (drop-of-length-le _ h)
 
-pub no-calls : (s : Day) (p : ℕ) → Runs s p [] (at s p)
+pub no-calls : (s : Day) (p : ℕ) → Replays-to s p [] (at s p)
 unfolding final transcript continued
 no-calls s p h q = ap (at s) (sym q)
 

@@ -13,6 +13,6 @@ abbrev pub at : Day → ℕ → Replayed
 at s p = record { day = s; paid = p }
 
 -- r is what calls make of the state s and of the takings p, of whatever day these are the takings
-abbrev pub Runs : (s : Day) (p : ℕ) → List Call → Replayed → Type 0
-Runs s p cs r =
+abbrev pub Replays-to : (s : Day) (p : ℕ) → List Call → Replayed → Type 0
+Replays-to s p cs r =
     (h : History) → day-takings h ≡ p → r ≡ at (final s cs) (day-takings (continued h (transcript s cs)))

@@ -5,10 +5,11 @@ use Prim.Native.Nat.{ℕ}
 use Rattle.day.specs.declared.Day.{Day}
 use Rattle.day.specs.Day.{blank, total-takings}
 use Rattle.day.specs.Calls.{Call}
-use Rattle.day.specs.Calls.Call.{start-day, ask-tally, close-day}
+use Rattle.day.specs.Calls.Call.{start-day}
 use Rattle.demands.specs.Transcript.{final}
-use Rattle.demands.specs.Cases.{plan, campaign-of, view, pause, resume}
+use Rattle.demands.specs.Cases.{calls-made, plan, campaign-of, view, pause, resume, listing}
 use Rattle.floor.specs.History.{Starts}
+use Rattle.floor.specs.Moments.{second-day}
 use Rattle.replay.specs.declared.Replayed.{Replayed}
 use Rattle.replay.specs.Replay.{decode, Replays}
 
@@ -19,17 +20,12 @@ pub record Example (s : Day) (words : List ℕ) (calls : List Call) (paid : ℕ)
   pub pays : (r : Replayed) → Replays s words r → (r .paid ≡ paid) × (total-takings (r .day) ≡ paid)
 
 -- document 01's listing, with a kind that is no call and two words left at the end
-abbrev pub listing : List ℕ
-listing =
+abbrev pub listing-words : List ℕ
+listing-words =
     0 ∷ 2 ∷ 2 ∷ 1 ∷ 5 ∷ 10 ∷ 1 ∷ 3 ∷ 6 ∷ 2 ∷ 0 ∷ 0 ∷ 3 ∷ 3 ∷ 0 ∷ 3 ∷ 3 ∷ 0 ∷ 3 ∷ 3 ∷ 0 ∷ 3 ∷ 1 ∷ 0 ∷
     9 ∷ 3 ∷ 3 ∷ 3 ∷ 2 ∷ 0 ∷ 3 ∷ 4 ∷ 0 ∷ 5 ∷ 0 ∷ 0 ∷ 4 ∷ 0 ∷ 0 ∷ 4 ∷ 1 ∷ 0 ∷ 3 ∷ 3 ∷ []
 
-abbrev pub listed : List Call
-listed =
-    plan 2 2 ∷ campaign-of 5 10 ∷ campaign-of 3 6 ∷ start-day ∷ view 3 ∷ view 3 ∷ view 3 ∷ view 1 ∷
-    view 2 ∷ view 4 ∷ close-day ∷ ask-tally 0 ∷ ask-tally 1 ∷ []
-
--- another day from where the listing ended: its takings begin again
+-- another day from where the listing ended (`second-day`): its takings begin again
 abbrev pub next-day : List ℕ
 next-day = 0 ∷ 1 ∷ 2 ∷ 1 ∷ 2 ∷ 2 ∷ 1 ∷ 1 ∷ 1 ∷ 2 ∷ 0 ∷ 0 ∷ 3 ∷ 3 ∷ 0 ∷ []
 
@@ -43,6 +39,6 @@ pausing = plan 2 2 ∷ campaign-of 5 10 ∷ start-day ∷ view 1 ∷ pause 0 ∷
 
 abbrev pub Examples : Type 0
 Examples =
-    Example blank listing listed 16 ×
-    Example (final blank listed) next-day (plan 1 2 ∷ campaign-of 2 2 ∷ campaign-of 1 1 ∷ start-day ∷ view 3 ∷ []) 2 ×
+    Example blank listing-words (calls-made listing) 16 ×
+    Example (final blank (calls-made listing)) next-day second-day 2 ×
     Example blank with-pause pausing 10

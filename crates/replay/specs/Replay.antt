@@ -27,7 +27,7 @@ decode (kind ∷ []) = []
 decode (kind ∷ a ∷ []) = []
 decode (kind ∷ a ∷ b ∷ words) = call-in kind a b ++ decode words
 
--- the words of calls: kinds and arguments, so that they fit where the arguments do
+-- the words of a call: its kind and its arguments as they are, so that they have 64 bits if the arguments have
 abbrev pub words-of : Call → List ℕ
 words-of (open-plan pl) = 0 ∷ pl .depth ∷ pl .width ∷ []
 words-of (add-campaign t) = 1 ∷ t .price ∷ t .budget ∷ []

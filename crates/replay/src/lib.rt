@@ -14,7 +14,7 @@ ghost use Rattle.day.specs.Calls.{number};
 ghost use Rattle.day.specs.Calls.Call.{open-plan, show-view};
 ghost use Rattle.floor.specs.History.{paid-in};
 ghost use Rattle.replay.specs.Replay.{call-in, Replays};
-ghost use Rattle.replay.specs.Contracts.{at, Runs};
+ghost use Rattle.replay.specs.Contracts.{at, Replays-to};
 
 // The state at a list's end, and the day's takings, added up from the answers.
 pub struct Replayed {
@@ -73,7 +73,7 @@ fn paid_in(answer: Answer) -> u64
 
 // An accepted opening begins a day, so that the takings begin again.
 fn open(day: Day, paid: u64, plan: Plan) -> Replayed
-    ensures { λ r. ⌜ Runs day paid (open-plan plan ∷ []) r ⌝ }
+    ensures { λ r. ⌜ Replays-to day paid (open-plan plan ∷ []) r ⌝ }
 {
     let outcome = day.open(plan);
     let answer = outcome.answer;
@@ -86,7 +86,7 @@ fn open(day: Day, paid: u64, plan: Plan) -> Replayed
 // A view adds what its answer says was paid. Each accepted view pays at most 1,000,000, and there are at most 4,096.
 fn view(day: Day, paid: u64, view: View) -> Replayed
     requires { ⌜ paid ≤ max-price * day .accepted ⌝ }
-    ensures { λ r. ⌜ Runs day paid (show-view view ∷ []) r ⌝ }
+    ensures { λ r. ⌜ Replays-to day paid (show-view view ∷ []) r ⌝ }
 {
     let outcome = day.view(view);
     let answer = outcome.answer;
@@ -108,7 +108,7 @@ fn keep(outcome: Outcome, paid: u64) -> Replayed
 // One call, or none where the kind is none of the eight.
 fn step(day: Day, paid: u64, kind: u64, a: u64, b: u64) -> Replayed
     requires { ⌜ paid ≤ max-price * day .accepted ⌝ }
-    ensures { λ r. ⌜ Runs day paid (call-in kind a b) r ⌝ }
+    ensures { λ r. ⌜ Replays-to day paid (call-in kind a b) r ⌝ }
 {
     match kind {
         0 => open(day, paid, Plan { depth: a, width: b }),

@@ -8,7 +8,7 @@ use Rattle.campaigns.specs.declared.Head.{Head}
 use Rattle.campaigns.specs.declared.Phase.the-variants.{Filling}
 use Rattle.campaigns.specs.declared.Plan.{Plan}
 use Rattle.campaigns.specs.Campaign.{sound-plan, fresh}
-use Rattle.campaigns.specs.Contracts.{Room, Weights}
+use Rattle.campaigns.specs.Contracts.{Sized, Weights}
 use Rattle.day.specs.declared.Day.{Day}
 use Rattle.day.specs.declared.Outcome.{Outcome}
 use Rattle.day.specs.declared.Step.{Step}
@@ -26,10 +26,10 @@ use Rattle.reply.specs.Reply.Request.{makes, fails}
 use Rattle.reply.specs.Contracts.{unsound-number}
 
 -- every call leaves the arrays full
-call-room : (s : Day) (c : Call) → Room (s .terms) (s .counts) → Room (call s c .day .terms) (call s c .day .counts)
-call-room s c h = call-elim (λ (o : Outcome). Room (o .day .terms) (o .day .counts)) s c (λ q. h) (go c)
+call-room : (s : Day) (c : Call) → Sized (s .terms) (s .counts) → Sized (call s c .day .terms) (call s c .day .counts)
+call-room s c h = call-elim (λ (o : Outcome). Sized (o .day .terms) (o .day .counts)) s c (λ q. h) (go c)
   where
-    go : (c : Call) → Yes (questions s c) → Room (result s c .day .terms) (result s c .day .counts)
+    go : (c : Call) → Yes (questions s c) → Sized (result s c .day .terms) (result s c .day .counts)
     go (open-plan pl) y = holding-room (head-of (empty-plan Filling pl)) (λ i. fresh no-terms)
     go (add-campaign t) y = holding-room (head-joined s) (with-campaign s t)
     go start-day y = h
@@ -74,7 +74,7 @@ plan-kept h t n k = sound-facts (state-of h t n) (k .is-sound) .plan-sound
 call-kept : (h : Head) (t n : List ℕ) (c : Call) → Kept h t n → (r : Step) (t′ n′ : List ℕ) → outcome-of r t′ n′
     ≡ call (state-of h t n) c → Kept (r .head) t′ n′
 call-kept h t n c k r t′ n′ e = record {
-  room = subst (λ (o : Outcome). Room (o .day .terms) (o .day .counts)) (sym e)
+  room = subst (λ (o : Outcome). Sized (o .day .terms) (o .day .counts)) (sym e)
       (call-room (state-of h t n) c (k .room));
   is-sound = ap (λ (o : Outcome). sound (o .day)) e ∙ sound-kept (state-of h t n) c (k .is-sound);
 }
@@ -101,7 +101,7 @@ module _ {b : Bool} {h : Head} {w t n : List ℕ} (k : Ready b h w t n) where
       go : (q : Request) → outcome-of r t′ n′ ≡ executed (state-of h t n) q → Kept (r .head) t′ n′
       go (makes c) p = call-kept h t n c (kept-ready e) r t′ n′ p
       go (fails q) p = record {
-        room = subst (λ (o : Outcome). Room (o .day .terms) (o .day .counts)) (sym p) (k .room);
+        room = subst (λ (o : Outcome). Sized (o .day .terms) (o .day .counts)) (sym p) (k .room);
         is-sound = ap (λ (o : Outcome). sound (o .day)) p ∙ k .sound-is ∙ e;
       }
 

@@ -11,7 +11,7 @@ use Rattle.lines.specs.Form.{text, in-range}
 use Rattle.lines.specs.declared.Record.{Record}
 use Rattle.lines.proofs.Choice.{text-most}
 use Rattle.writer.specs.declared.Writing.the-variants.{Length}
-use Rattle.writer.specs.Writing.{line, question, writing, written}
+use Rattle.writer.specs.Writing.{line, write-question, writing, written}
 use Rattle.buffer.specs.Buffer.{over}
 use Rattle.buffer.proofs.Over.{over-front}
 
@@ -21,8 +21,8 @@ line-most r = omega (arith, length-append (text r) (10 ∷ []), text-most r)
 
 -- writing a record that is in its ranges into a buffer that has room
 module _ (r : Record) (d : List ℕ) (h : in-range r ≡ true) (k : answer-room ≤ length d) where
-  no-question : question r d ≡ 0
-  unfolding question
+  no-question : write-question r d ≡ 0
+  unfolding write-question
   no-question = rw (h, le-leb (length (line r)) (length d) (omega (arith, line-most r)))
 
   pub writing-is : writing r d ≡ Length (length (line r))

@@ -2,10 +2,12 @@
 use mathlib.Core.Path.{_≡_}
 use mathlib.Core.Bool.{Bool, true}
 use mathlib.Core.List.{List}
-use Prim.Native.Nat.{ℕ, _+_, _≤_}
+use Prim.Native.Nat.{ℕ, _+_, _*_, _≤_}
 use Rattle.lines.specs.declared.Record.the-variants.{Done, Play, Nobody, Refused, Closed}
+use Rattle.lines.specs.Limits.{answer-room}
 use Rattle.lines.specs.Form.{in-range}
 use Rattle.buffer.specs.Buffer.{Put}
+use Rattle.campaigns.specs.Limits.{max-campaigns}
 use Rattle.day.specs.declared.Answer.{Answer}
 use Rattle.day.specs.declared.Answer.the-variants.{Refused as refusing, Done as done, Played as played}
 use Rattle.day.specs.declared.Answer.the-variants.{Nobody as no-one, Tallied as tallied, Closing as closing}
@@ -13,6 +15,10 @@ use Rattle.day.specs.declared.Day.{Day}
 use Rattle.reply.specs.Reply.{Request, reply, next}
 use Rattle.reply.specs.Reply.Request.{makes, fails}
 use Rattle.reply.specs.Session.{reply-room}
+
+-- room for the tallies of all campaigns
+abbrev pub tallies-room : ℕ
+tallies-room = max-campaigns * answer-room
 
 -- the numbers of the answer's line are in their ranges
 abbrev pub answer-in-range : Answer → Bool

@@ -11,9 +11,10 @@ ghost use Rattle.lines.specs.Limits.{answer-room};
 ghost use Rattle.lines.specs.Form.{in-range};
 ghost use Rattle.writer.specs.Writing.{line};
 ghost use Rattle.buffer.specs.Buffer.{Put};
+ghost use Rattle.campaigns.specs.Limits.{max-campaigns};
 ghost use Rattle.campaigns.specs.Campaign.{campaign-at};
 ghost use Rattle.reply.specs.Reply.{tally-record, tallies, answer-line, is-closing};
-ghost use Rattle.reply.specs.Contracts.{answer-in-range};
+ghost use Rattle.reply.specs.Contracts.{answer-in-range, tallies-room};
 
 // The line of a record that is in its ranges, at the place at.
 fn write_record(r: Record, out: &mut [u8], at: usize) -> usize
@@ -86,7 +87,7 @@ pub fn closes(answer: Answer) -> bool
 
 // The tally of campaign i.
 fn tally_record<'a>(i: u64, terms: &'a [u32; 128], counts: &'a [u16; 256]) -> Record
-    requires { ⌜ i < 64 ⌝ }
+    requires { ⌜ i < max-campaigns ⌝ }
     ensures { λ r. ⌜ (r ≡ tally-record i (campaign-at (now (terms .entry)) (now (counts .entry)) i))
         × (in-range r ≡ true) ⌝ }
 {
@@ -109,9 +110,9 @@ pub fn write_tallies<'a>(
     out: &mut [u8],
     at: usize,
 ) -> usize
-    requires { ⌜ (n ≤ 64) × (at + 12864 ≤ length (now out)) ⌝ }
+    requires { ⌜ (n ≤ max-campaigns) × (at + tallies-room ≤ length (now out)) ⌝ }
     ensures { λ to. ⌜ Put (now (out .entry)) (now (out .exit)) at to
-        (tallies (campaign-at (now (terms .entry)) (now (counts .entry))) n) × (to ≤ at + 12864) ⌝ }
+        (tallies (campaign-at (now (terms .entry)) (now (counts .entry))) n) × (to ≤ at + tallies-room) ⌝ }
 {
     let mut i: u64 = 0;
     let mut to = at;

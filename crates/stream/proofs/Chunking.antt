@@ -1,4 +1,4 @@
--- A stream that is handed an input in any blocks writes the answers to its lines.
+-- A stream that is handed an input in any blocks writes the answers to its lines, and ends with the state after them.
 use mathlib.Core.Path.{_≡_, refl, sym, ap, ap₂, _∙_, subst, subst⁻¹}
 use mathlib.Core.Bool.{Bool, true, false, cond}
 use mathlib.Core.List.{List, [], _∷_, _++_, append-assoc, append-nil}
@@ -17,8 +17,9 @@ use Rattle.reply.proofs.Sessions.{cut-reply, cut-next, fed-append, byte-plain, 
 use Rattle.stream.specs.declared.feed.Stream.{Stream}
 use Rattle.stream.specs.declared.feed.Fed.{Fed}
 use Rattle.stream.specs.Stream.{finished, session, new-stream, session-of, silent, Comes-to, Feeds, Finishes}
-use Rattle.stream.specs.Chunking.{joined, Plain, All-plain, after-lines, replies, Split, Feeding, Takes}
-use Rattle.stream.specs.Chunking.{stream-after, all-written, last-reply, Any-input, Any-chunking}
+use Rattle.stream.specs.Chunking.{joined, Plain, All-plain, after-lines, replies, Split, Feeding, In-blocks}
+use Rattle.stream.specs.Chunking.{stream-after, all-written, last-reply, with-rest, all-lines, Any-input}
+use Rattle.stream.specs.Chunking.{Any-chunking}
 use Rattle.batch.proofs.Rests.{rest-fed}
 
 abbrev pub with-said : Session → List ℕ → Session
@@ -94,7 +95,7 @@ written-inside {y} {n} {d} h =
 
 -- all that is written, with the end of input, is what the whole input says
 module _ (d e : List ℕ) (r : Fed) (room : 16384 ≤ length d) where
-  all-written-is : (k : Stream) (l : List ℕ) (fs : List Feeding) → Takes k l fs → Finishes (stream-after k fs) d e r
+  all-written-is : (k : Stream) (l : List ℕ) (fs : List Feeding) → In-blocks k l fs → Finishes (stream-after k fs) d e r
       → all-written fs ++ take (r .written) e ≡ fed (session-of k) l .output ++ finished
       (silent (fed (session-of k) l)) .output
   unfolding fed
@@ -220,3 +221,25 @@ split (b ∷ l) = go (eqb b 10) refl (split l)
     go : (t : Bool) → eqb b 10 ≡ t → Split l → Split (b ∷ l)
     go true e s = end-line b l (eqb-true b 10 e) s
     go false e s = more-byte b l e (s .lines) (s .rest) (s .lines-plain) (s .rest-plain) (s .whole)
+
+-- The state at the end of an input.
+after-last : (s : Day) (ls : List (List ℕ)) (l : List ℕ) → next (after-lines s ls) l ≡ after-lines s (ls ++ (l ∷ []))
+unfolding after-lines
+after-last s [] l = refl
+after-last s (k ∷ ls) l = after-last (next s k) ls l
+
+state-after : (s : Day) (ls : List (List ℕ)) (rest : List ℕ)
+    → finished (record { day = after-lines s ls; pending = take 201 rest; output = [] }) .day
+    ≡ after-lines s (with-rest ls rest)
+unfolding finished
+state-after s ls [] = refl
+state-after s ls (b ∷ l) = cut-next (after-lines s ls) (b ∷ l) ∙ after-last s ls (b ∷ l)
+
+pub state-at-end : (input : List ℕ) (i : Split input) → finished (silent (fed (session-of new-stream) input)) .day
+    ≡ after-lines blank (all-lines i)
+state-at-end input i =
+    let x = session-of new-stream in
+    ap (λ (m : List ℕ). finished (silent (fed x m)) .day) (sym (i .whole))
+    ∙ ap (λ (y : Session). finished (silent y) .day) (fed-lines blank [] (i .lines) (i .rest) (i .lines-plain)
+    (i .rest-plain))
+    ∙ state-after blank (i .lines) (i .rest)

@@ -159,16 +159,16 @@ lent-is : (k : Stream) {h : Head} → h ≡ head-of (k .day)
 lent-is k e = ap (λ (h : Head). stream-at h (k .day .terms) (k .day .counts) (k .pending) (k .kept)) e
 
 -- what is done to it in place, by value
-module _ (k : Stream) {h : Head} (same : h ≡ head-of (k .day)) (d e : List ℕ) {m r : Fed} (back-is : r ≡ m) where
+module _ (k : Stream) {h : Head} (same : h ≡ head-of (k .day)) {m r : Fed} (back-is : r ≡ m) where
   abbrev lent : Stream
   lent = stream-at h (k .day .terms) (k .day .counts) (k .pending) (k .kept)
 
-  pub feeds-by-value : (l : List ℕ) → Feeds lent l d e m → Feeds k l d e r
-  feeds-by-value l f =
+  pub feeds-by-value : (l : List ℕ) {d e : List ℕ} → Feeds lent l d e m → Feeds k l d e r
+  feeds-by-value l {d} {e} f =
       subst (λ (s : Stream). Feeds s l d e r) (lent-is k same)
       (record { back-is = back-is ∙ f .back-is; out-is = f .out-is })
 
-  pub finishes-by-value : Finishes lent d e m → Finishes k d e r
-  finishes-by-value f =
+  pub finishes-by-value : {d e : List ℕ} → Finishes lent d e m → Finishes k d e r
+  finishes-by-value {d} {e} f =
       subst (λ (s : Stream). Finishes s d e r) (lent-is k same)
       (record { back-is = back-is ∙ f .back-is; out-is = f .out-is })

@@ -41,6 +41,15 @@ pub record Split (input : List ℕ) : Type 0 where
   pub rest-plain : Plain rest
   pub whole : joined lines rest ≡ input
 
+-- a rest that has bytes is a last line
+abbrev pub with-rest : List (List ℕ) → (rest : List ℕ) → List (List ℕ)
+with-rest ls [] = ls
+with-rest ls (b ∷ l) = ls ++ ((b ∷ l) ∷ [])
+
+-- the lines of an input, the last of which may lack its byte 10
+abbrev pub all-lines : {input : List ℕ} → Split input → List (List ℕ)
+all-lines i = with-rest (i .lines) (i .rest)
+
 -- one call of `feed`: the bytes handed in, those of the input behind them, the buffer before and after, and what came
 -- back
 pub record Feeding : Type 0 where
@@ -51,10 +60,10 @@ pub record Feeding : Type 0 where
   pub back : Fed
 
 -- the stream k is handed the whole input l in these blocks, each beginning at the first byte that was not taken
-abbrev pub Takes : Stream → List ℕ → List Feeding → Type 0
-Takes k l [] = l ≡ []
-Takes k l (f ∷ fs) = (l ≡ f .block ++ f .later) × Feeds k (f .block) (f .before) (f .after) (f .back)
-    × Takes (f .back .stream) (drop (f .back .consumed) (f .block) ++ f .later) fs
+abbrev pub In-blocks : Stream → List ℕ → List Feeding → Type 0
+In-blocks k l [] = l ≡ []
+In-blocks k l (f ∷ fs) = (l ≡ f .block ++ f .later) × Feeds k (f .block) (f .before) (f .after) (f .back)
+    × In-blocks (f .back .stream) (drop (f .back .consumed) (f .block) ++ f .later) fs
 
 -- the stream after them, and what they wrote
 abbrev pub stream-after : Stream → List Feeding → Stream
@@ -84,7 +93,7 @@ Any-input =
 -- of the input and to its rest, from the blank state on, and nothing else
 abbrev pub Any-chunking : Type 0
 Any-chunking =
-    (input : List ℕ) (fs : List Feeding) → Takes new-stream input fs
+    (input : List ℕ) (fs : List Feeding) → In-blocks new-stream input fs
     → (d e : List ℕ) (r : Fed) → reply-room ≤ length d → Finishes (stream-after new-stream fs) d e r
     → (lines : List (List ℕ)) (rest : List ℕ) → All-plain lines → Plain rest → joined lines rest ≡ input
     → all-written fs ++ take (r .written) e ≡ replies blank lines ++ last-reply (after-lines blank lines) rest

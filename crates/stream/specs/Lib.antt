@@ -1,3 +1,4 @@
 pub mod Stream
 pub mod Chunking
+pub mod Listing
 pub mod Contracts

@@ -13,7 +13,7 @@ ghost use mathlib.Core.Path.{_≡_};
 ghost use mathlib.Core.List.{_++_};
 ghost use Prim.Native.Nat.{min, _-_, _≤_};
 ghost use lib.ListN.{length, take, replicate};
-ghost use Rattle.campaigns.specs.Contracts.{Room};
+ghost use Rattle.campaigns.specs.Contracts.{Sized};
 ghost use Rattle.lines.specs.Limits.{line-buffer};
 ghost use Rattle.day.specs.Day.{state-of};
 ghost use Rattle.day.specs.Contracts.{Ready};
@@ -76,7 +76,8 @@ fn run<'a>(
     }
 }
 
-fn at_most_held(n: usize) -> usize
+// No more bytes are kept of a line than its buffer has.
+pub fn at_most_held(n: usize) -> usize
     ensures { λ r. ⌜ r ≡ min n line-buffer ⌝ }
 {
     if n > LINE_BUFFER {
@@ -92,7 +93,7 @@ fn begin<'a>(
     terms: &'a [u32; 128],
     counts: &'a [u16; 256],
 ) -> Turn
-    requires { ⌜ Room (now terms) (now counts) ⌝ }
+    requires { ⌜ Sized (now terms) (now counts) ⌝ }
     ensures { λ r. ⌜ (r .head ≡ head) × (r .at ≡ 0)
         × Ready (r .sound) (r .head) (now (list .exit)) (now (terms .entry)) (now (counts .entry)) ⌝ }
 {

@@ -9,16 +9,15 @@ use native.Mathlib.Omega.{arith}
 use lib.ListN.{length, take}
 use Rattle.day.specs.declared.Day.{Day}
 use Rattle.questions.specs.Questions.{first-failed}
-use Rattle.optimum.specs.declared.Optimum.{Optimum}
 use Rattle.optimum.specs.declared.Optimum.the-variants.{Takings}
 use Rattle.optimum.specs.declared.Verdict.the-variants.{Accepted}
-use Rattle.optimum.specs.Optimum.{failed, fits, most-of, takings-of, number, found, search-answer}
-use Rattle.optimum.specs.Optimum.{takings-questions, takings-answer, verdict-of, checked, Best}
+use Rattle.optimum.specs.Optimum.{failed, fits, most-of, allotment-takings, number, answer-of, search-answer}
+use Rattle.optimum.specs.Optimum.{takings-questions, takings-answer, verdict-of, checked, Best-allotment}
 use Rattle.optimum.proofs.Greatest.{accepted-is-best, search-accepted, search-taken, tells}
 use Rattle.encoding.specs.Encoding.{no-head, no-fit, is-head}
-use Rattle.wezghuli.specs.Search.{lent-state, search-status, Search-leaves, verdict-status, check-status}
-use Rattle.wezghuli.specs.Search.{takings-in, takings-status, takings-into, takings-after}
-use Rattle.wezghuli.proofs.Stored.{pick-first}
+use Rattle.wezghuli.specs.Library.{lent-state}
+use Rattle.wezghuli.specs.Search.{search-status, Search-leaves, verdict-status, check-status}
+use Rattle.wezghuli.specs.Search.{takings-in, takings-status, takings-after}
 use Rattle.wezghuli.proofs.Low.{low-small}
 use Rattle.wezghuli.proofs.Low.Low.{none, then}
 
@@ -33,7 +32,7 @@ unfolding failed
 failed-small s views a u v =
     low-small (then 1 (omega arith) (then 19 (omega arith) (then 13 (omega arith) (then 18 (omega arith) none))))
 
-number-small : (q t : ℕ) → q < 100 → number (found q t) < 100
+number-small : (q t : ℕ) → q < 100 → number (answer-of q t) < 100
 number-small zero t p = p
 number-small (suc q) t p = p
 
@@ -46,7 +45,7 @@ verdict-small (suc q) b p = inr p
 taken-small : (s : Day) (a : List ℕ) → number (takings-answer s a) < 100
 unfolding takings-answer
 taken-small s a =
-    number-small (first-failed (takings-questions s a)) (takings-of s a a)
+    number-small (first-failed (takings-questions s a)) (allotment-takings s (length a) a)
     (low-small (then 1 (omega arith) (then 19 (omega arith) none)))
 
 -- a verdict of status 0
@@ -68,7 +67,7 @@ module _ (h t n views a u v : List ℕ) where
   unfolding check-status s
   check-refusal e = rw e (verdict-small (failed s views a u v) (fits s views a u v) (failed-small s views a u v))
 
-  pub check-best : check-status h t n views a u v ≡ 0 → Best (lent-state h t n) views a
+  pub check-best : check-status h t n views a u v ≡ 0 → Best-allotment (lent-state h t n) views a
   unfolding check-status s
   check-best e =
       let w = was-head (is-head h) (verdict-status (checked s views a u v)) e in
@@ -88,9 +87,8 @@ module _ (h t n views a a' u u' v v' : List ℕ) (e : search-status h t n views 
   search-checked =
       let w = found-nothing-failed h t n views a u v e in
       let s = lent-state h t n in
-      sym (pick-first (is-head h) (verdict-status (checked s views a' u' v')) no-head 0 (w .0)
-      (sym (ap verdict-status (search-accepted s views a a' u u' v v' (search-answer s views a u v)
-      (left .searched (w .0)) (w .1)))))
+      rw (w .0) (ap verdict-status (search-accepted s views a a' u u' v v' (search-answer s views a u v)
+      (left .searched (w .0)) (w .1)))
 
   pub search-takings : (l : List ℕ) → (takings-status h t n (take (length views) a') ≡ 0)
       × (takings-after h t n (take (length views) a') l ≡ most-of (lent-state h t n) views ∷ [])
@@ -100,11 +98,8 @@ module _ (h t n views a a' u u' v v' : List ℕ) (e : search-status h t n views 
       let front = take (length views) a' in
       let x : takings-in h t n front ≡ Takings (most-of s views) =
       search-taken s views a a' u u' v v' (search-answer s views a u v) (left .searched (w .0)) (w .1)
-      ∙ ap (λ (q : ℕ). found q (most-of s views)) (w .1) in (
-        sym (pick-first (is-head h) (number (takings-in h t n front)) no-head 0 (w .0) (sym (ap number x))),
-        sym (pick-first (is-head h) (takings-into (takings-in h t n front) l) l (most-of s views ∷ []) (w .0)
-            (sym (ap (λ (z : Optimum). takings-into z l) x))),
-      )
+      ∙ ap (λ (q : ℕ). answer-of q (most-of s views)) (w .1) in
+      (rw (w .0, x), rw (w .0, x))
 
 pub takings-refusal : (h t n a : List ℕ) → is-head h ≡ true → takings-status h t n a < 100
 takings-refusal h t n a e = rw e (taken-small (lent-state h t n) a)

@@ -1,9 +1,7 @@
 pub mod Stored
 pub mod Lines
-pub mod Pages
 pub mod Streamed
 pub mod Low
 pub mod Promised
-pub mod Shown
 pub mod Searches
 pub mod Asked

@@ -2,24 +2,29 @@
 -- of an answer, and the numbers of all questions are below 100.
 use mathlib.Core.Path.{_≡_, refl, ap, sym, _∙_, subst}
 use mathlib.Core.Bool.{Bool, true, false, cond}
-use mathlib.Core.List.{List}
+use mathlib.Core.List.{List, [], _∷_, map}
 use Prim.Native.Nat.{ℕ, zero, suc, _<_}
 use native.Mathlib.Omega.{arith}
-use lib.Dec.{leb, eqb}
-use lib.ListN.{length}
+use lib.Dec.{leb}
+use lib.ListN.{length, replicate}
 use borrow.Author.Tests.{eq-eqb}
 use Rattle.campaigns.specs.declared.Head.{Head}
 use Rattle.campaigns.specs.Choice.{Choice}
 use Rattle.campaigns.specs.Choice.Choice.{nobody, plays}
 use Rattle.day.specs.declared.Day.{Day}
 use Rattle.day.specs.declared.Outcome.{Outcome}
-use Rattle.day.specs.Day.{state-of, sound}
+use Rattle.day.specs.Day.{state-of, blank, sound}
+use Rattle.day.specs.declared.Answer.{Answer}
+use Rattle.day.specs.declared.Answer.the-variants.{Refused, Done, Played, Nobody, Tallied, Closing}
+use Rattle.demands.specs.Transcript.{Exchange, transcript, final}
+use Rattle.demands.proofs.Demands.{answers}
 use Rattle.day.specs.Calls.{Call, call, number, answered, result, view-answer, offers, player, questions}
 use Rattle.questions.specs.Questions.{first-failed}
 use Rattle.day.specs.Calls.Call.{open-plan, add-campaign, start-day, show-view, ask-tally, close-day, mark-campaign}
 use Rattle.day.specs.Day as states
 use Rattle.noon.specs.Noon as noon
 use Rattle.lines.specs.declared.Record.{Record}
+use Rattle.lines.specs.Limits.{line-buffer}
 use Rattle.lines.specs.Form.{in-range}
 use Rattle.lines.specs.OneText as read
 use Rattle.lines.proofs.Inverse.{one-text}
@@ -28,16 +33,16 @@ use Rattle.page.proofs.Promises as pages
 use Rattle.writer.specs.Writing as writer
 use Rattle.writer.proofs.Numbers.{number-and-values}
 use Rattle.reply.specs.Session.{Session, fed, consumed-count}
-use Rattle.stream.specs.Stream.{finished, session-of, stream-at, stream-of, consumed-bytes, handed-back}
+use Rattle.stream.specs.Stream.{new-stream, finished, session-of, stream-at, stream-of, consumed-bytes, handed-back}
 use Rattle.stream.specs.Stream.{Comes-to, Feeds, Finishes}
-use Rattle.encoding.specs.Encoding.{is-head, head-of, is-form, record-of}
+use Rattle.encoding.specs.Encoding.{is-head, head-in, head-words, answer-after, is-form, record-of}
+use Rattle.encoding.specs.Faithful.{seven}
 use Rattle.encoding.proofs.Faithful.{faithful}
-use Rattle.wezghuli.specs.Library.{Memory, state, outcome, stored, status, after, noon-status}
+use Rattle.wezghuli.specs.Library.{Memory, memory, state, outcome, stored, status, memory-after, noon-status}
 use Rattle.wezghuli.specs.Library.{write-status}
 use Rattle.wezghuli.specs.Library.{Lent, stream-in, status-in, come-to, feed-after, finish-after}
 use Rattle.wezghuli.specs.Library.{Page-lent, day-in, page-status}
-use Rattle.wezghuli.specs.Promises.{Promises, handed-in}
-use Rattle.wezghuli.proofs.Stored.{pick-first}
+use Rattle.wezghuli.specs.Promises.{Promises, left-by, statuses, blank-lent, handed-in}
 use Rattle.wezghuli.proofs.Streamed.{has-room}
 use Rattle.wezghuli.proofs.Low.{small, Low, low-small}
 use Rattle.wezghuli.proofs.Low.Low.{none, then}
@@ -45,24 +50,74 @@ use Rattle.wezghuli.proofs.Asked.{search-refusal, check-refusal, taking
 use Rattle.wezghuli.proofs.Asked.{search-takings, check-best}
 
 -- operations in turn
-after-is : (k : Call) (m : Memory) → is-head (m .head) ≡ true → after k m ≡ stored (outcome k m) (m .answer)
-unfolding after
-after-is k m e =
-    let s = stored (outcome k m) (m .answer) in
-    sym (pick-first (is-head (m .head)) s m s e refl)
+after-is : (k : Call) (m : Memory) → is-head (m .head) ≡ true → memory-after k m ≡ stored (outcome k m) (m .answer)
+unfolding memory-after
+after-is k m e = rw e
 
 stored-state : (o : Outcome) (a : List ℕ) → state (stored o a) ≡ o .day
 stored-state o a =
     ap (λ (h : Head). state-of h (o .day .terms) (o .day .counts)) (faithful .head-back (states.head-of (o .day)))
 
-head-stays : (k : Call) (m : Memory) → is-head (m .head) ≡ true → is-head (after k m .head) ≡ true
+head-stays : (k : Call) (m : Memory) → is-head (m .head) ≡ true → is-head (memory-after k m .head) ≡ true
 head-stays k m e = ap (λ (x : Memory). is-head (x .head)) (after-is k m e)
     ∙ faithful .head-is (states.head-of (outcome k m .day))
 
-next-state : (k : Call) (m : Memory) → is-head (m .head) ≡ true → state (after k m) ≡ call (state m) k .day
+next-state : (k : Call) (m : Memory) → is-head (m .head) ≡ true → state (memory-after k m) ≡ call (state m) k .day
 next-state k m e = ap state (after-is k m e) ∙ stored-state (outcome k m) (m .answer)
 
+last-state : (ks : List Call) (m : Memory) → is-head (m .head) ≡ true → state (left-by m ks) ≡ final (state m) ks
+unfolding final
+last-state [] m e = refl
+last-state (k ∷ ks) m e =
+    last-state ks (memory-after k m) (head-stays k m e) ∙ ap (λ (s : Day). final s ks) (next-state k m e)
+
+statuses-are : (ks : List Call) (m : Memory) → is-head (m .head) ≡ true
+    → statuses m ks ≡ map (λ x. number (x .answer)) (transcript (state m) ks)
+unfolding transcript status
+statuses-are [] m e = refl
+statuses-are (k ∷ ks) m e =
+    ap (λ (n : ℕ). n ∷ statuses (memory-after k m) ks) (rw e)
+    ∙ ap (λ (ns : List ℕ). number (outcome k m .answer) ∷ ns)
+    (statuses-are ks (memory-after k m) (head-stays k m e)
+    ∙ ap (λ (s : Day). map (λ (x : Exchange). number (x .answer)) (transcript s ks)) (next-state k m e))
+
+-- the words of an answer stay where it is a refusal
+answer-stays : (a : Answer) (w : List ℕ) → (number a ≡ 0 → ⊥) → answer-after a w ≡ w
+unfolding answer-after
+answer-stays (Refused q) w h = refl
+answer-stays Done w h = absurd (h refl)
+answer-stays (Played i p) w h = absurd (h refl)
+answer-stays Nobody w h = absurd (h refl)
+answer-stays (Tallied p t a n) w h = absurd (h refl)
+answer-stays (Closing t c f) w h = absurd (h refl)
+
+refusal-keeps : (a b c d e f g : ℕ) (terms counts answer : List ℕ) (k : Call)
+    → (status k (memory (seven a b c d e f g) terms counts answer) ≡ 0 → ⊥)
+    → memory-after k (memory (seven a b c d e f g) terms counts answer)
+    ≡ memory (seven a b c d e f g) terms counts answer
+unfolding memory-after status
+refusal-keeps a b c d e f g terms counts answer k h = go (is-head (m .head)) refl
+  where
+    m : Memory
+    m = memory (seven a b c d e f g) terms counts answer
+
+    go : (x : Bool) → is-head (m .head) ≡ x → memory-after k m ≡ m
+    go false p = rw p
+    go true p =
+        let refused : number (outcome k m .answer) ≡ 0 → ⊥ = λ z. h (rw p z) in
+        let stays = answers (state m) k .refusal refused .0 in
+        after-is k m p
+        ∙ ap (λ (s : Day). memory (head-words (states.head-of s)) (s .terms) (s .counts)
+        (answer-after (outcome k m .answer) answer)) stays
+        ∙ ap (memory (head-words (head-in (m .head))) terms counts) (answer-stays (outcome k m .answer) answer refused)
+        ∙ ap (λ (w : List ℕ). memory w terms counts answer) (faithful .words-back a b c d e f g p)
+
 -- blocks in turn
+stream-from-blank : (d : List ℕ) → stream-in (blank-lent d) ≡ new-stream
+stream-from-blank d =
+    ap (λ (h : Head). stream-at h (blank .terms) (blank .counts) (replicate line-buffer 0) 0)
+    (faithful .head-back (states.head-of blank))
+
 come-back : (y : Session) (n : ℕ) (d : List ℕ) → handed-in (come-to y n d) ≡ handed-back y n
 come-back y n d =
     ap (λ (h : Head).
@@ -85,20 +140,16 @@ feeds l m e =
     let x = session-of (stream-in m) in
     let y = fed x (consumed-bytes x l (m .out)) in
     let n = consumed-count (length (m .out)) x l in
-    let c = come-to y n (m .out) in
-    comes y n (m .out) (feed-after l m)
-    (sym (pick-first (eqb (status-in m) 0) c m c (eq-eqb (status-in m) 0 e) refl))
+    comes y n (m .out) (feed-after l m) (rw (eq-eqb (status-in m) 0 e))
 
 finishes : (m : Lent) → status-in m ≡ 0
     → Finishes (stream-in m) (m .out) (finish-after m .out) (handed-in (finish-after m))
 unfolding finish-after
 finishes m e =
     let x = session-of (stream-in m) in
-    let c = come-to (finished x) 0 (m .out) in
     subst (λ (b : Bool). Comes-to (cond b (finished x) x) 0 (m .out) (finish-after m .out) (handed-in (finish-after m)))
     (sym (has-room m e))
-    (comes (finished x) 0 (m .out) (finish-after m)
-    (sym (pick-first (eqb (status-in m) 0) c m c (eq-eqb (status-in m) 0 e) refl)))
+    (comes (finished x) 0 (m .out) (finish-after m) (rw (eq-eqb (status-in m) 0 e)))
 
 -- the numbers of questions
 told-number : (x : ℕ → ℕ) (c : Choice) → number (view-answer x c) ≡ 0
@@ -148,12 +199,12 @@ noon-small : (s : Day) → noon.number (noon.at-noon s) < 100
 unfolding noon.at-noon first-failed
 noon-small s = go (states.sound s)
   where
-    go : (b : Bool) → noon.number (noon.answered (cond b 0 1) (noon.figures-of s)) < 100
+    go : (b : Bool) → noon.number (noon.refused-or (cond b 0 1) (noon.figures-of s)) < 100
     go true = omega arith
     go false = omega arith
 
 noon-refusal : (h t n : List ℕ) → is-head h ≡ true → noon-status h t n < 100
-noon-refusal h t n e = rw e (noon-small (state-of (head-of h) t n))
+noon-refusal h t n e = rw e (noon-small (state-of (head-in h) t n))
 
 -- reading and writing
 says-small : {l : List ℕ} {q : ℕ} {v : List ℕ} → read.Says l q v → q < 100
@@ -162,7 +213,7 @@ says-small (read.too-long p) = omega arith
 says-small (read.no-text p n) = omega arith
 
 write-small : (r : Record) (d : List ℕ) → writer.number (writer.writing r d) < 100
-unfolding writer.question
+unfolding writer.write-question
 write-small r d =
     let fits = leb (length (writer.line r)) (length d) in
     subst (λ (q : ℕ). q < 100) (sym (number-and-values r d .number-is))
@@ -186,6 +237,12 @@ pub promises : Promises
 promises = record {
   head-stays = head-stays;
   next-state = next-state;
+  last-state = last-state;
+  statuses-are = statuses-are;
+  from-blank = λ a.
+      (faithful .head-is (states.head-of blank), stored-state (record { day = blank; answer = Done }) a);
+  refusal-keeps = refusal-keeps;
+  stream-from-blank = stream-from-blank;
   feeds = feeds;
   finishes = finishes;
   call-refusal = call-refusal;

@@ -24,18 +24,18 @@ use Rattle.page.specs.Printing as page
 use Rattle.writer.specs.declared.Writing.{Writing}
 use Rattle.writer.specs.declared.Writing.the-variants as writing
 use Rattle.writer.specs.Writing as writer
-use Rattle.encoding.specs.Encoding.{no-head, no-form, is-head, head-of, head-words, answer-after, is-form, record-of}
+use Rattle.encoding.specs.Encoding.{no-head, no-form, is-head, head-in, head-words, answer-after, is-form, record-of}
 use Rattle.encoding.specs.Encoding.{record-words, no-stream, no-room, is-stream, stream-words}
 use Rattle.reply.specs.Session.{Session, reply-room, fed, consumed-count}
 use Rattle.stream.specs.declared.feed.Stream.{Stream}
 use Rattle.stream.specs.Stream.{finished, session-of, stream-of, stream-at, consumed-bytes, answered-in}
 
 -- the calls of numbers
-abbrev pub opening : (depth width : ℕ) → Call
-opening k d = open-plan (record { depth = k; width = d })
+abbrev pub opening-call : (depth width : ℕ) → Call
+opening-call k d = open-plan (record { depth = k; width = d })
 
-abbrev pub adding : (price budget : ℕ) → Call
-adding p b = add-campaign (record { price = p; budget = b })
+abbrev pub adding-call : (price budget : ℕ) → Call
+adding-call p b = add-campaign (record { price = p; budget = b })
 
 abbrev pub showing : (set : ℕ) → Call
 showing s = show-view (record { set = s })
@@ -50,9 +50,13 @@ pub record Memory : Type 0 where
 abbrev pub memory : (head terms counts answer : List ℕ) → Memory
 memory h t n a = record { head = h; terms = t; counts = n; answer = a }
 
--- the state in it, and what a call of that state hands back
+-- the state in lent words and arrays
+abbrev pub lent-state : (head terms counts : List ℕ) → Day
+lent-state h t n = state-of (head-in h) t n
+
+-- that of an operation's memory, and what a call of it hands back
 abbrev pub state : Memory → Day
-state m = state-of (head-of (m .head)) (m .terms) (m .counts)
+state m = lent-state (m .head) (m .terms) (m .counts)
 
 abbrev pub outcome : Call → Memory → Outcome
 outcome c m = call (state m) c
@@ -66,13 +70,13 @@ stored o a =
 unfoldable pub status : Call → Memory → ℕ
 status c m = cond (is-head (m .head)) (number (outcome c m .answer)) no-head
 
-unfoldable pub after : Call → Memory → Memory
-after c m = cond (is-head (m .head)) (stored (outcome c m) (m .answer)) m
+unfoldable pub memory-after : Call → Memory → Memory
+memory-after c m = cond (is-head (m .head)) (stored (outcome c m) (m .answer)) m
 
 -- the figures at noon: 0 with full, the total claim and the floor's figure; the number of the question that failed, or
 -- 100, with them as they were
 abbrev pub noon-in : (head terms counts : List ℕ) → Noon
-noon-in h t n = at-noon (state-of (head-of h) t n)
+noon-in h t n = at-noon (lent-state h t n)
 
 abbrev pub noon-status : (head terms counts : List ℕ) → ℕ
 noon-status h t n = cond (is-head h) (noon.number (noon-in h t n)) no-head
@@ -123,7 +127,7 @@ lent h t n p w d = record { head = h; terms = t; counts = n; pending = p; words 
 
 -- the stream in it
 abbrev pub stream-in : Lent → Stream
-stream-in m = stream-at (head-of (m .head)) (m .terms) (m .counts) (m .pending) (getD (m .words) 0 0)
+stream-in m = stream-at (head-in (m .head)) (m .terms) (m .counts) (m .pending) (getD (m .words) 0 0)
 
 -- 0, or what is missing, with everything as it was
 unfoldable pub stream-status : (head words : List ℕ) → (room : ℕ) → ℕ
@@ -158,7 +162,7 @@ abbrev pub page-lent : (head terms counts : List ℕ) → Page-lent
 page-lent h t n = record { head = h; terms = t; counts = n }
 
 abbrev pub day-in : Page-lent → Day
-day-in m = state-of (head-of (m .head)) (m .terms) (m .counts)
+day-in m = lent-state (m .head) (m .terms) (m .counts)
 
 -- printing a page: 0, the number of the question that failed, or 100 with everything as it was
 abbrev pub page-status : Page-lent → (out : List ℕ) → ℕ

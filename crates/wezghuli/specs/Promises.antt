@@ -1,22 +1,46 @@
--- What the functions promise to a caller, besides their contracts: operations in turn are calls in turn, blocks in turn
--- are handed to one stream, the check accepts what the search leaves and its takings are the greatest, and misuse is
--- told apart from every refusal.
+-- What the functions promise to a caller, besides their contracts: operations in turn are calls in turn, a refusal and
+-- a misuse leave every word, blocks in turn are handed to one stream, the check accepts what the search leaves and its
+-- takings are the greatest, and misuse is told apart from every refusal.
 use mathlib.Core.Path.{_≡_}
 use mathlib.Core.Bool.{true}
-use mathlib.Core.List.{List, [], _∷_}
+use mathlib.Core.List.{List, [], _∷_, map}
 use mathlib.Core.Logic.{_⊎_}
 use Prim.Native.Nat.{ℕ, _<_}
-use lib.ListN.{length, getD, take}
-use Rattle.day.specs.Calls.{Call, call}
+use lib.ListN.{length, getD, take, replicate}
+use Rattle.day.specs.Day.{blank}
+use Rattle.day.specs.Day as states
+use Rattle.day.specs.Calls.{number, Call, call}
+use Rattle.demands.specs.Transcript.{transcript, final}
+use Rattle.lines.specs.Limits.{line-buffer}
 use Rattle.stream.specs.declared.feed.Fed.{Fed}
-use Rattle.stream.specs.Stream.{Feeds, Finishes}
-use Rattle.optimum.specs.Optimum.{most-of, Best}
-use Rattle.encoding.specs.Encoding.{no-fit, is-head, is-form}
-use Rattle.wezghuli.specs.Library.{Memory, state, status, after, noon-status, read-status}
-use Rattle.wezghuli.specs.Library.{write-status, Lent, stream-in, status-in, feed-after, finish-after}
-use Rattle.wezghuli.specs.Library.{Page-lent, page-status}
-use Rattle.wezghuli.specs.Search.{lent-state, search-status, Search-leaves, check-status, takings-status}
+use Rattle.stream.specs.Stream.{new-stream, Feeds, Finishes}
+use Rattle.optimum.specs.Optimum.{most-of, Best-allotment}
+use Rattle.encoding.specs.Encoding.{no-head, no-fit, is-head, head-words, is-form, stream-words}
+use Rattle.encoding.specs.Faithful.{seven}
+use Rattle.wezghuli.specs.Library.{Memory, memory, state, status, memory-after, noon-status, read-status}
+use Rattle.wezghuli.specs.Library.{write-status, Lent, lent, stream-in, status-in, feed-after, finish-after}
+use Rattle.wezghuli.specs.Library.{lent-state, Page-lent, page-status}
+use Rattle.wezghuli.specs.Search.{search-status, Search-leaves, check-status, takings-status}
 use Rattle.wezghuli.specs.Search.{takings-after}
+
+-- operations in turn, each on the memory that the one before left: what the last one leaves, and their statuses
+abbrev pub left-by : Memory → List Call → Memory
+left-by m [] = m
+left-by m (k ∷ ks) = left-by (memory-after k m) ks
+
+abbrev pub statuses : Memory → List Call → List ℕ
+statuses m [] = []
+statuses m (k ∷ ks) = status k m ∷ statuses (memory-after k m) ks
+
+-- what `wezghuli_blank` leaves beside the words for an answer
+abbrev pub blank-memory : (answer : List ℕ) → Memory
+blank-memory a = memory (head-words (states.head-of blank)) (blank .terms) (blank .counts) a
+
+-- the same lent to a stream: with a line buffer and a stream's words of zeros, and a buffer for answers
+abbrev pub blank-lent : (out : List ℕ) → Lent
+blank-lent d =
+    lent (head-words (states.head-of blank)) (blank .terms) (blank .counts) (replicate line-buffer 0)
+    (stream-words 0 0 0) d
 
 -- what the lent memory says that a stream handed back
 abbrev pub handed-in : Lent → Fed
@@ -25,9 +49,23 @@ handed-in m =
 
 pub record Promises : Type 0 where
   -- an operation leaves a head, and the state that the call hands back
-  pub head-stays : (k : Call) (m : Memory) → is-head (m .head) ≡ true → is-head (after k m .head) ≡ true
-  pub next-state : (k : Call) (m : Memory) → is-head (m .head) ≡ true → state (after k m) ≡ call (state m) k .day
-  -- a block and the end of input leave what the stream hands back, so that `Chunking.Any-chunking` speaks of them
+  pub head-stays : (k : Call) (m : Memory) → is-head (m .head) ≡ true → is-head (memory-after k m .head) ≡ true
+  pub next-state : (k : Call) (m : Memory) → is-head (m .head) ≡ true → state (memory-after k m) ≡ call (state m) k .day
+  -- so that operations in turn leave the state at the end of their calls, and their statuses are the numbers of its
+  -- answers; from the blank memory on they are calls from the blank state
+  pub last-state : (ks : List Call) (m : Memory) → is-head (m .head) ≡ true
+      → state (left-by m ks) ≡ final (state m) ks
+  pub statuses-are : (ks : List Call) (m : Memory) → is-head (m .head) ≡ true
+      → statuses m ks ≡ map (λ x. number (x .answer)) (transcript (state m) ks)
+  pub from-blank : (a : List ℕ) → (is-head (blank-memory a .head) ≡ true) × (state (blank-memory a) ≡ blank)
+  -- a refusal, and a misuse of seven words that are no head, leave every word
+  pub refusal-keeps : (a b c d e f g : ℕ) (terms counts answer : List ℕ) (k : Call)
+      → (status k (memory (seven a b c d e f g) terms counts answer) ≡ 0 → ⊥)
+      → memory-after k (memory (seven a b c d e f g) terms counts answer)
+      ≡ memory (seven a b c d e f g) terms counts answer
+  -- from the blank memory on it is a new stream, and a block and the end of input leave what the stream hands back, so
+  -- that `Chunking.Any-chunking` speaks of them
+  pub stream-from-blank : (out : List ℕ) → stream-in (blank-lent out) ≡ new-stream
   pub feeds : (l : List ℕ) (m : Lent) → status-in m ≡ 0
       → Feeds (stream-in m) l (m .out) (feed-after l m .out) (handed-in (feed-after l m))
   pub finishes : (m : Lent) → status-in m ≡ 0
@@ -43,16 +81,16 @@ pub record Promises : Type 0 where
       ≡ most-of (lent-state head terms counts) views ∷ [])
   -- what the check accepts is an allotment that none exceeds
   pub check-best : (head terms counts views a u v : List ℕ) → check-status head terms counts views a u v ≡ 0
-      → Best (lent-state head terms counts) views a
-  -- no refusal has the status of a misuse
-  pub call-refusal : (k : Call) (m : Memory) → is-head (m .head) ≡ true → status k m < 100
-  pub noon-refusal : (head terms counts : List ℕ) → is-head head ≡ true → noon-status head terms counts < 100
-  pub read-refusal : (line : List ℕ) → read-status line < 100
-  pub write-refusal : (words out : List ℕ) → is-form words ≡ true → write-status words out < 100
-  pub page-refusal : (m : Page-lent) (out : List ℕ) → is-head (m .head) ≡ true → page-status m out < 100
+      → Best-allotment (lent-state head terms counts) views a
+  -- no refusal has the status of a misuse, of which the least is `no-head`
+  pub call-refusal : (k : Call) (m : Memory) → is-head (m .head) ≡ true → status k m < no-head
+  pub noon-refusal : (head terms counts : List ℕ) → is-head head ≡ true → noon-status head terms counts < no-head
+  pub read-refusal : (line : List ℕ) → read-status line < no-head
+  pub write-refusal : (words out : List ℕ) → is-form words ≡ true → write-status words out < no-head
+  pub page-refusal : (m : Page-lent) (out : List ℕ) → is-head (m .head) ≡ true → page-status m out < no-head
   pub search-refusal : (head terms counts views a u v : List ℕ) → is-head head ≡ true
-      → search-status head terms counts views a u v < 100
+      → search-status head terms counts views a u v < no-head
   pub check-refusal : (head terms counts views a u v : List ℕ) → is-head head ≡ true
-      → (check-status head terms counts views a u v ≡ no-fit) ⊎ (check-status head terms counts views a u v < 100)
+      → (check-status head terms counts views a u v ≡ no-fit) ⊎ (check-status head terms counts views a u v < no-head)
   pub takings-refusal : (head terms counts a : List ℕ) → is-head head ≡ true
-      → takings-status head terms counts a < 100
+      → takings-status head terms counts a < no-head

@@ -3,18 +3,13 @@ use mathlib.Core.Path.{_≡_}
 use mathlib.Core.Bool.{true, false, cond}
 use mathlib.Core.List.{List, [], _∷_}
 use Prim.Native.Nat.{ℕ}
-use Rattle.day.specs.declared.Day.{Day}
-use Rattle.day.specs.Day.{state-of}
 use Rattle.optimum.specs.declared.Optimum.{Optimum}
 use Rattle.optimum.specs.declared.Optimum.the-variants as optimum
 use Rattle.optimum.specs.declared.Verdict.{Verdict}
 use Rattle.optimum.specs.declared.Verdict.the-variants as verdict
 use Rattle.optimum.specs.Optimum.{number, search-answer, Searched, takings-answer, checked}
-use Rattle.encoding.specs.Encoding.{no-head, no-fit, is-head, head-of}
-
--- the state in lent memory
-abbrev pub lent-state : (head terms counts : List ℕ) → Day
-lent-state h t n = state-of (head-of h) t n
+use Rattle.encoding.specs.Encoding.{no-head, no-fit, is-head}
+use Rattle.wezghuli.specs.Library.{lent-state}
 
 -- the search: 0, the number of the question that failed, or 100
 unfoldable pub search-status : (head terms counts views allotment surplus worth : List ℕ) → ℕ

@@ -19,7 +19,7 @@ ghost use Rattle.day.specs.Calls.Call.{start-day, ask-tally, close-day, mark-ca
 ghost use mathlib.Core.Bool.{true, false};
 ghost use Rattle.day.specs.Day.{head-of};
 ghost use Rattle.encoding.specs.Encoding.{head-words, answer-after};
-ghost use Rattle.wezghuli.specs.Library.{opening, adding, showing, memory, after, status};
+ghost use Rattle.wezghuli.specs.Library.{opening-call, adding-call, showing, memory, memory-after, status};
 
 // The blank state: Closed, depth 1, width 1, no campaigns.
 #[no_mangle]
@@ -61,7 +61,7 @@ fn answer_call<'a>(
     ensures { λ r. ⌜ r ≡ status (asked ask)
         (memory (now (head .entry)) (now (terms .entry)) (now (counts .entry)) (now (answer .entry))) ⌝ }
     ensures { λ _. ⌜ memory (now (head .exit)) (now (terms .exit)) (now (counts .exit)) (now (answer .exit))
-        ≡ after (asked ask)
+        ≡ memory-after (asked ask)
         (memory (now (head .entry)) (now (terms .entry)) (now (counts .entry)) (now (answer .entry))) ⌝ }
 {
     if !is_head(head) {
@@ -81,10 +81,10 @@ pub extern "C" fn wezghuli_open<'a>(
     width: u64,
     answer: &'a mut [u64; 5],
 ) -> u64
-    ensures { λ r. ⌜ r ≡ status (opening depth width)
+    ensures { λ r. ⌜ r ≡ status (opening-call depth width)
         (memory (now (head .entry)) (now (terms .entry)) (now (counts .entry)) (now (answer .entry))) ⌝ }
     ensures { λ _. ⌜ memory (now (head .exit)) (now (terms .exit)) (now (counts .exit)) (now (answer .exit))
-        ≡ after (opening depth width)
+        ≡ memory-after (opening-call depth width)
         (memory (now (head .entry)) (now (terms .entry)) (now (counts .entry)) (now (answer .entry))) ⌝ }
 {
     let plan = Plan {
@@ -104,10 +104,10 @@ pub extern "C" fn wezghuli_add<'a>(
     budget: u64,
     answer: &'a mut [u64; 5],
 ) -> u64
-    ensures { λ r. ⌜ r ≡ status (adding price budget)
+    ensures { λ r. ⌜ r ≡ status (adding-call price budget)
         (memory (now (head .entry)) (now (terms .entry)) (now (counts .entry)) (now (answer .entry))) ⌝ }
     ensures { λ _. ⌜ memory (now (head .exit)) (now (terms .exit)) (now (counts .exit)) (now (answer .exit))
-        ≡ after (adding price budget)
+        ≡ memory-after (adding-call price budget)
         (memory (now (head .entry)) (now (terms .entry)) (now (counts .entry)) (now (answer .entry))) ⌝ }
 {
     let added = Terms {
@@ -128,7 +128,7 @@ pub extern "C" fn wezghuli_start<'a>(
     ensures { λ r. ⌜ r ≡ status start-day
         (memory (now (head .entry)) (now (terms .entry)) (now (counts .entry)) (now (answer .entry))) ⌝ }
     ensures { λ _. ⌜ memory (now (head .exit)) (now (terms .exit)) (now (counts .exit)) (now (answer .exit))
-        ≡ after start-day
+        ≡ memory-after start-day
         (memory (now (head .entry)) (now (terms .entry)) (now (counts .entry)) (now (answer .entry))) ⌝ }
 {
     answer_call(head, terms, counts, Call::Start, answer)
@@ -146,7 +146,7 @@ pub extern "C" fn wezghuli_view<'a>(
     ensures { λ r. ⌜ r ≡ status (showing set)
         (memory (now (head .entry)) (now (terms .entry)) (now (counts .entry)) (now (answer .entry))) ⌝ }
     ensures { λ _. ⌜ memory (now (head .exit)) (now (terms .exit)) (now (counts .exit)) (now (answer .exit))
-        ≡ after (showing set)
+        ≡ memory-after (showing set)
         (memory (now (head .entry)) (now (terms .entry)) (now (counts .entry)) (now (answer .entry))) ⌝ }
 {
     answer_call(head, terms, counts, Call::Show(View { set: set }), answer)
@@ -164,7 +164,7 @@ pub extern "C" fn wezghuli_tally<'a>(
     ensures { λ r. ⌜ r ≡ status (ask-tally campaign)
         (memory (now (head .entry)) (now (terms .entry)) (now (counts .entry)) (now (answer .entry))) ⌝ }
     ensures { λ _. ⌜ memory (now (head .exit)) (now (terms .exit)) (now (counts .exit)) (now (answer .exit))
-        ≡ after (ask-tally campaign)
+        ≡ memory-after (ask-tally campaign)
         (memory (now (head .entry)) (now (terms .entry)) (now (counts .entry)) (now (answer .entry))) ⌝ }
 {
     answer_call(head, terms, counts, Call::Tally(campaign), answer)
@@ -181,7 +181,7 @@ pub extern "C" fn wezghuli_close<'a>(
     ensures { λ r. ⌜ r ≡ status close-day
         (memory (now (head .entry)) (now (terms .entry)) (now (counts .entry)) (now (answer .entry))) ⌝ }
     ensures { λ _. ⌜ memory (now (head .exit)) (now (terms .exit)) (now (counts .exit)) (now (answer .exit))
-        ≡ after close-day
+        ≡ memory-after close-day
         (memory (now (head .entry)) (now (terms .entry)) (now (counts .entry)) (now (answer .entry))) ⌝ }
 {
     answer_call(head, terms, counts, Call::Close, answer)
@@ -199,7 +199,7 @@ pub extern "C" fn wezghuli_pause<'a>(
     ensures { λ r. ⌜ r ≡ status (mark-campaign true campaign)
         (memory (now (head .entry)) (now (terms .entry)) (now (counts .entry)) (now (answer .entry))) ⌝ }
     ensures { λ _. ⌜ memory (now (head .exit)) (now (terms .exit)) (now (counts .exit)) (now (answer .exit))
-        ≡ after (mark-campaign true campaign)
+        ≡ memory-after (mark-campaign true campaign)
         (memory (now (head .entry)) (now (terms .entry)) (now (counts .entry)) (now (answer .entry))) ⌝ }
 {
     answer_call(head, terms, counts, Call::Pause(campaign), answer)
@@ -217,7 +217,7 @@ pub extern "C" fn wezghuli_resume<'a>(
     ensures { λ r. ⌜ r ≡ status (mark-campaign false campaign)
         (memory (now (head .entry)) (now (terms .entry)) (now (counts .entry)) (now (answer .entry))) ⌝ }
     ensures { λ _. ⌜ memory (now (head .exit)) (now (terms .exit)) (now (counts .exit)) (now (answer .exit))
-        ≡ after (mark-campaign false campaign)
+        ≡ memory-after (mark-campaign false campaign)
         (memory (now (head .entry)) (now (terms .entry)) (now (counts .entry)) (now (answer .entry))) ⌝ }
 {
     answer_call(head, terms, counts, Call::Resume(campaign), answer)

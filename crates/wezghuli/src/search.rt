@@ -34,7 +34,7 @@ fn status_of(verdict: Verdict) -> u64
 }
 
 // An allotment of the views with the greatest takings, with a figure for each campaign and for each view.
-// `wezghuli_takings` gives these takings: an eighth parameter here would be one too many.
+// `wezghuli_takings` gives these takings: a lent array for them would be an eighth parameter.
 #[no_mangle]
 pub extern "C" fn wezghuli_search<'a>(
     head: &'a [u64; 7],

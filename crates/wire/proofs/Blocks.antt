@@ -1,5 +1,5 @@
 -- Counting goes on: what reads gave, block after block, is counted as one input.
-use mathlib.Core.Path.{_≡_, refl, sym, ap, _∙_}
+use mathlib.Core.Path.{_≡_, refl, sym, ap, _∙_, subst}
 use mathlib.Core.Bool.{true, false}
 use mathlib.Core.List.{List, [], _∷_, _++_, append-nil}
 use Prim.Native.Nat.{ℕ, suc, _+_, _-_, _%_, _^_, _<_}
@@ -9,15 +9,23 @@ use lib.ListN.{length, take, length-append}
 use lib.Seq.{length-take-le}
 use borrow.Author.Tests.{eqb-true, eqb-false}
 use Rattle.wire.specs.declared.Wire.{Wire}
-use Rattle.wire.specs.Wires.{counted, new-wire, Reads, Writes, input-of, None-empty}
+use Rattle.wire.specs.Wires.{counted-on, new-wire, Reads, Writes, input-of, None-empty}
 
-pub counted-more : (n : ℕ) (a b : List ℕ) → counted (counted n a) b ≡ counted n (a ++ b)
+pub counted-more : (n : ℕ) (a b : List ℕ) → counted-on (counted-on n a) b ≡ counted-on n (a ++ b)
 counted-more n a b =
     let s : n + length a + length b ≡ n + length (a ++ b) = omega (arith, length-append a b) in
     mod-add-mod (n + length a) (2 ^ 64) (length b) ∙ ap (λ (i : ℕ). i % 2 ^ 64) s
 
-counted-none : (n : ℕ) → n < 2 ^ 64 → n ≡ counted n []
+counted-none : (n : ℕ) → n < 2 ^ 64 → n ≡ counted-on n []
 counted-none n h = let s : n ≡ n + 0 = omega arith in sym (ap (λ (i : ℕ). i % 2 ^ 64) (sym s) ∙ mod-eq-of-lt h)
+
+-- as many bytes as a read gave
+pub given-length : {w : Wire} {l : List ℕ} {n : ℕ} {v : Wire} → Reads w l n v → n ≡ length (take n l)
+given-length {l = l} {n = n} r = sym (length-take-le n l (r .inside))
+
+-- the same bytes told
+pub writes-as : {w v : Wire} {a b : List ℕ} → a ≡ b → Writes w a v → Writes w b v
+writes-as {w} {v} e t = subst (λ (b : List ℕ). Writes w b v) e t
 
 -- nothing told
 pub writes-none : (w : Wire) → w .told < 2 ^ 64 → Writes w [] w
@@ -35,7 +43,7 @@ pub writes-more : {w v u : Wire} (a b : List ℕ) → Writes w a v → Writes v 
 writes-more {w} {v} {u} a b t s = record {
   reads-is = s .reads-is ∙ t .reads-is;
   got-is = s .got-is ∙ t .got-is;
-  told-is = s .told-is ∙ ap (λ (i : ℕ). counted i b) (t .told-is) ∙ counted-more (w .told) a b;
+  told-is = s .told-is ∙ ap (λ (i : ℕ). counted-on i b) (t .told-is) ∙ counted-more (w .told) a b;
   ended-is = s .ended-is ∙ t .ended-is;
   failed-is = s .failed-is ∙ t .failed-is;
   sent-before = λ e. t .sent-before (s .sent-before e);
@@ -45,7 +53,7 @@ writes-more {w} {v} {u} a b t s = record {
 pub record Reached (w : Wire) (blocks : List (List ℕ)) (turns : ℕ) : Type 0 where
   pub none-empty : None-empty blocks
   pub left : w .reads + turns ≡ 2 ^ 64 - 1
-  pub got-is : w .got ≡ counted 0 (input-of blocks)
+  pub got-is : w .got ≡ counted-on 0 (input-of blocks)
 
 pub reached-none : Reached new-wire [] (2 ^ 64 - 1)
 reached-none = record { none-empty = tt; left = omega arith; got-is = refl }
@@ -62,8 +70,8 @@ reached-still a t = record {
 -- One read more.
 module _ {w : Wire} {bs : List (List ℕ)} {turns : ℕ} (a : Reached w bs turns) {l : List ℕ} {n : ℕ} {v : Wire}
     (r : Reads w l n v) where
-  pub more-got : v .got ≡ counted 0 (input-of bs ++ take n l)
-  more-got = r .got-is ∙ ap (λ (i : ℕ). counted i (take n l)) (a .got-is) ∙ counted-more 0 (input-of bs) (take n l)
+  pub more-got : v .got ≡ counted-on 0 (input-of bs ++ take n l)
+  more-got = r .got-is ∙ ap (λ (i : ℕ). counted-on i (take n l)) (a .got-is) ∙ counted-more 0 (input-of bs) (take n l)
 
   -- it gave something
   pub reached-more : v .ended ≡ false → {i : ℕ} → suc i ≡ turns → Reached v (take n l ∷ bs) i

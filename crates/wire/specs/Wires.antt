@@ -10,8 +10,8 @@ use lib.ListN.{length, take}
 use Rattle.wire.specs.declared.Wire.{Wire}
 
 -- n, and as many more as l has bytes
-abbrev pub counted : ℕ → List ℕ → ℕ
-counted n l = (n + length l) % 2 ^ 64
+abbrev pub counted-on : ℕ → List ℕ → ℕ
+counted-on n l = (n + length l) % 2 ^ 64
 
 abbrev pub new-wire : Wire
 new-wire = record { reads = 0; got = 0; told = 0; ended = false; failed = false; sent = true }
@@ -21,7 +21,7 @@ new-wire = record { reads = 0; got = 0; told = 0; ended = false; failed = false;
 pub record Reads (w : Wire) (l : List ℕ) (n : ℕ) (v : Wire) : Type 0 where
   pub inside : n ≤ length l
   pub reads-is : v .reads ≡ (w .reads + 1) % 2 ^ 64
-  pub got-is : v .got ≡ counted (w .got) (take n l)
+  pub got-is : v .got ≡ counted-on (w .got) (take n l)
   pub told-is : v .told ≡ w .told
   pub ended-is : v .ended ≡ eqb n 0
   pub failed-ends : v .failed ≡ true → v .ended ≡ true
@@ -31,7 +31,7 @@ pub record Reads (w : Wire) (l : List ℕ) (n : ℕ) (v : Wire) : Type 0 where
 pub record Writes (w : Wire) (b : List ℕ) (v : Wire) : Type 0 where
   pub reads-is : v .reads ≡ w .reads
   pub got-is : v .got ≡ w .got
-  pub told-is : v .told ≡ counted (w .told) b
+  pub told-is : v .told ≡ counted-on (w .told) b
   pub ended-is : v .ended ≡ w .ended
   pub failed-is : v .failed ≡ w .failed
   pub sent-before : v .sent ≡ true → w .sent ≡ true

@@ -10,7 +10,7 @@ use Rattle.lines.specs.Form.{is-slot, slot-text, template, numbers, piece, numb
 use Rattle.lines.specs.declared.Record.{Record}
 use Rattle.buffer.specs.Buffer.{Put}
 use Rattle.writer.specs.Writing.{line}
-use Rattle.writer.specs.Contracts.{plus, own-size, slots-size, line-length}
+use Rattle.writer.specs.Contracts.{plus, own-size, slots-size, line-size}
 
 filled-end : (t ns : List ℕ) → filled (t ++ (10 ∷ [])) ns ≡ filled t ns ++ (10 ∷ [])
 unfolding filled piece
@@ -43,7 +43,7 @@ slots-counted (b ∷ t) ns m =
         let e : 1 + own-size t + m ≡ own-size t + (1 + m) = omega arith in
         omega (arith, ih (1 + m), ap (slots-size t (numbers-after b ns)) e)
 
-pub line-slots : (r : Record) → length (line r) ≡ line-length r
+pub line-slots : (r : Record) → length (line r) ≡ line-size r
 unfolding line text
 line-slots r = length-append (text r) (10 ∷ []) ∙ slots-counted (template r) (numbers r) 1
 

@@ -27,13 +27,13 @@ slots-size [] ns m = m
 slots-size (b ∷ t) ns m = plus (is-slot b) (length (piece b ns)) (slots-size t (numbers-after b ns) m)
 
 -- the length of r's line with its byte 10
-abbrev pub line-length : Record → ℕ
-line-length r = slots-size (template r) (numbers r) (own-size (template r) + 1)
+abbrev pub line-size : Record → ℕ
+line-size r = slots-size (template r) (numbers r) (own-size (template r) + 1)
 
 -- z is whether the numbers of r are in their ranges, and the length of its line
-pub record Sized (r : Record) (z : Size) : Type 0 where
+pub record Line-sized (r : Record) (z : Size) : Type 0 where
   pub ok : z .ok ≡ in-range r
-  pub len : z .len ≡ line-length r
+  pub len : z .len ≡ line-size r
 
 -- d became e: the line of r stands at the place at and ends at the place to
 abbrev pub Puts : List ℕ → List ℕ → ℕ → ℕ → Record → Type 0

@@ -15,15 +15,15 @@ unfoldable pub line : Record → List ℕ
 line r = text r ++ (10 ∷ [])
 
 -- the first question that fails, or 0: is every number in its range, and is the buffer d as long as the line
-unfoldable pub question : Record → List ℕ → ℕ
-question r d = cond (in-range r) (cond (leb (length (line r)) (length d)) 0 18) 17
+unfoldable pub write-question : Record → List ℕ → ℕ
+write-question r d = cond (in-range r) (cond (leb (length (line r)) (length d)) 0 18) 17
 
 unfoldable pub writing : Record → List ℕ → Writing
-writing r d = cond (eqb (question r d) 0) (Length (length (line r))) (Refusal (question r d))
+writing r d = cond (eqb (write-question r d) 0) (Length (length (line r))) (Refusal (write-question r d))
 
 -- the buffer afterwards: the line at its front and the later bytes as they were, or all as it was
 unfoldable pub written : Record → List ℕ → List ℕ
-written r d = cond (eqb (question r d) 0) (line r ++ drop (length (line r)) d) d
+written r d = cond (eqb (write-question r d) 0) (line r ++ drop (length (line r)) d) d
 
 -- the number of an answer: that of the question that failed, or 0 where the line was written
 abbrev pub number : Writing → ℕ
@@ -37,8 +37,9 @@ values (Refusal q) = q ∷ []
 
 -- what they say of writing r into d
 pub record Number-and-values (r : Record) (d : List ℕ) : Type 0 where
-  pub number-is : number (writing r d) ≡ question r d
-  pub values-are : values (writing r d) ≡ cond (eqb (question r d) 0) (length (line r) ∷ []) (question r d ∷ [])
+  pub number-is : number (writing r d) ≡ write-question r d
+  pub values-are : values (writing r d)
+      ≡ cond (eqb (write-question r d) 0) (length (line r) ∷ []) (write-question r d ∷ [])
 
 abbrev pub Always-number-and-values : Type 0
 Always-number-and-values = (r : Record) (d : List ℕ) → Number-and-values r d

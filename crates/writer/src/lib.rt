@@ -5,7 +5,7 @@ ghost use lib.ListN.{length};
 ghost use Rattle.buffer.specs.Buffer.{Put, Room-for};
 ghost use Rattle.lines.specs.Form.{slot-text};
 ghost use Rattle.writer.specs.Writing.{writing, written};
-ghost use Rattle.writer.specs.Contracts.{line-length, Sized, Puts, one-slot};
+ghost use Rattle.writer.specs.Contracts.{line-size, Line-sized, Puts, one-slot};
 use lines::Record;
 use print::Size;
 use print::put;
@@ -20,7 +20,7 @@ pub enum Writing {
 // Whether the record's numbers are in their ranges, and how long its line is: its form's own bytes with the byte 10,
 // and its slots, counted from the last to the first.
 fn size_of(r: Record) -> Size
-    ensures { λ z. ⌜ Sized r z ⌝ }
+    ensures { λ z. ⌜ Line-sized r z ⌝ }
 {
     match r {
         Record::Plan { depth, width } => Size::fixed(25).slot(b'I', width).slot(b'I', depth),
@@ -69,7 +69,7 @@ fn put_one(out: &mut [u8], to: usize, word: &[u8], slot: u8, n: u64) -> usize
 
 // The line of the plan form; and so for each form with several slots.
 fn put_plan(out: &mut [u8], to: usize, depth: u64, width: u64) -> usize
-    requires { ⌜ Room-for (now out) to (line-length (Record.Plan depth width)) ⌝ }
+    requires { ⌜ Room-for (now out) to (line-size (Record.Plan depth width)) ⌝ }
     ensures { λ r. ⌜ Puts (now (out .entry)) (now (out .exit)) r to (Record.Plan depth width) ⌝ }
 {
     let to = put(out, to, b"))\n");
@@ -78,7 +78,7 @@ fn put_plan(out: &mut [u8], to: usize, depth: u64, width: u64) -> usize
 }
 
 fn put_campaign(out: &mut [u8], to: usize, price: u64, budget: u64) -> usize
-    requires { ⌜ Room-for (now out) to (line-length (Record.Campaign price budget)) ⌝ }
+    requires { ⌜ Room-for (now out) to (line-size (Record.Campaign price budget)) ⌝ }
     ensures { λ r. ⌜ Puts (now (out .entry)) (now (out .exit)) r to (Record.Campaign price budget) ⌝ }
 {
     let to = put(out, to, b"))\n");
@@ -87,7 +87,7 @@ fn put_campaign(out: &mut [u8], to: usize, price: u64, budget: u64) -> usize
 }
 
 fn put_play(out: &mut [u8], to: usize, campaign: u64, paid: u64) -> usize
-    requires { ⌜ Room-for (now out) to (line-length (Record.Play campaign paid)) ⌝ }
+    requires { ⌜ Room-for (now out) to (line-size (Record.Play campaign paid)) ⌝ }
     ensures { λ r. ⌜ Puts (now (out .entry)) (now (out .exit)) r to (Record.Play campaign paid) ⌝ }
 {
     let to = put(out, to, b"))\n");
@@ -96,7 +96,7 @@ fn put_play(out: &mut [u8], to: usize, campaign: u64, paid: u64) -> usize
 }
 
 fn put_closed(out: &mut [u8], to: usize, takings: u64, claim: u64, full: u64) -> usize
-    requires { ⌜ Room-for (now out) to (line-length (Record.Closed takings claim full)) ⌝ }
+    requires { ⌜ Room-for (now out) to (line-size (Record.Closed takings claim full)) ⌝ }
     ensures { λ r. ⌜ Puts (now (out .entry)) (now (out .exit)) r to (Record.Closed takings claim full) ⌝ }
 {
     let to = put(out, to, b"))\n");
@@ -114,7 +114,7 @@ fn put_tally(
     age: u64,
     named: u64,
 ) -> usize
-    requires { ⌜ Room-for (now out) to (line-length (Record.Tally campaign plays turns age named)) ⌝ }
+    requires { ⌜ Room-for (now out) to (line-size (Record.Tally campaign plays turns age named)) ⌝ }
     ensures { λ r. ⌜ Puts (now (out .entry)) (now (out .exit)) r to (Record.Tally campaign plays turns age named) ⌝ }
 {
     let to = put(out, to, b"))\n");
@@ -127,7 +127,7 @@ fn put_tally(
 
 // The line of the record, ending at the place to.
 fn put_record(r: Record, out: &mut [u8], to: usize) -> usize
-    requires { ⌜ Room-for (now out) to (line-length r) ⌝ }
+    requires { ⌜ Room-for (now out) to (line-size r) ⌝ }
     ensures { λ n. ⌜ Puts (now (out .entry)) (now (out .exit)) n to r ⌝ }
 {
     match r {

@@ -28,39 +28,51 @@ passed s = let h = s .args .head in tested (h .phase) (h .plan) (h .accepted) (h
 abbrev summed-up : tie.Start → Sums
 summed-up s = summed (s .args .head .plan) (s .args .head .count) (came s)
 
+-- the sums, the tests by columns and where the function began, of the place behind the last test
+abbrev after-sums : tie.After-phase-holds → tie.After-sum-all
+after-sums c = c .before .before .before
+
+abbrev past-columns : tie.After-phase-holds → tie.Else1
+past-columns c = after-sums c .before
+
+abbrev at-start : tie.After-phase-holds → tie.Start
+at-start c = past-columns c .before .before .before
+
 -- the tests by columns
 columns-pass : (c : tie.Else1) → let s = c .before .before .before in
     let h = s .args .head in columns-hold (h .phase) (h .plan) (h .accepted) (h .count) (came s) ≡ true
 columns-pass c = sym (c .before .columns-hold .ensures) ∙ not-false (c .before .columns-hold .result) (c .if1 .left)
 
 -- and those on what was summed
-sums-are : (c : tie.After-phase-holds)
-    → c .before .before .before .sum-all .result ≡ summed-up (c .before .before .before .before .before .before .before)
-sums-are c = c .before .before .before .sum-all .ensures
+sums-are : (c : tie.After-phase-holds) → after-sums c .sum-all .result ≡ summed-up (at-start c)
+sums-are c = after-sums c .sum-all .ensures
 
 abbrev test : tie.After-phase-holds → Bool
 test c = let r = c .before .before .before .sum-all .result in
     r .within && leb (r .budgets) max-budget && c .phase-holds .result
 
-test-is : (c : tie.After-phase-holds)
-    → test c ≡ sums-hold (c .before .before .before .before .before .before .before .args .head .phase)
-    (c .before .before .before .before .before .before .before .args .head .accepted)
-    (summed-up (c .before .before .before .before .before .before .before))
-test-is c = rw (c .phase-holds .ensures, sums-are c)
+-- in its proof the start is written out, for `rw`
+test-is : (c : tie.After-phase-holds) → let h = at-start c .args .head in
+    test c ≡ sums-hold (h .phase) (h .accepted) (summed-up (at-start c))
+test-is c =
+    let s = c .before .before .before .before .before .before .before in
+    let h = s .args .head in
+    let told : test c ≡ sums-hold (h .phase) (h .accepted) (summed-up s) = rw (c .phase-holds .ensures, sums-are c) in
+    told
 
-passed-is : (c : tie.After-phase-holds) → passed (c .before .before .before .before .before .before .before) ≡ test c
-passed-is c = let s = c .before .before .before .before .before .before .before in
+passed-is : (c : tie.After-phase-holds) → passed (at-start c) ≡ test c
+passed-is c =
+    let s = at-start c in
     let h = s .args .head in staged (h .phase) (h .plan) (h .accepted) (h .count) (came s)
-    ∙ rw (columns-pass (c .before .before .before .before)) (sym (test-is c))
+    ∙ rw (columns-pass (past-columns c)) (sym (test-is c))
 
 passes : (c : tie.Else2) → test (c .before) ≡ true
 passes c = not-false (test (c .before)) (c .if2 .left)
 
-sums-total : (c : tie.Else2) → c .before .before .before .before .sum-all .result ≡ sums-of
-    (c .before .before .before .before .before .before .before .before .args .head .plan)
-    (c .before .before .before .before .before .before .before .before .args .head .count)
-    (came (c .before .before .before .before .before .before .before .before))
-sums-total c = let s = c .before .before .before .before .before .before .before .before in
+sums-total : (c : tie.Else2) → let s = at-start (c .before) in
+    after-sums (c .before) .sum-all .result ≡ sums-of (s .args .head .plan) (s .args .head .count) (came s)
+sums-total c =
+    let s = at-start (c .before) in
     let h = s .args .head in sums-are (c .before) ∙ summed-is (h .phase) (h .plan) (h .accepted) (h .count) (came s)
     (sym (test-is (c .before)) ∙ passes c)
 
@@ -73,9 +85,6 @@ columns-hold-requires c κs =
       views-of h (came s)
           (s .pre .1),
     )
-
-unsound-requires : tie.Need-unsound-requires
-unsound-requires c κs = search needs
 
 returns : tie.Need-returns
 returns c =
@@ -101,15 +110,9 @@ sum-all-requires c κs =
       ),
     )
 
-phase-holds-requires : tie.Need-phase-holds-requires
-phase-holds-requires c κs = search needs
-
-unsound-requires-2 : tie.Need-unsound-requires-2
-unsound-requires-2 c κs = search needs
-
 returns-2 : tie.Need-returns-2
 returns-2 c =
-    let s = c .before .before .before .before .before .before .before .before .before in
+    let s = at-start (c .before .before) in
     let h = s .args .head in
     c .unsound2 .ensures ∙ sym
     (audit-failed h (came s) (s .pre .1)
@@ -117,7 +120,7 @@ returns-2 c =
 
 check-claim-requires : tie.Need-check-claim-requires
 check-claim-requires c κs =
-    let s = c .before .before .before .before .before .before .before .before in
+    let s = at-start (c .before) in
     let h = s .args .head in (
       s .pre .0,
       subst Bounded (sym (sums-total c))
@@ -127,7 +130,7 @@ check-claim-requires c κs =
 
 returns-3 : tie.Need-returns-3
 returns-3 c =
-    let s = c .before .before .before .before .before .before .before .before .before in
+    let s = at-start (c .before .before) in
     let h = s .args .head in
     c .check-claim .ensures ∙ ap (claim-checked (h .plan)) (sums-total (c .before))
     ∙ sym (audit-checked h (came s) (s .pre .1) (passed-is (c .before .before) ∙ passes (c .before)))
@@ -135,13 +138,5 @@ returns-3 c =
 pub audit-parts-spec : {M : Type 1} → statement M
 audit-parts-spec =
     tie.close
-    (tie.spec
-    columns-hold-requires
-    unsound-requires
-    returns
-    sum-all-requires
-    phase-holds-requires
-    unsound-requires-2
-    returns-2
-    check-claim-requires
-    returns-3)
+    (tie.spec columns-hold-requires (λ c κs. search needs) returns sum-all-requires (λ c κs. search needs)
+    (λ c κs. search needs) returns-2 check-claim-requires returns-3)

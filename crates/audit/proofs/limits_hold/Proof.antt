@@ -9,18 +9,6 @@ use borrow.Author.Needs.{needs}
 use Rattle.audit.proofs.limits_hold.Statement.{statement}
 use Rattle.audit.proofs.limits_hold.Tie as tie
 
-depth-fits-requires : tie.Need-depth-fits-requires
-depth-fits-requires c κs = search needs
-
-width-fits-requires : tie.Need-width-fits-requires
-width-fits-requires c κs = search needs
-
-deepest-requires : tie.Need-deepest-requires
-deepest-requires c κs = search needs
-
-marks-hold-requires : tie.Need-marks-hold-requires
-marks-hold-requires c κs = search needs
-
 returns : tie.Need-returns
 returns c =
     let ranged = c .before .before .before .before in
@@ -34,4 +22,5 @@ returns c =
 
 pub limits-hold-spec : {M : Type 1} → statement M
 limits-hold-spec =
-    tie.close (tie.spec depth-fits-requires width-fits-requires deepest-requires marks-hold-requires returns)
+    tie.close (tie.spec (λ c κs. search needs) (λ c κs. search needs) (λ c κs. search needs) (λ c κs. search needs)
+    returns)

@@ -6,12 +6,6 @@ use borrow.Author.Needs.{needs}
 use Rattle.audit.proofs.marks_hold.Statement.{statement}
 use Rattle.audit.proofs.marks_hold.Tie as tie
 
-within-requires : tie.Need-within-requires
-within-requires c κs = search needs
-
-filling-requires : tie.Need-filling-requires
-filling-requires c κs = search needs
-
 returns : tie.Need-returns
 returns c =
     let a = c .before .before .before .args in
@@ -19,4 +13,4 @@ returns c =
     (c .filling .ensures)
 
 pub marks-hold-spec : {M : Type 1} → statement M
-marks-hold-spec = tie.close (tie.spec within-requires filling-requires returns)
+marks-hold-spec = tie.close (tie.spec (λ c κs. search needs) (λ c κs. search needs) returns)

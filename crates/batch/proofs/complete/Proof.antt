@@ -12,14 +12,8 @@ returns c = let s = c .before .before .before in record {
   wide = s .pre .1;
 }
 
-keep-requires : tie.Need-keep-requires
-keep-requires c κs = search needs
-
-same-length : tie.Need-same-length
-same-length c = search needs
-
 returns-2 : tie.Need-returns-2
 returns-2 c = let k = c .before .before .keep .ensures in record { some = λ n. k .0 .1; few = k .0 .0; wide = k .1 }
 
 pub complete-spec : {M : Type 1} → statement M
-complete-spec = tie.close (tie.spec returns keep-requires same-length returns-2)
+complete-spec = tie.close (tie.spec returns (λ c κs. search needs) (λ c. search needs) returns-2)

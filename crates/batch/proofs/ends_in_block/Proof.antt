@@ -68,13 +68,5 @@ returns c e =
 pub ends-in-block-spec : {M : Type 1} → statement M
 ends-in-block-spec =
     tie.close
-    (tie.spec
-    Inv-loop
-    μ-loop
-    start
-    (λ c. omega arith)
-    (λ c. omega arith)
-    (λ c. omega arith)
-    (λ c. omega arith)
-    loop-again
-    returns)
+    (tie.spec Inv-loop μ-loop start (λ c. omega arith) (λ c. omega arith) (λ c. omega arith) (λ c. omega arith)
+    loop-again returns)

@@ -28,14 +28,7 @@ loop-again c =
 pub past-blocks-spec : {M : Type 1} → statement M
 past-blocks-spec =
     tie.close
-    (tie.spec
-    Inv-loop
-    μ-loop
-    (λ c. (omega arith, c .before .pre))
-    (λ c. c .loop .inv .1)
-    inside
-    returns
+    (tie.spec Inv-loop μ-loop (λ c. (omega arith, c .before .pre)) (λ c. c .loop .inv .1) inside returns
     (λ c. omega (arith, c .before .before .loop-test .taken, c .before .before .before .loop .inv .1))
-    (λ c. omega (arith, c .before .before .loop-test .taken, c .before .before .before .loop .inv .1))
-    loop-again
+    (λ c. omega (arith, c .before .before .loop-test .taken, c .before .before .before .loop .inv .1)) loop-again
     (λ c. c .before .loop .inv))

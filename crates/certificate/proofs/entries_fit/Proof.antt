@@ -20,6 +20,14 @@ Inv-loop views allotment j₀ j = (j ≤ length views) × (every j (λ i. entry-
 abbrev μ-loop : tie.MeasureT-loop
 μ-loop views allotment j₀ j = length views - j
 
+-- where the function began, of the head of the loop
+abbrev at-start : tie.At-loop Inv-loop μ-loop → tie.Start Inv-loop μ-loop
+at-start c = c .before .before .before
+
+-- the turn's start, of the place behind the test of the entry
+abbrev at-turn : tie.After-entry-fits Inv-loop μ-loop → tie.In-loop Inv-loop μ-loop
+at-turn c = c .before .before .before
+
 loop-holds : tie.Need-loop-holds Inv-loop μ-loop
 loop-holds c = (
   omega arith,
@@ -27,39 +35,20 @@ loop-holds c = (
       (at (c .before .before .args .allotment .now) i)),
 )
 
-mul-entry-fits : tie.Need-mul-entry-fits Inv-loop μ-loop
-mul-entry-fits c = omega arith
-
-shared-slice-read-entry-fits : tie.Need-shared-slice-read-entry-fits Inv-loop μ-loop
-shared-slice-read-entry-fits c = omega arith
-
-mul-entry-fits-2 : tie.Need-mul-entry-fits-2 Inv-loop μ-loop
-mul-entry-fits-2 c = omega arith
-
-shared-slice-read-entry-fits-2 : tie.Need-shared-slice-read-entry-fits-2 Inv-loop μ-loop
-shared-slice-read-entry-fits-2 c = omega arith
-
-entry-fits-requires : tie.Need-entry-fits-requires Inv-loop μ-loop
-entry-fits-requires c κs = search needs
-
 returns : tie.Need-returns Inv-loop μ-loop
 returns c =
-    let a = c .before .before .before .before .before .before .before .before .args in
-    let l = c .before .before .before .before .before .loop in
+    let turn = at-turn (c .before) in
+    let a = at-start (turn .before) .args in
+    let l = turn .before .loop in
     sym (every-not (length (a .views .now)) (λ i. entry-fits (at (a .views .now) i) (at (a .allotment .now) i)) (l .j)
-    (c .before .before .before .before .loop-test .taken)
+    (turn .loop-test .taken)
     (sym (c .before .entry-fits .ensures) ∙ not-true (c .before .entry-fits .result) (c .if1 .taken)))
-
-add-j : tie.Need-add-j Inv-loop μ-loop
-add-j c = omega arith
-
-loop-less : tie.Need-loop-less Inv-loop μ-loop
-loop-less c = omega arith
 
 loop-again : tie.Need-loop-again Inv-loop μ-loop
 loop-again c =
-    let a = c .before .before .before .before .before .before .before .before .args in
-    let l = c .before .before .before .before .before .loop in (
+    let turn = at-turn (c .before) in
+    let a = at-start (turn .before) .args in
+    let l = turn .before .loop in (
       omega arith,
       passed-more (l .j) (λ i. entry-fits (at (a .views .now) i) (at (a .allotment .now) i)) (l .inv .1)
           (sym (c .before .entry-fits .ensures) ∙ not-false (c .before .entry-fits .result) (c .if1 .left)),
@@ -67,7 +56,7 @@ loop-again c =
 
 returns-2 : tie.Need-returns-2 Inv-loop μ-loop
 returns-2 c =
-    let a = c .before .before .before .before .args in
+    let a = at-start (c .before) .args in
     let l = c .before .loop in
     let e : l .j ≡ length (a .views .now) = omega arith in
     sym (subst (λ (k : ℕ). every k (λ i. entry-fits (at (a .views .now) i) (at (a .allotment .now) i)) ≡ true) e
@@ -76,17 +65,5 @@ returns-2 c =
 pub entries-fit-spec : {M : Type 1} → statement M
 entries-fit-spec =
     tie.close
-    (tie.spec
-    Inv-loop
-    μ-loop
-    loop-holds
-    mul-entry-fits
-    shared-slice-read-entry-fits
-    mul-entry-fits-2
-    shared-slice-read-entry-fits-2
-    entry-fits-requires
-    returns
-    add-j
-    loop-less
-    loop-again
-    returns-2)
+    (tie.spec Inv-loop μ-loop loop-holds (λ c. omega arith) (λ c. omega arith) (λ c. omega arith) (λ c. omega arith)
+    (λ c κs. search needs) returns (λ c. omega arith) (λ c. omega arith) loop-again returns-2)

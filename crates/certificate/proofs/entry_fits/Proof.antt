@@ -12,9 +12,6 @@ use Rattle.certificate.proofs.entry_fits.Statement.{statement}
 use Rattle.certificate.proofs.entry_fits.Tie as tie
 use Rattle.sets.proofs.has.Reads as has-reads
 
-has-requires : tie.Need-has-requires
-has-requires c κs = search needs
-
 returns : tie.Need-returns
 returns c =
     let a = c .before .before .args in
@@ -32,4 +29,4 @@ returns-2 c =
     either false = refl
 
 pub entry-fits-spec : {M : Type 1} → statement M
-entry-fits-spec = tie.close (tie.spec has-requires returns returns-2)
+entry-fits-spec = tie.close (tie.spec (λ c κs. search needs) returns returns-2)

@@ -20,6 +20,14 @@ Inv-loop count surplus amount wholes left₀ i₀ left i = (i ≤ count) × (lef
 abbrev μ-loop : tie.MeasureT-loop
 μ-loop count surplus amount wholes left₀ i₀ left i = count - i
 
+-- where the function began, of the turn's start
+abbrev at-start : tie.In-loop Inv-loop μ-loop → tie.Start Inv-loop μ-loop
+at-start c = c .before .before .before
+
+-- the turn's start, of a campaign with whole plays
+abbrev at-turn : tie.Then1 Inv-loop μ-loop → tie.In-loop Inv-loop μ-loop
+at-turn c = c .before .before .before
+
 loop-holds : tie.Need-loop-holds Inv-loop μ-loop
 loop-holds c = (
   omega arith,
@@ -30,64 +38,45 @@ loop-holds c = (
   ),
 )
 
-mul-wide32 : tie.Need-mul-wide32 Inv-loop μ-loop
-mul-wide32 c = omega arith
-
-array-read-wide32 : tie.Need-array-read-wide32 Inv-loop μ-loop
-array-read-wide32 c = omega arith
-
-wide32-requires : tie.Need-wide32-requires Inv-loop μ-loop
-wide32-requires c κs = search needs
-
-mul-own : tie.Need-mul-own Inv-loop μ-loop
-mul-own c = omega arith
-
-shared-slice-read-own : tie.Need-shared-slice-read-own Inv-loop μ-loop
-shared-slice-read-own c = omega arith
-
-div-if2 : tie.Need-div-if2 Inv-loop μ-loop
-div-if2 c = omega arith
-
 returns : tie.Need-returns Inv-loop μ-loop
 returns c =
-    let a = c .before .before .before .before .before .before .before .args in
-    let l = c .before .before .before .before .before .loop in
+    let turn = at-turn (c .before) in
+    let a = at-start turn .args in
+    let l = turn .before .loop in
     let w = c .before .before .before .wide32 in
     counted-short (a .count) (λ d. at (a .surplus .now) d * at (a .t2) d) (a .amount) (l .left) (l .i) (l .inv .1)
-    (c .before .before .before .before .loop-test .taken)
+    (turn .loop-test .taken)
     (subst (λ (x : ℕ). l .left < at (a .surplus .now) (l .i) * x) (w .ensures .0) (past-quotient (l .left) (w .result)
     (at (a .surplus .now) (l .i)) (c .before .if1 .taken) (c .if2 .taken)))
 
 mul-left : tie.Need-mul-left Inv-loop μ-loop
 mul-left c =
-    let a = c .before .before .before .before .before .before .before .args in
-    let l = c .before .before .before .before .before .loop in
+    let turn = at-turn (c .before) in
+    let s = at-start turn in
+    let a = s .args in
+    let l = turn .before .loop in
     let w = c .before .before .before .wide32 in
     omega (
       arith,
       within-quotient (l .left) (w .result) (at (a .surplus .now) (l .i)) (c .before .if1 .taken)
           (c .if2 .left),
       l .inv .1,
-      c .before .before .before .before .before .before .before .fits .amount,
+      s .fits .amount,
     )
 
 sub-left : tie.Need-sub-left Inv-loop μ-loop
 sub-left c =
-    let a = c .before .before .before .before .before .before .before .args in
-    let l = c .before .before .before .before .before .loop in
+    let turn = at-turn (c .before) in
+    let a = at-start turn .args in
+    let l = turn .before .loop in
     let w = c .before .before .before .wide32 in
     within-quotient (l .left) (w .result) (at (a .surplus .now) (l .i)) (c .before .if1 .taken) (c .if2 .left)
 
-add-i : tie.Need-add-i Inv-loop μ-loop
-add-i c = omega arith
-
-loop-less : tie.Need-loop-less Inv-loop μ-loop
-loop-less c = omega arith
-
 loop-again : tie.Need-loop-again Inv-loop μ-loop
 loop-again c =
-    let a = c .before .before .before .before .before .before .args in
-    let l = c .before .before .before .before .loop in
+    let turn = c .before .before .before in
+    let a = at-start turn .args in
+    let l = turn .before .loop in
     let w = c .before .before .wide32 in
     let own : at (a .surplus .now) (l .i) * w .result ≡ at (a .surplus .now) (l .i) * at (a .t2) (l .i) = ap
     (λ (x : ℕ). at (a .surplus .now) (l .i) * x) (w .ensures .0) in (
@@ -122,20 +111,6 @@ returns-2 c =
 pub less-campaigns-spec : {M : Type 1} → statement M
 less-campaigns-spec =
     tie.close
-    (tie.spec
-    Inv-loop
-    μ-loop
-    loop-holds
-    mul-wide32
-    array-read-wide32
-    wide32-requires
-    mul-own
-    shared-slice-read-own
-    div-if2
-    returns
-    mul-left
-    sub-left
-    add-i
-    loop-less
-    loop-again
+    (tie.spec Inv-loop μ-loop loop-holds (λ c. omega arith) (λ c. omega arith) (λ c κs. search needs) (λ c. omega arith)
+    (λ c. omega arith) (λ c. omega arith) returns mul-left sub-left (λ c. omega arith) (λ c. omega arith) loop-again
     returns-2)

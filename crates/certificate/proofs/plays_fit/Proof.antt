@@ -27,15 +27,6 @@ loop-holds c = (
       (search needs),
 )
 
-mul-entry : tie.Need-mul-entry Inv-loop μ-loop
-mul-entry c = omega arith
-
-shared-slice-read-entry : tie.Need-shared-slice-read-entry Inv-loop μ-loop
-shared-slice-read-entry c = omega arith
-
-mul-plays : tie.Need-mul-plays Inv-loop μ-loop
-mul-plays c = omega arith
-
 array-read-plays : tie.Need-array-read-plays Inv-loop μ-loop
 array-read-plays c = omega (arith, c .before .before .before .loop .inv .1 .long)
 
@@ -46,25 +37,17 @@ returns c =
     sym (left-none (a .count) (a .wholes) (at (a .allotment .now)) (l .left) (l .j) (l .inv .1) (a .n)
     (c .before .before .before .loop-test .taken) (c .before .if1 .taken) (c .if2 .taken))
 
-sub-left : tie.Need-sub-left Inv-loop μ-loop
-sub-left c = omega arith
-
-mul-left : tie.Need-mul-left Inv-loop μ-loop
-mul-left c = omega arith
-
 array-write-left : tie.Need-array-write-left Inv-loop μ-loop
-array-write-left c = omega (arith, c .before .before .before .before .loop .inv .1 .long)
-
-add-j : tie.Need-add-j Inv-loop μ-loop
-add-j c = omega arith
-
-loop-less : tie.Need-loop-less Inv-loop μ-loop
-loop-less c = omega arith
+array-write-left c =
+    let at-loop = c .before .before .before .before in
+    omega (arith, at-loop .loop .inv .1 .long)
 
 loop-again : tie.Need-loop-again Inv-loop μ-loop
 loop-again c =
-    let a = c .before .before .before .before .args in
-    let l = c .before .before .before .loop in
+    let at-loop = c .before .before .before in
+    let s = at-loop .before in
+    let a = s .args in
+    let l = at-loop .loop in
     let moved : (after : List ℕ) → c .if1 .left ≡ after → Left (a .count) (a .wholes) after (at (a .allotment .now))
     (l .j + 1)
     → Left (a .count) (a .wholes) (c .if1 .left) (at (a .allotment .now)) (l .j + 1)
@@ -72,7 +55,7 @@ loop-again c =
       omega arith,
       ⊎-elim
           (λ w. moved _ (w .2) (left-less (a .count) (a .wholes) (at (a .allotment .now)) (l .left) (l .j) (l .inv .1)
-          (c .before .before .before .before .pre .0) (w .0 .taken) (omega (arith, w .1 .left))))
+          (s .pre .0) (w .0 .taken) (omega (arith, w .1 .left))))
           (λ w. moved _ (w .1) (left-same (a .count) (a .wholes) (at (a .allotment .now)) (l .left) (l .j) (l .inv .1)
           (w .0 .left)))
           (c .if1 .came),
@@ -89,19 +72,6 @@ returns-2 c =
 pub plays-fit-spec : {M : Type 1} → statement M
 plays-fit-spec =
     tie.close
-    (tie.spec
-    Inv-loop
-    μ-loop
-    loop-holds
-    mul-entry
-    shared-slice-read-entry
-    mul-plays
-    array-read-plays
-    returns
-    sub-left
-    mul-left
-    array-write-left
-    add-j
-    loop-less
-    loop-again
+    (tie.spec Inv-loop μ-loop loop-holds (λ c. omega arith) (λ c. omega arith) (λ c. omega arith) array-read-plays
+    returns (λ c. omega arith) (λ c. omega arith) array-write-left (λ c. omega arith) (λ c. omega arith) loop-again
     returns-2)

@@ -23,6 +23,10 @@ Inv-loop count prices surplus view figure left₀ left = Walked view (λ d. leb 
 abbrev μ-loop : tie.MeasureT-loop
 μ-loop count prices surplus view figure left₀ left = length (members left)
 
+-- where the function began, of the place behind the campaign at hand
+abbrev at-start : tie.After-first Inv-loop μ-loop → tie.Start Inv-loop μ-loop
+at-start c = c .before .before .before .before
+
 loop-holds : tie.Need-loop-holds Inv-loop μ-loop
 loop-holds c =
     let a = c .before .args in
@@ -31,23 +35,20 @@ loop-holds c =
 
 hand : (c : tie.After-first Inv-loop μ-loop) → c .first .result < 64
 hand c =
-    let a = c .before .before .before .before .args in
+    let a = at-start c .args in
     let l = c .before .before .loop in
     walked-small (a .view) (λ d. leb (at (a .prices .now) d) (at (a .surplus .now) d + a .figure)) (l .left)
     (c .first .result) (c .before .loop-test .taken) (c .first .ensures) (l .inv)
 
 -- a name of the view is a campaign of the plan
-inside : (c : tie.After-first Inv-loop μ-loop) → c .first .result < c .before .before .before .before .args .count
+inside : (c : tie.After-first Inv-loop μ-loop) → c .first .result < at-start c .args .count
 inside c =
-    let s = c .before .before .before .before in
+    let s = at-start c in
     let a = s .args in
     let l = c .before .before .loop in
     within-member (a .count) (a .view) (c .first .result) (s .pre .2) (hand c)
     (walked-named (a .view) (λ d. leb (at (a .prices .now) d) (at (a .surplus .now) d + a .figure)) (l .left)
     (c .first .result) (c .before .loop-test .taken) (c .first .ensures) (l .inv))
-
-first-requires : tie.Need-first-requires Inv-loop μ-loop
-first-requires c κs = search needs
 
 mul-wide32 : tie.Need-mul-wide32 Inv-loop μ-loop
 mul-wide32 c = omega (arith, hand c)
@@ -55,34 +56,24 @@ mul-wide32 c = omega (arith, hand c)
 element-copy-out-wide32 : tie.Need-element-copy-out-wide32 Inv-loop μ-loop
 element-copy-out-wide32 c = omega (arith, hand c)
 
-wide32-requires : tie.Need-wide32-requires Inv-loop μ-loop
-wide32-requires c κs = search needs
-
 mul-own : tie.Need-mul-own Inv-loop μ-loop
 mul-own c = omega (arith, hand (c .before .before))
 
 shared-slice-read-own : tie.Need-shared-slice-read-own Inv-loop μ-loop
 shared-slice-read-own c =
-    let s = c .before .before .before .before .before .before .before in
-    omega (arith, s .pre .1, inside (c .before .before .before))
-
-sub-if2 : tie.Need-sub-if2 Inv-loop μ-loop
-sub-if2 c = omega arith
+    let f = c .before .before .before in
+    omega (arith, at-start f .pre .1, inside f)
 
 returns : tie.Need-returns Inv-loop μ-loop
 returns c =
-    let s = c .before .before .before .before .before .before .before .before .before in
-    let a = s .args in
     let f = c .before .before .before .before .before in
+    let a = at-start f .args in
     let l = f .before .before .loop in
     let w = c .before .before .before .wide32 in
     sym (walked-stop (a .view) (λ d. leb (at (a .prices .now) d) (at (a .surplus .now) d + a .figure)) (l .left)
     (f .first .result) (f .before .loop-test .taken) (f .first .ensures) (l .inv) (a .count) (inside f)
     (lt-leb (at (a .prices .now) (f .first .result)) (at (a .surplus .now) (f .first .result) + a .figure)
     (omega (arith, c .if2 .taken, c .before .if1 .taken, w .ensures .0))))
-
-rest-requires : tie.Need-rest-requires Inv-loop μ-loop
-rest-requires c κs = search needs
 
 loop-less : tie.Need-loop-less Inv-loop μ-loop
 loop-less c =
@@ -94,8 +85,8 @@ loop-less c =
 
 loop-again : tie.Need-loop-again Inv-loop μ-loop
 loop-again c =
-    let a = c .before .before .before .before .before .before .before .before .before .args in
     let f = c .before .before .before .before .before in
+    let a = at-start f .args in
     let l = f .before .before .loop in
     let w = c .before .before .before .wide32 in
     let i = f .first .result in
@@ -118,19 +109,6 @@ returns-2 c =
 pub view-covered-spec : {M : Type 1} → statement M
 view-covered-spec =
     tie.close
-    (tie.spec
-    Inv-loop
-    μ-loop
-    loop-holds
-    first-requires
-    mul-wide32
-    element-copy-out-wide32
-    wide32-requires
-    mul-own
-    shared-slice-read-own
-    sub-if2
-    returns
-    rest-requires
-    loop-less
-    loop-again
-    returns-2)
+    (tie.spec Inv-loop μ-loop loop-holds (λ c κs. search needs) mul-wide32 element-copy-out-wide32
+    (λ c κs. search needs) mul-own shared-slice-read-own (λ c. omega arith) returns (λ c κs. search needs) loop-less
+    loop-again returns-2)

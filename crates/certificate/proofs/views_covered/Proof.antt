@@ -20,6 +20,14 @@ Inv-loop count prices views surplus worth j₀ j = (j ≤ length views)
 abbrev μ-loop : tie.MeasureT-loop
 μ-loop count prices views surplus worth j₀ j = length views - j
 
+-- where the function began, of the head of the loop
+abbrev at-start : tie.At-loop Inv-loop μ-loop → tie.Start Inv-loop μ-loop
+at-start c = c .before .before .before .before
+
+-- the turn's start, of the place behind the test of the view
+abbrev at-turn : tie.After-view-covered Inv-loop μ-loop → tie.In-loop Inv-loop μ-loop
+at-turn c = c .before .before .before
+
 loop-holds : tie.Need-loop-holds Inv-loop μ-loop
 loop-holds c =
     let a = c .before .before .before .args in (
@@ -28,41 +36,29 @@ loop-holds c =
           (at (a .views .now) i) (at (a .worth .now) i)),
     )
 
-mul-view-covered : tie.Need-mul-view-covered Inv-loop μ-loop
-mul-view-covered c = omega arith
-
-shared-slice-read-view-covered : tie.Need-shared-slice-read-view-covered Inv-loop μ-loop
-shared-slice-read-view-covered c = omega arith
-
-mul-view-covered-2 : tie.Need-mul-view-covered-2 Inv-loop μ-loop
-mul-view-covered-2 c = omega arith
-
 shared-slice-read-view-covered-2 : tie.Need-shared-slice-read-view-covered-2 Inv-loop μ-loop
-shared-slice-read-view-covered-2 c = omega (arith, c .before .before .before .before .before .before .before .pre .2)
+shared-slice-read-view-covered-2 c = omega (arith, at-start (c .before .before .before) .pre .2)
 
 view-covered-requires : tie.Need-view-covered-requires Inv-loop μ-loop
 view-covered-requires c κs =
-    let p = c .before .before .before .before .before .before .before .pre in
-    (p .0 .few, p .1, p .0 .inside (c .before .before .before .loop .j) (c .before .before .loop-test .taken))
+    let turn = c .before .before in
+    let p = at-start (turn .before) .pre in
+    (p .0 .few, p .1, p .0 .inside (turn .before .loop .j) (turn .loop-test .taken))
 
 returns : tie.Need-returns Inv-loop μ-loop
 returns c =
-    let a = c .before .before .before .before .before .before .before .before .before .args in
-    let l = c .before .before .before .before .before .loop in
+    let turn = at-turn (c .before) in
+    let a = at-start (turn .before) .args in
+    let l = turn .before .loop in
     sym (every-not (length (a .views .now)) (λ i. covered (a .count) (at (a .prices .now)) (at (a .surplus .now))
-    (at (a .views .now) i) (at (a .worth .now) i)) (l .j) (c .before .before .before .before .loop-test .taken)
+    (at (a .views .now) i) (at (a .worth .now) i)) (l .j) (turn .loop-test .taken)
     (sym (c .before .view-covered .ensures) ∙ not-true (c .before .view-covered .result) (c .if1 .taken)))
-
-add-j : tie.Need-add-j Inv-loop μ-loop
-add-j c = omega arith
-
-loop-less : tie.Need-loop-less Inv-loop μ-loop
-loop-less c = omega arith
 
 loop-again : tie.Need-loop-again Inv-loop μ-loop
 loop-again c =
-    let a = c .before .before .before .before .before .before .before .before .before .args in
-    let l = c .before .before .before .before .before .loop in (
+    let turn = at-turn (c .before) in
+    let a = at-start (turn .before) .args in
+    let l = turn .before .loop in (
       omega arith,
       passed-more (l .j) (λ i. covered (a .count) (at (a .prices .now)) (at (a .surplus .now))
           (at (a .views .now) i) (at (a .worth .now) i)) (l .inv .1) (sym (c .before .view-covered .ensures) ∙ not-false
@@ -71,7 +67,7 @@ loop-again c =
 
 returns-2 : tie.Need-returns-2 Inv-loop μ-loop
 returns-2 c =
-    let a = c .before .before .before .before .before .args in
+    let a = at-start (c .before) .args in
     let l = c .before .loop in
     let e : l .j ≡ length (a .views .now) = omega arith in
     sym (subst (λ (k : ℕ). every k (λ i. covered (a .count) (at (a .prices .now)) (at (a .surplus .now))
@@ -80,17 +76,6 @@ returns-2 c =
 pub views-covered-spec : {M : Type 1} → statement M
 views-covered-spec =
     tie.close
-    (tie.spec
-    Inv-loop
-    μ-loop
-    loop-holds
-    mul-view-covered
-    shared-slice-read-view-covered
-    mul-view-covered-2
-    shared-slice-read-view-covered-2
-    view-covered-requires
-    returns
-    add-j
-    loop-less
-    loop-again
+    (tie.spec Inv-loop μ-loop loop-holds (λ c. omega arith) (λ c. omega arith) (λ c. omega arith)
+    shared-slice-read-view-covered-2 view-covered-requires returns (λ c. omega arith) (λ c. omega arith) loop-again
     returns-2)

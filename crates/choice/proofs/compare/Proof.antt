@@ -25,9 +25,6 @@ returns : tie.Need-returns
 unfolding compared
 returns c w = rw (spent c)
 
-weigh-requires : tie.Need-weigh-requires
-weigh-requires c κs = search needs
-
 mul-score : tie.Need-mul-score
 mul-score c =
     let s = c .before .before .before .before in
@@ -48,4 +45,4 @@ returns-3 c w =
 
 pub compare-spec : {M : Type 1} → statement M
 compare-spec =
-    tie.close (tie.spec can-pay-requires returns weigh-requires mul-score returns-2 returns-3)
+    tie.close (tie.spec can-pay-requires returns (λ c κs. search needs) mul-score returns-2 returns-3)

@@ -71,17 +71,13 @@ fits c =
       named-u16 = n .named-u16;
     })
 
-walk-requires : tie.Need-walk-requires
-walk-requires c κs = search needs
-
 entry-requires : tie.Need-entry-requires
 entry-requires c κs = able (c .before) .0
 
-played-requires : tie.Need-played-requires
-played-requires c κs = search needs
-
 store-requires : tie.Need-store-requires
-store-requires c κs = let found = c .before .before .before .before in (able found .0, fits (c .before))
+store-requires c κs =
+    let found = c .before .before .before .before in
+    (able found .0, fits (c .before))
 
 returns : tie.Need-returns
 returns c =
@@ -113,4 +109,4 @@ returns-2 c =
 pub play-spec : {M : Type 1} → statement M
 play-spec =
     tie.close
-    (tie.spec walk-requires entry-requires played-requires store-requires returns returns-2)
+    (tie.spec (λ c κs. search needs) entry-requires (λ c κs. search needs) store-requires returns returns-2)

@@ -41,23 +41,27 @@ hand c =
     subst (λ (x : ℕ). x < 64) (sym (c .first .ensures))
     (at-hand (l .left) (l .inv .small) (c .before .loop-test .taken) .0)
 
+-- the step at hand, of a campaign that was read
+abbrev after-first : tie.After-entry Inv-loop μ-loop → tie.After-first Inv-loop μ-loop
+after-first c = c .before .before
+
 -- which is read out of the arrays as they are,
-read : (c : tie.After-entry Inv-loop μ-loop) → let d = c .before .before in let l = d .before .before .loop in
+read : (c : tie.After-entry Inv-loop μ-loop) → let d = after-first c in let l = d .before .before .loop in
     c .entry .result ≡ campaign-at (d .before .before .before .args .terms .now) (l .counts) (next (l .left) 0)
 read c =
-    let d = c .before .before in
+    let d = after-first c in
     let l = d .before .before .loop in
     let t = d .before .before .before .args .terms .now in
     c .entry .ensures .0 ∙ ap (campaign-at t (l .counts)) (d .first .ensures)
 
 -- and marked
-marked : (c : tie.After-passed-over Inv-loop μ-loop) → let d = c .before .before .before .before in
+marked : (c : tie.After-passed-over Inv-loop μ-loop) → let d = after-first (c .before .before) in
     let s = d .before .before .before in
     let l = d .before .before .loop in
     let i = next (l .left) 0 in c .passed-over .result
     ≡ passed-over (s .args .plan) (s .args .view) i (campaign-at (s .args .terms .now) (l .counts) i)
 marked c =
-    let d = c .before .before .before .before in
+    let d = after-first (c .before .before) in
     let s = d .before .before .before in
     let l = d .before .before .loop in
     c .passed-over .ensures
@@ -145,16 +149,5 @@ returns c =
 pub walk-spec : {M : Type 1} → statement M
 walk-spec =
     tie.close
-    (tie.spec
-    Inv-loop
-    μ-loop
-    loop-holds
-    first-requires
-    entry-requires
-    compare-requires
-    passed-over-requires
-    store-requires
-    rest-requires
-    loop-less
-    loop-again
-    returns)
+    (tie.spec Inv-loop μ-loop loop-holds first-requires entry-requires compare-requires passed-over-requires
+    store-requires rest-requires loop-less loop-again returns)

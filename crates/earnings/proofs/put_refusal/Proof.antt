@@ -37,10 +37,4 @@ returns c =
 pub put-refusal-spec : {M : Type 1} → statement M
 put-refusal-spec =
     tie.close
-    (tie.spec
-    (λ c. refl)
-    (λ c κs. omega arith)
-    (λ c. refl)
-    put-field-requires
-    (λ c. omega arith)
-    returns)
+    (tie.spec (λ c. refl) (λ c κs. omega arith) (λ c. refl) put-field-requires (λ c. omega arith) returns)

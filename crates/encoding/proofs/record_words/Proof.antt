@@ -5,124 +5,14 @@ use borrow.Author.Needs.{needs}
 use Rattle.encoding.proofs.record_words.Statement.{statement}
 use Rattle.encoding.proofs.record_words.Tie as tie
 
-enum-known-r : tie.Need-enum-known-r
-enum-known-r c = search needs
-
-enum-known-r-2 : tie.Need-enum-known-r-2
-enum-known-r-2 c = search needs
-
-enum-told : tie.Need-enum-told
-enum-told c = search needs
-
-enum-known-r-3 : tie.Need-enum-known-r-3
-enum-known-r-3 c = search needs
-
-enum-told-2 : tie.Need-enum-told-2
-enum-told-2 c = search needs
-
-enum-told-3 : tie.Need-enum-told-3
-enum-told-3 c = search needs
-
-enum-known-r-4 : tie.Need-enum-known-r-4
-enum-known-r-4 c = search needs
-
-enum-told-4 : tie.Need-enum-told-4
-enum-told-4 c = search needs
-
-enum-known-r-5 : tie.Need-enum-known-r-5
-enum-known-r-5 c = search needs
-
-enum-known-r-6 : tie.Need-enum-known-r-6
-enum-known-r-6 c = search needs
-
-enum-known-r-7 : tie.Need-enum-known-r-7
-enum-known-r-7 c = search needs
-
-enum-known-r-8 : tie.Need-enum-known-r-8
-enum-known-r-8 c = search needs
-
-enum-known-r-9 : tie.Need-enum-known-r-9
-enum-known-r-9 c = search needs
-
-returns : tie.Need-returns
-unfolding record-words padded numbers
-returns c = rw (c .before .r .given .1)
-
-returns-2 : tie.Need-returns-2
-unfolding record-words padded numbers
-returns-2 c = rw (c .before .r2 .given .1)
-
-returns-3 : tie.Need-returns-3
-unfolding record-words padded numbers
-returns-3 c = rw (c .enum-told .given .1)
-
-returns-4 : tie.Need-returns-4
-unfolding record-words padded numbers
-returns-4 c = rw (c .before .r3 .given .1)
-
-returns-5 : tie.Need-returns-5
-unfolding record-words padded numbers
-returns-5 c = rw (c .enum-told2 .given .1)
-
-returns-6 : tie.Need-returns-6
-unfolding record-words padded numbers
-returns-6 c = rw (c .enum-told3 .given .1)
-
-returns-7 : tie.Need-returns-7
-unfolding record-words padded numbers
-returns-7 c = rw (c .before .r4 .given .1)
-
-returns-8 : tie.Need-returns-8
-unfolding record-words padded numbers
-returns-8 c = rw (c .enum-told4 .given .1)
-
-returns-9 : tie.Need-returns-9
-unfolding record-words padded numbers
-returns-9 c = rw (c .before .r5 .given .1)
-
-returns-10 : tie.Need-returns-10
-unfolding record-words padded numbers
-returns-10 c = rw (c .before .r6 .given .1)
-
-returns-11 : tie.Need-returns-11
-unfolding record-words padded numbers
-returns-11 c = rw (c .before .r7 .given .1)
-
-returns-12 : tie.Need-returns-12
-unfolding record-words padded numbers
-returns-12 c = rw (c .before .r8 .given .1)
-
-returns-13 : tie.Need-returns-13
-unfolding record-words padded numbers
-returns-13 c = rw (c .before .r9 .given .1)
-
 pub record-words-spec : {M : Type 1} → statement M
+unfolding record-words padded numbers
 record-words-spec =
     tie.close
-    (tie.spec
-    enum-known-r
-    enum-known-r-2
-    enum-told
-    enum-known-r-3
-    enum-told-2
-    enum-told-3
-    enum-known-r-4
-    enum-told-4
-    enum-known-r-5
-    enum-known-r-6
-    enum-known-r-7
-    enum-known-r-8
-    enum-known-r-9
-    returns
-    returns-2
-    returns-3
-    returns-4
-    returns-5
-    returns-6
-    returns-7
-    returns-8
-    returns-9
-    returns-10
-    returns-11
-    returns-12
-    returns-13)
+    (tie.spec (λ c. search needs) (λ c. search needs) (λ c. search needs) (λ c. search needs) (λ c. search needs)
+    (λ c. search needs) (λ c. search needs) (λ c. search needs) (λ c. search needs) (λ c. search needs)
+    (λ c. search needs) (λ c. search needs) (λ c. search needs) (λ c. rw (c .before .r .given .1))
+    (λ c. rw (c .before .r2 .given .1)) (λ c. rw (c .enum-told .given .1)) (λ c. rw (c .before .r3 .given .1))
+    (λ c. rw (c .enum-told2 .given .1)) (λ c. rw (c .enum-told3 .given .1)) (λ c. rw (c .before .r4 .given .1))
+    (λ c. rw (c .enum-told4 .given .1)) (λ c. rw (c .before .r5 .given .1)) (λ c. rw (c .before .r6 .given .1))
+    (λ c. rw (c .before .r7 .given .1)) (λ c. rw (c .before .r8 .given .1)) (λ c. rw (c .before .r9 .given .1)))

@@ -7,19 +7,21 @@ use mathlib.Core.List.{List}
 use Prim.Native.Nat.{ℕ, _+_, _-_, _≤_, _<_}
 use native.Mathlib.Omega.{arith}
 use lib.ListN.{length, length-set}
+use borrow.Author.Needs.{needs}
 use borrow.Author.Tests.{not-true, not-false}
 use Rattle.sets.specs.Set.{member}
 use Rattle.allotments.specs.Allotment.{at}
 use Rattle.exchange.proofs.Search.{left-out}
 use Rattle.exchange.proofs.Seeking.{Seeking, sought-free, seeking-start, room-now, holder-small, falls-here}
 use Rattle.exchange.proofs.Seeking.{ready-holder, sought-chain, seeking-failed, seeking-visited, seeking-unnamed}
-use Rattle.exchange.proofs.Seeking.{sought-none}
+use Rattle.exchange.proofs.Seeking.{sought-none, told-as}
 use borrow.Fn.Kinds.{In}
 use borrow.Fn.PlainCycle.{Measures, is, falls, and}
 use Rattle.exchange.proofs.seek.Reads as seek
 use Rattle.exchange.proofs.seek.Kinds as seek-kinds
 use Rattle.exchange.proofs.+seek.Lts-seek as seek-lts
 use Rattle.exchange.proofs.free_view.Reads as free-view-reads
+use Rattle.exchange.proofs.ended.Reads as ended-reads
 use Rattle.sets.proofs.has.Reads as has-reads
 use Rattle.sets.proofs.including.Reads as including-reads
 use Rattle.exchange.proofs.+seek.{statement}
@@ -38,6 +40,8 @@ abbrev calls : ℕ → seek-lts.Claims
 calls t = (
   free-view-reads.Asked,
   free-view-reads.Learnt,
+  ended-reads.Asked,
+  ended-reads.Learnt,
   including-reads.Asked,
   including-reads.Learnt,
   has-reads.Asked,
@@ -52,6 +56,31 @@ seek-Inv-loop views to₀ campaign visited first bare free seen₀ known₀ j₀
 
 abbrev seek-μ-loop : seek-lts.MeasureT-loop
 seek-μ-loop views to₀ campaign visited first bare free seen₀ known₀ j₀ to seen known j = length views - j
+
+-- where the function began, of the place behind the look for a free view
+abbrev at-start : (t : ℕ) → seek-lts.After-free-view (calls t) (seek-at t) seek.Post seek-Inv-loop seek-μ-loop
+    → seek-lts.Start (calls t) (seek-at t) seek.Post seek-Inv-loop seek-μ-loop
+at-start t c = c .before .before .before .before
+
+-- that place, of the head of the loop
+abbrev after-free : (t : ℕ) → seek-lts.At-loop (calls t) (seek-at t) seek.Post seek-Inv-loop seek-μ-loop
+    → seek-lts.After-free-view (calls t) (seek-at t) seek.Post seek-Inv-loop seek-μ-loop
+after-free t c = c .before .before .before .before
+
+-- the turn's start, of the place behind the test whether the view names the campaign
+abbrev at-turn : (t : ℕ) → seek-lts.After-has (calls t) (seek-at t) seek.Post seek-Inv-loop seek-μ-loop
+    → seek-lts.In-loop (calls t) (seek-at t) seek.Post seek-Inv-loop seek-μ-loop
+at-turn t c = c .before .before
+
+-- that place, of the one behind the test whether the holder was visited
+abbrev after-named : (t : ℕ) → seek-lts.After-has2 (calls t) (seek-at t) seek.Post seek-Inv-loop seek-μ-loop
+    → seek-lts.After-has (calls t) (seek-at t) seek.Post seek-Inv-loop seek-μ-loop
+after-named t c = c .before .before .before
+
+-- and that one, of the place behind the holder's own search
+abbrev after-holder : (t : ℕ) → seek-lts.After-seek (calls t) (seek-at t) seek.Post seek-Inv-loop seek-μ-loop
+    → seek-lts.After-has2 (calls t) (seek-at t) seek.Post seek-Inv-loop seek-μ-loop
+after-holder t c = c .before .before .before
 
 seek-free-view-requires : (t : ℕ) → seek-lts.Need-free-view-requires (calls t) (seek-at t) seek.Post seek-Inv-loop
     seek-μ-loop
@@ -69,30 +98,31 @@ seek-mul-allotment t c = omega arith
 
 seek-slice-write-allotment : (t : ℕ) → seek-lts.Need-slice-write-allotment (calls t) (seek-at t) seek.Post
     seek-Inv-loop seek-μ-loop
-seek-slice-write-allotment t c = omega (arith, c .before .before .before .before .before .pre .1 .room)
+seek-slice-write-allotment t c = omega (arith, at-start t (c .before) .pre .1 .room)
 
 seek-same-length : (t : ℕ) → seek-lts.Need-same-length (calls t) (seek-at t) seek.Post seek-Inv-loop seek-μ-loop
 seek-same-length t c = simp length-set
 
 seek-returns : (t : ℕ) → seek-lts.Need-returns (calls t) (seek-at t) seek.Post seek-Inv-loop seek-μ-loop
 seek-returns t c =
-    let s = c .before .before .before .before .before in
+    let s = at-start t (c .before .before) in
     let a = s .args in
-    sought-free (a .views .now) (a .allotment .now) (a .campaign) (a .visited) (a .first) (a .bare)
-    (c .before .free-view .result) (s .pre .1) (c .before .free-view .ensures) (c .if1 .taken)
+    let f = c .before .before .free-view in
+    told-as (c .ended .ensures) (sought-free (a .views .now) (a .allotment .now) (a .campaign) (a .visited) (a .first)
+    (a .bare) (f .result) (s .pre .1) (f .ensures) (c .before .if1 .taken))
 
 seek-including-requires : (t : ℕ) → seek-lts.Need-including-requires (calls t) (seek-at t) seek.Post seek-Inv-loop
     seek-μ-loop
-seek-including-requires t c κs = c .before .before .before .before .before .pre .1 .campaign
+seek-including-requires t c κs = at-start t (c .before) .pre .1 .campaign
 
 seek-including-requires-2 : (t : ℕ) → seek-lts.Need-including-requires-2 (calls t) (seek-at t) seek.Post seek-Inv-loop
     seek-μ-loop
-seek-including-requires-2 t c κs = c .before .before .before .before .before .before .pre .1 .campaign
+seek-including-requires-2 t c κs = at-start t (c .before .before) .pre .1 .campaign
 
 seek-loop-holds : (t : ℕ) → seek-lts.Need-loop-holds (calls t) (seek-at t) seek.Post seek-Inv-loop seek-μ-loop
 seek-loop-holds t c =
     let f = c .before .before .before in
-    let s = f .before .before .before .before in
+    let s = at-start t f in
     let a = s .args in (
       omega arith,
       seeking-start (a .views .now) (a .allotment .now) (a .campaign) (a .visited) (a .first) (a .bare)
@@ -117,39 +147,39 @@ seek-mul-holder t c = omega arith
 seek-slice-read-holder : (t : ℕ) → seek-lts.Need-slice-read-holder (calls t) (seek-at t) seek.Post seek-Inv-loop
     seek-μ-loop
 seek-slice-read-holder t c =
-    let mid = c .before .before .before .before .before .before .before .before in
-    let a = mid .before .before .before .before .before .args in
-    let l = c .before .before .before .before .before .loop in
+    let turn = at-turn t (c .before .before) in
+    let a = at-start t (after-free t (turn .before)) .args in
+    let l = turn .before .loop in
     omega (
       arith,
-      c .before .before .before .before .loop-test .taken,
+      turn .loop-test .taken,
       room-now (a .views .now) (a .allotment .now)
           (a .campaign) (a .visited) (a .first) (a .bare) (l .allotment) (l .seen) (l .known) (l .j) (l .inv .1),
     )
 
 seek-has-requires-2 : (t : ℕ) → seek-lts.Need-has-requires-2 (calls t) (seek-at t) seek.Post seek-Inv-loop seek-μ-loop
 seek-has-requires-2 t c κs =
-    let mid = c .before .before .before .before .before .before .before .before in
-    let a = mid .before .before .before .before .before .args in
-    let l = c .before .before .before .before .before .loop in
+    let turn = at-turn t (c .before .before) in
+    let a = at-start t (after-free t (turn .before)) .args in
+    let l = turn .before .loop in
     holder-small (a .views .now) (a .allotment .now) (a .campaign) (a .visited) (a .first) (a .bare) (l .allotment)
-    (l .seen) (l .known) (l .j) (l .inv .1) (c .before .before .before .before .loop-test .taken)
+    (l .seen) (l .known) (l .j) (l .inv .1) (turn .loop-test .taken)
     (sym (c .before .before .has .ensures) ∙ c .before .if2 .taken)
 
 seek-seek-requires : (t : ℕ) → seek-lts.Need-seek-requires (calls t) (seek-at t) seek.Post seek-Inv-loop seek-μ-loop
 seek-seek-requires t c κs =
-    let mid = c .before .before .before .before .before .before .before .before in
-    let s = mid .before .before .before .before .before .before .before .before in
+    let holder = c .before .before in
+    let named = after-named t holder in
+    let turn = at-turn t named in
+    let s = at-start t (after-free t (turn .before)) in
     let a = s .args in
-    let l = mid .loop in (
+    let l = turn .before .loop in (
       subst (λ (n : ℕ). left-out (l .seen) < n) (s .pre .0) (falls-here (a .views .now) (a .allotment .now)
           (a .campaign) (a .visited) (a .first) (a .bare) (l .allotment) (l .seen) (l .known) (l .j) (l .inv .1)),
       ready-holder (a .views .now) (a .allotment .now) (a .campaign) (a .visited) (a .first) (a .bare) (l .allotment)
-          (l .seen) (l .known) (l .j) (l .inv .1)
-          (c .before .before .before .before .before .before .before .loop-test .taken)
-          (sym (c .before .before .before .before .before .has .ensures) ∙
-          c .before .before .before .before .if2 .taken) (sym (c .before .before .has2 .ensures) ∙ not-true
-          (c .before .before .has2 .result) (c .before .if3 .taken)),
+          (l .seen) (l .known) (l .j) (l .inv .1) (turn .loop-test .taken)
+          (sym (named .has .ensures) ∙ holder .before .before .if2 .taken)
+          (sym (holder .has2 .ensures) ∙ not-true (holder .has2 .result) (c .before .if3 .taken)),
     )
 
 seek-mul-allotment-2 : (t : ℕ) → seek-lts.Need-mul-allotment-2 (calls t) (seek-at t) seek.Post seek-Inv-loop seek-μ-loop
@@ -158,13 +188,12 @@ seek-mul-allotment-2 t c = omega arith
 seek-slice-write-allotment-2 : (t : ℕ) → seek-lts.Need-slice-write-allotment-2 (calls t) (seek-at t) seek.Post
     seek-Inv-loop seek-μ-loop
 seek-slice-write-allotment-2 t c =
-    let mid = c .before .before .before .before .before .before .before .before in
-    let far = mid .before .before .before .before .before .before .before .before in
-    let a = far .before .before .before .before .args in
-    let l = mid .before .before .before .before .loop in
+    let turn = at-turn t (after-named t (after-holder t (c .before .before .before))) in
+    let a = at-start t (after-free t (turn .before)) .args in
+    let l = turn .before .loop in
     omega (
       arith,
-      mid .before .before .before .loop-test .taken,
+      turn .loop-test .taken,
       c .before .before .before .seek .kept .1 .0,
       room-now (a .views .now) (a .allotment .now) (a .campaign)
           (a .visited) (a .first) (a .bare) (l .allotment) (l .seen) (l .known) (l .j) (l .inv .1),
@@ -172,26 +201,24 @@ seek-slice-write-allotment-2 t c =
 
 seek-same-length-2 : (t : ℕ) → seek-lts.Need-same-length-2 (calls t) (seek-at t) seek.Post seek-Inv-loop seek-μ-loop
 seek-same-length-2 t c =
-    let mid = c .before .before .before .before .before .before .before .before in
-    simp length-set (c .before .before .before .seek .kept .1 .0 ∙ ap length
-    (mid .before .before .before .before .loop .inv .1 .still))
+    let sought = c .before .before .before .before in
+    let turn = at-turn t (after-named t (after-holder t sought)) in
+    simp length-set (sought .seek .kept .1 .0 ∙ ap length (turn .before .loop .inv .1 .still))
 
 seek-returns-2 : (t : ℕ) → seek-lts.Need-returns-2 (calls t) (seek-at t) seek.Post seek-Inv-loop seek-μ-loop
 seek-returns-2 t c =
-    let mid = c .before .before .before .before .before .before .before .before in
-    let far = mid .before .before .before .before .before .before .before .before in
-    let a = far .before .before .before .before .args in
-    let l = mid .before .before .before .before .loop in
-    let r = c .before .before .before .seek in
-    sought-chain (a .views .now) (a .allotment .now) (a .campaign) (a .visited) (a .first) (a .bare) (l .allotment)
-    (l .seen) (l .known) (l .j) (l .inv .1) (r .last .1 .0) (r .result .visited) (r .result .bare)
-    (mid .before .before .before .loop-test .taken)
-    (sym (mid .before .has .ensures) ∙
-    mid .if2 .taken)
-    (sym (c .before .before .before .before .before .before .has2 .ensures) ∙ not-true
-    (c .before .before .before .before .before .before .has2 .result)
-    (c .before .before .before .before .before .if3 .taken)) (r .kept .1 .0) (r .ensures .gained (c .if4 .taken))
-    (r .ensures .none-free)
+    let sought = c .before .before .before .before in
+    let holder = after-holder t sought in
+    let named = after-named t holder in
+    let turn = at-turn t named in
+    let a = at-start t (after-free t (turn .before)) .args in
+    let l = turn .before .loop in
+    let r = sought .seek in
+    told-as (c .ended2 .ensures) (sought-chain (a .views .now) (a .allotment .now) (a .campaign) (a .visited)
+    (a .first) (a .bare) (l .allotment) (l .seen) (l .known) (l .j) (l .inv .1) (r .last .1 .0) (r .result .visited)
+    (r .result .bare) (turn .loop-test .taken) (sym (named .has .ensures) ∙ holder .before .before .if2 .taken)
+    (sym (holder .has2 .ensures) ∙ not-true (holder .has2 .result) (sought .before .before .if3 .taken))
+    (r .kept .1 .0) (r .ensures .gained (c .before .if4 .taken)) (r .ensures .none-free))
 
 seek-add-j : (t : ℕ) → seek-lts.Need-add-j (calls t) (seek-at t) seek.Post seek-Inv-loop seek-μ-loop
 seek-add-j t c = omega arith
@@ -201,10 +228,10 @@ seek-loop-less t c = omega arith
 
 seek-loop-again : (t : ℕ) → seek-lts.Need-loop-again (calls t) (seek-at t) seek.Post seek-Inv-loop seek-μ-loop
 seek-loop-again t c =
-    let mid = c .before .before .before .before .before .before .before .before in
-    let a = mid .before .before .before .before .args in
-    let l = c .before .before .before .before .loop in
-    let k = c .before .before .before .loop-test .taken in
+    let turn = at-turn t (c .before) in
+    let a = at-start t (after-free t (turn .before)) .args in
+    let l = turn .before .loop in
+    let k = turn .loop-test .taken in
     let named : (b : Bool) → c .before .has .result ≡ b → member (at (a .views .now) (l .j)) (a .campaign) ≡ b =
     λ b e. sym (c .before .has .ensures) ∙ e in
     let Kept : List ℕ → ℕ → ℕ → Type 0 = λ to seen known. Seeking (a .views .now) (a .allotment .now) (a .campaign)
@@ -231,14 +258,14 @@ seek-loop-again t c =
     )
 
 seek-same-length-3 : (t : ℕ) → seek-lts.Need-same-length-3 (calls t) (seek-at t) seek.Post seek-Inv-loop seek-μ-loop
-seek-same-length-3 t c = ap length (c .before .loop .inv .1 .still)
+seek-same-length-3 t c = ap length (c .before .before .loop .inv .1 .still)
 
 seek-returns-3 : (t : ℕ) → seek-lts.Need-returns-3 (calls t) (seek-at t) seek.Post seek-Inv-loop seek-μ-loop
 seek-returns-3 t c =
-    let a = c .before .before .before .before .before .before .before .before .before .args in
-    let l = c .before .loop in
-    sought-none (a .views .now) (a .allotment .now) (a .campaign) (a .visited) (a .first) (a .bare) (l .allotment)
-    (l .seen) (l .known) (l .j) (l .inv .1) (c .loop-test .left)
+    let a = at-start t (after-free t (c .before .before)) .args in
+    let l = c .before .before .loop in
+    told-as (c .ended3 .ensures) (sought-none (a .views .now) (a .allotment .now) (a .campaign) (a .visited)
+    (a .first) (a .bare) (l .allotment) (l .seen) (l .known) (l .j) (l .inv .1) (c .before .loop-test .left))
 
 pub +seek-spec : {M : Type 1} → statement M
 +seek-spec = close μ-seek λ t. seek-lts.spec (calls t)
@@ -249,6 +276,7 @@ pub +seek-spec : {M : Type 1} → statement M
     (seek-free-view-requires t)
     (seek-mul-allotment t)
     (seek-slice-write-allotment t)
+    (λ c κs. search needs)
     (seek-same-length t)
     (seek-returns t)
     (seek-including-requires t)
@@ -263,10 +291,12 @@ pub +seek-spec : {M : Type 1} → statement M
     (seek-seek-requires t)
     (seek-mul-allotment-2 t)
     (seek-slice-write-allotment-2 t)
+    (λ c κs. search needs)
     (seek-same-length-2 t)
     (seek-returns-2 t)
     (seek-add-j t)
     (seek-loop-less t)
     (seek-loop-again t)
+    (λ c κs. search needs)
     (seek-same-length-3 t)
     (seek-returns-3 t)

@@ -17,6 +17,14 @@ Inv-loop views to campaign first bare j₀ j = (j ≤ length views) × ((i : ℕ
 abbrev μ-loop : tie.MeasureT-loop
 μ-loop views to campaign first bare j₀ j = length views - j
 
+-- where the function began, of the head of the loop
+abbrev at-start : tie.At-loop Inv-loop μ-loop → tie.Start Inv-loop μ-loop
+at-start c = c .before .before .before .before .before
+
+-- the turn's start, of the place behind the test whether the view names the campaign
+abbrev at-turn : tie.After-has2 Inv-loop μ-loop → tie.In-loop Inv-loop μ-loop
+at-turn c = c .before .before .before
+
 has-requires : tie.Need-has-requires Inv-loop μ-loop
 has-requires c κs = c .before .before .pre .0 .1
 
@@ -35,39 +43,19 @@ loop-holds c =
       passed-taken (a .views .now) (a .allotment .now) (a .campaign) (a .first) (s .pre .1 .0),
     )
 
-mul-holder : tie.Need-mul-holder Inv-loop μ-loop
-mul-holder c = omega arith
-
-shared-slice-read-holder : tie.Need-shared-slice-read-holder Inv-loop μ-loop
-shared-slice-read-holder c = omega arith
-
-mul-v : tie.Need-mul-v Inv-loop μ-loop
-mul-v c = omega arith
-
-shared-slice-read-v : tie.Need-shared-slice-read-v Inv-loop μ-loop
-shared-slice-read-v c = omega arith
-
-has-requires-2 : tie.Need-has-requires-2 Inv-loop μ-loop
-has-requires-2 c κs = omega arith
-
 returns-2 : tie.Need-returns-2 Inv-loop μ-loop
 returns-2 c =
-    let a = c .before .before .before .before .before .before .before .before .before .before .args in
-    let l = c .before .before .before .before .before .loop in
-    free-here (a .views .now) (a .allotment .now) (a .campaign) (l .j)
-    (c .before .before .before .before .loop-test .taken) (l .inv .1)
+    let turn = at-turn (c .before) in
+    let a = at-start (turn .before) .args in
+    let l = turn .before .loop in
+    free-here (a .views .now) (a .allotment .now) (a .campaign) (l .j) (turn .loop-test .taken) (l .inv .1)
     (ap (λ (b : Bool). eqb (at (a .allotment .now) (l .j)) 64 && b) (sym (c .before .has2 .ensures)) ∙ c .if2 .taken)
-
-add-j : tie.Need-add-j Inv-loop μ-loop
-add-j c = omega arith
-
-loop-less : tie.Need-loop-less Inv-loop μ-loop
-loop-less c = omega arith
 
 loop-again : tie.Need-loop-again Inv-loop μ-loop
 loop-again c =
-    let a = c .before .before .before .before .before .before .before .before .before .before .args in
-    let l = c .before .before .before .before .before .loop in (
+    let turn = at-turn (c .before) in
+    let a = at-start (turn .before) .args in
+    let l = turn .before .loop in (
       omega arith,
       passed-one (a .views .now) (a .allotment .now) (a .campaign) (l .j) (l .inv .1)
           (ap (λ (b : Bool). eqb (at (a .allotment .now) (l .j)) 64 && b) (sym (c .before .has2 .ensures)) ∙
@@ -76,7 +64,7 @@ loop-again c =
 
 returns-3 : tie.Need-returns-3 Inv-loop μ-loop
 returns-3 c =
-    let a = c .before .before .before .before .before .before .args in
+    let a = at-start (c .before) .args in
     let l = c .before .loop in
     let e : length (a .views .now) ≡ l .j = omega arith in
     sym e ∙ free-nowhere (a .views .now) (a .allotment .now) (a .campaign) (λ i k. l .inv .1 i (omega arith))
@@ -84,19 +72,5 @@ returns-3 c =
 pub free-view-spec : {M : Type 1} → statement M
 free-view-spec =
     tie.close
-    (tie.spec
-    Inv-loop
-    μ-loop
-    has-requires
-    returns
-    loop-holds
-    mul-holder
-    shared-slice-read-holder
-    mul-v
-    shared-slice-read-v
-    has-requires-2
-    returns-2
-    add-j
-    loop-less
-    loop-again
-    returns-3)
+    (tie.spec Inv-loop μ-loop has-requires returns loop-holds (λ c. omega arith) (λ c. omega arith) (λ c. omega arith)
+    (λ c. omega arith) (λ c κs. omega arith) returns-2 (λ c. omega arith) (λ c. omega arith) loop-again returns-3)

@@ -13,18 +13,9 @@ pub read-campaign-spec : {M : Type 1} → statement M
 unfolding template made
 read-campaign-spec =
     tie.close
-    (tie.spec
-    (λ c. refl)
-    (λ c κs. omega arith)
-    (λ c. refl)
-    (λ c κs. omega arith)
-    (λ c. refl)
-    (λ c κs. omega arith)
+    (tie.spec (λ c. refl) (λ c κs. omega arith) (λ c. refl) (λ c κs. omega arith) (λ c. refl) (λ c κs. omega arith)
     (λ c.
     let budget = c .before .before in
-    let price = budget .before .before in
     reads (Campaign 0 0)
-    (field refl (price .field .ensures)
-    (field refl (budget .field2 .ensures)
-    (last-word refl)))
+    (field refl (budget .before .before .field .ensures) (field refl (budget .field2 .ensures) (last-word refl)))
     (c .ended .ensures)))

@@ -13,15 +13,8 @@ pub read-closed-spec : {M : Type 1} → statement M
 unfolding template made
 read-closed-spec =
     tie.close
-    (tie.spec
-    (λ c. refl)
-    (λ c κs. omega arith)
-    (λ c. refl)
-    (λ c κs. omega arith)
-    (λ c. refl)
-    (λ c κs. omega arith)
-    (λ c. refl)
-    (λ c κs. omega arith)
+    (tie.spec (λ c. refl) (λ c κs. omega arith) (λ c. refl) (λ c κs. omega arith) (λ c. refl) (λ c κs. omega arith)
+    (λ c. refl) (λ c κs. omega arith)
     (λ c.
     let full = c .before .before in
     let claim = full .before .before in

@@ -13,11 +13,5 @@ pub read-pause-spec : {M : Type 1} → statement M
 unfolding template made
 read-pause-spec =
     tie.close
-    (tie.spec
-    (λ c. refl)
-    (λ c κs. omega arith)
-    (λ c. refl)
-    (λ c κs. omega arith)
-    (λ c.
-    let campaign = c .before .before in
-    reads (Pause 0) (field refl (campaign .field .ensures) (last-word refl)) (c .ended .ensures)))
+    (tie.spec (λ c. refl) (λ c κs. omega arith) (λ c. refl) (λ c κs. omega arith)
+    (λ c. reads (Pause 0) (field refl (c .before .before .field .ensures) (last-word refl)) (c .ended .ensures)))

@@ -13,18 +13,9 @@ pub read-plan-spec : {M : Type 1} → statement M
 unfolding template made
 read-plan-spec =
     tie.close
-    (tie.spec
-    (λ c. refl)
-    (λ c κs. omega arith)
-    (λ c. refl)
-    (λ c κs. omega arith)
-    (λ c. refl)
-    (λ c κs. omega arith)
+    (tie.spec (λ c. refl) (λ c κs. omega arith) (λ c. refl) (λ c κs. omega arith) (λ c. refl) (λ c κs. omega arith)
     (λ c.
     let width = c .before .before in
-    let depth = width .before .before in
     reads (Plan 0 0)
-    (field refl (depth .field .ensures)
-    (field refl (width .field2 .ensures)
-    (last-word refl)))
+    (field refl (width .before .before .field .ensures) (field refl (width .field2 .ensures) (last-word refl)))
     (c .ended .ensures)))

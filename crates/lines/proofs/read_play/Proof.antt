@@ -13,18 +13,9 @@ pub read-play-spec : {M : Type 1} → statement M
 unfolding template made
 read-play-spec =
     tie.close
-    (tie.spec
-    (λ c. refl)
-    (λ c κs. omega arith)
-    (λ c. refl)
-    (λ c κs. omega arith)
-    (λ c. refl)
-    (λ c κs. omega arith)
+    (tie.spec (λ c. refl) (λ c κs. omega arith) (λ c. refl) (λ c κs. omega arith) (λ c. refl) (λ c κs. omega arith)
     (λ c.
     let paid = c .before .before in
-    let campaign = paid .before .before in
     reads (Play 0 0)
-    (field refl (campaign .field .ensures)
-    (field refl (paid .field2 .ensures)
-    (last-word refl)))
+    (field refl (paid .before .before .field .ensures) (field refl (paid .field2 .ensures) (last-word refl)))
     (c .ended .ensures)))

@@ -13,11 +13,5 @@ pub read-refused-spec : {M : Type 1} → statement M
 unfolding template made
 read-refused-spec =
     tie.close
-    (tie.spec
-    (λ c. refl)
-    (λ c κs. omega arith)
-    (λ c. refl)
-    (λ c κs. omega arith)
-    (λ c.
-    let number = c .before .before in
-    reads (Refused 0) (field refl (number .field .ensures) (last-word refl)) (c .ended .ensures)))
+    (tie.spec (λ c. refl) (λ c κs. omega arith) (λ c. refl) (λ c κs. omega arith)
+    (λ c. reads (Refused 0) (field refl (c .before .before .field .ensures) (last-word refl)) (c .ended .ensures)))

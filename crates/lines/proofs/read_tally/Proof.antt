@@ -13,19 +13,8 @@ pub read-tally-spec : {M : Type 1} → statement M
 unfolding template made
 read-tally-spec =
     tie.close
-    (tie.spec
-    (λ c. refl)
-    (λ c κs. omega arith)
-    (λ c. refl)
-    (λ c κs. omega arith)
-    (λ c. refl)
-    (λ c κs. omega arith)
-    (λ c. refl)
-    (λ c κs. omega arith)
-    (λ c. refl)
-    (λ c κs. omega arith)
-    (λ c. refl)
-    (λ c κs. omega arith)
+    (tie.spec (λ c. refl) (λ c κs. omega arith) (λ c. refl) (λ c κs. omega arith) (λ c. refl) (λ c κs. omega arith)
+    (λ c. refl) (λ c κs. omega arith) (λ c. refl) (λ c κs. omega arith) (λ c. refl) (λ c κs. omega arith)
     (λ c.
     let named = c .before .before in
     let age = named .before .before in

@@ -11,9 +11,6 @@ use borrow.Author.Needs.{needs}
 use Rattle.matching.proofs.allot.Statement.{statement}
 use Rattle.matching.proofs.allot.Tie as tie
 
-clear-requires : tie.Need-clear-requires
-clear-requires c κs = search needs
-
 match-all-requires : tie.Need-match-all-requires
 match-all-requires c κs =
     let mid = c .before .before .before .before .before .before .before .before in
@@ -26,21 +23,6 @@ match-all-requires c κs =
       long = refl;
       zeros = at-zeros 64;
     }
-
-write-campaign-figures-requires : tie.Need-write-campaign-figures-requires
-write-campaign-figures-requires c κs = search needs
-
-write-view-figures-requires : tie.Need-write-view-figures-requires
-write-view-figures-requires c κs = search needs
-
-same-length : tie.Need-same-length
-same-length c = search needs
-
-same-length-2 : tie.Need-same-length-2
-same-length-2 c = search needs
-
-same-length-3 : tie.Need-same-length-3
-same-length-3 c = search needs
 
 returns : tie.Need-returns
 returns c =
@@ -61,6 +43,7 @@ returns c =
     let made = standing-certified (a .count) ps (a .wholes .now) (a .views .now) to' level (m .ensures .closed)
     (s .pre .market) (m .ensures .standing) in
     record {
+      method = m .ensures .method;
       accepted = certified-test (a .count) (at ps) (at (a .wholes .now)) n (at (a .views .now)) (at to') (at us')
           (at vs')
           (certified-same (a .count) (at ps) (at (a .wholes .now)) n (at (a .views .now)) (at to')
@@ -75,12 +58,5 @@ returns c =
 pub allot-spec : {M : Type 1} → statement M
 allot-spec =
     tie.close
-    (tie.spec
-    clear-requires
-    match-all-requires
-    write-campaign-figures-requires
-    write-view-figures-requires
-    same-length
-    same-length-2
-    same-length-3
-    returns)
+    (tie.spec (λ c κs. search needs) match-all-requires (λ c κs. search needs) (λ c κs. search needs)
+    (λ c. search needs) (λ c. search needs) (λ c. search needs) returns)

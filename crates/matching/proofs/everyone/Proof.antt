@@ -15,9 +15,6 @@ shifted n h = ap (λ (x : ℕ). x % 2 ^ 64) (one-mul (2 ^ n)) ∙ mod-eq-of-lt (
 returns : tie.Need-returns
 returns c = everyone-of (c .before .args .count) 18446744073709551615 (sym (ap (λ (x : ℕ). 2 ^ x) (c .if1 .taken)))
 
-shl-result : tie.Need-shl-result
-shl-result c = search needs
-
 below : (c : tie.Else1) → c .before .args .count < 64
 below c = omega (arith, c .before .pre, c .if1 .left)
 
@@ -32,4 +29,4 @@ returns-2 c =
     everyone-of n (1 * 2 ^ n % 2 ^ 64 - 1) (omega (arith, shifted n (below c), pow-pos n))
 
 pub everyone-spec : {M : Type 1} → statement M
-everyone-spec = tie.close (tie.spec returns shl-result sub-result returns-2)
+everyone-spec = tie.close (tie.spec returns (λ c. search needs) sub-result returns-2)

@@ -28,24 +28,6 @@ loop-holds c =
 dearest-requires : tie.Need-dearest-requires Inv-loop μ-loop
 dearest-requires c κs = c .loop-test .taken
 
-mul-wide32 : tie.Need-mul-wide32 Inv-loop μ-loop
-mul-wide32 c = omega (arith, c .dearest .ensures .inside)
-
-element-copy-out-wide32 : tie.Need-element-copy-out-wide32 Inv-loop μ-loop
-element-copy-out-wide32 c = omega (arith, c .dearest .ensures .inside)
-
-wide32-requires : tie.Need-wide32-requires Inv-loop μ-loop
-wide32-requires c κs = search needs
-
-mul-wide32-2 : tie.Need-mul-wide32-2 Inv-loop μ-loop
-mul-wide32-2 c = omega (arith, c .before .before .dearest .ensures .inside)
-
-element-copy-out-wide32-2 : tie.Need-element-copy-out-wide32-2 Inv-loop μ-loop
-element-copy-out-wide32-2 c = omega (arith, c .before .before .dearest .ensures .inside)
-
-wide32-requires-2 : tie.Need-wide32-requires-2 Inv-loop μ-loop
-wide32-requires-2 c κs = search needs
-
 first-open-requires : tie.Need-first-open-requires Inv-loop μ-loop
 first-open-requires c κs =
     let u = c .before .before .before .before .before .before .before .loop .inv in
@@ -54,14 +36,7 @@ first-open-requires c κs =
 serve-requires : tie.Need-serve-requires Inv-loop μ-loop
 serve-requires c κs =
     let d = c .before .before .before .before .before .before .before in
-    let l = d .before .before .loop in
-    let a = d .before .before .before .before .before .before .args in
-    ready-chosen (a .count) (a .prices .now) (a .wholes .now) (a .views .now) (a .allotment .now) (l .allotment)
-    (l .level) (l .first) (l .closed) (l .bare) (l .unserved) (d .dearest .result) (l .inv) (d .dearest .ensures)
-    (c .before .first-open .result) (c .before .first-open .ensures)
-
-without-requires : tie.Need-without-requires Inv-loop μ-loop
-without-requires c κs = search needs
+    ready-chosen (d .before .before .loop .inv) (d .dearest .ensures) (c .before .first-open .ensures)
 
 freeze-requires : tie.Need-freeze-requires Inv-loop μ-loop
 freeze-requires c κs =
@@ -73,35 +48,23 @@ including-requires c κs =
     let d = c .before .before .before .before .before .before .before .before .before .before .before .before .before in
     d .dearest .ensures .inside
 
-without-requires-2 : tie.Need-without-requires-2 Inv-loop μ-loop
-without-requires-2 c κs = search needs
-
 loop-less : tie.Need-loop-less Inv-loop μ-loop
 loop-less c =
     let mid = c .before .before .before .before .before .before .before in
     let d = mid .before .before .before .before .before .before .before .before in
-    let l = d .before .before .loop in
-    let a = d .before .before .before .before .before .before .args in
-    fewer-left (a .count) (a .prices .now) (a .wholes .now) (a .views .now) (a .allotment .now) (l .allotment)
-    (l .level) (l .first) (l .closed) (l .bare) (l .unserved) (d .dearest .result) (l .inv) (d .dearest .ensures)
-    (c .before .including .result) (c .without2 .result) (c .before .including .ensures) (c .without2 .ensures)
+    fewer-left (d .before .before .loop .inv) (d .dearest .ensures) (c .before .including .ensures)
+    (c .without2 .ensures)
 
 loop-again : tie.Need-loop-again Inv-loop μ-loop
 loop-again c =
     let mid = c .before .before .before .before .before .before .before in
     let d = mid .before .before .before .before .before .before .before .before in
-    let l = d .before .before .loop in
-    let a = d .before .before .before .before .before .before .args in
     let o = mid .before .before .first-open in
     let v = mid .serve in
     let f = c .before .before .freeze in
     let plays = mid .before .before .before .before .wide322 in
     let price = mid .before .before .before .before .before .before .wide32 in
-    underway-turn (a .count) (a .prices .now) (a .wholes .now) (a .views .now) (a .allotment .now) (l .allotment)
-    (l .level) (l .first) (l .closed) (l .bare) (l .unserved) (d .dearest .result) (l .inv) (d .dearest .ensures)
-    (v .last .1 .0) (f .last .0) (o .result) (v .result .closed) (v .result .bare) (c .before .including .result)
-    (c .without2 .result)
-    (plays .result) (price .result) (c .before .before .before .without .result) (o .ensures) (plays .ensures .0)
+    underway-turn (d .before .before .loop .inv) (d .dearest .ensures) (o .ensures) (plays .ensures .0)
     (price .ensures .0) (c .before .before .before .without .ensures) (c .before .including .ensures)
     (c .without2 .ensures) (v .kept .1 .0) (v .ensures) (f .ensures)
 
@@ -109,34 +72,14 @@ same-length : tie.Need-same-length Inv-loop μ-loop
 same-length c = c .before .loop .inv .same
 
 returns : tie.Need-returns Inv-loop μ-loop
-returns c =
-    let a = c .before .before .before .before .before .args in
-    let l = c .before .loop in
-    matched-end (a .count) (a .prices .now) (a .wholes .now) (a .views .now) (a .allotment .now) (l .allotment)
-    (l .level) (l .first) (l .closed) (l .bare) (l .unserved) (l .inv) (c .loop-test .left)
+returns c = matched-end (c .before .loop .inv) (c .loop-test .left)
 
 pub match-all-spec : {M : Type 1} → statement M
 match-all-spec =
     tie.close
-    (tie.spec
-    Inv-loop
-    μ-loop
-    everyone-requires
-    loop-holds
-    dearest-requires
-    mul-wide32
-    element-copy-out-wide32
-    wide32-requires
-    mul-wide32-2
-    element-copy-out-wide32-2
-    wide32-requires-2
-    first-open-requires
-    serve-requires
-    without-requires
-    freeze-requires
-    including-requires
-    without-requires-2
-    loop-less
-    loop-again
-    same-length
-    returns)
+    (tie.spec Inv-loop μ-loop everyone-requires loop-holds dearest-requires
+    (λ c. omega (arith, c .dearest .ensures .inside)) (λ c. omega (arith, c .dearest .ensures .inside))
+    (λ c κs. search needs) (λ c. omega (arith, c .before .before .dearest .ensures .inside))
+    (λ c. omega (arith, c .before .before .dearest .ensures .inside)) (λ c κs. search needs) first-open-requires
+    serve-requires (λ c κs. search needs) freeze-requires including-requires (λ c κs. search needs) loop-less loop-again
+    same-length returns)

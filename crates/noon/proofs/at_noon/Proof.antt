@@ -21,19 +21,23 @@ use Rattle.noon.proofs.at_noon.Tie as tie
 abbrev state : tie.Start → Day
 state s = state-of (s .args .head) (s .args .terms .now) (s .args .counts .now)
 
+-- where the function began, of the audit's word
+abbrev at-start : tie.After-audited → tie.Start
+at-start c = c .before .before .before .before
+
 -- the audit's word
-unsound : (c : tie.Then1) → sound (state (c .before .before .before .before .before .before)) ≡ false
+unsound : (c : tie.Then1) → sound (state (at-start (c .before .before))) ≡ false
 unfolding sound audited
 unsound c =
-    let s = c .before .before .before .before .before .before in
+    let s = at-start (c .before .before) in
     let a = c .before .before .audited in
     sym (audit-sound (s .args .head) (campaign (state s)) (a .result) (a .ensures))
     ∙ not-true (a .result .sound) (c .if1 .taken)
 
-is-sound : (c : tie.Else1) → sound (state (c .before .before .before .before .before .before)) ≡ true
+is-sound : (c : tie.Else1) → sound (state (at-start (c .before .before))) ≡ true
 unfolding sound audited
 is-sound c =
-    let s = c .before .before .before .before .before .before in
+    let s = at-start (c .before .before) in
     let a = c .before .before .audited in
     sym (audit-sound (s .args .head) (campaign (state s)) (a .result) (a .ensures))
     ∙ not-false (a .result .sound) (c .if1 .left)
@@ -42,24 +46,18 @@ is-sound c =
 abbrev given : Audit → ℕ → Noon
 given a f = Figures (a .full) (a .claim) f
 
-sized-requires : tie.Need-sized-requires
-sized-requires c κs = search needs
-
-audited-requires : tie.Need-audited-requires
-audited-requires c κs = search needs
-
 returns : tie.Need-returns
-returns c = sym (noon-unsound (state (c .before .before .before .before .before .before)) (unsound c))
+returns c = sym (noon-unsound (state (at-start (c .before .before))) (unsound c))
 
 total-due-requires : tie.Need-total-due-requires
-total-due-requires c κs = record {
-  room = c .before .before .before .before .sized .ensures;
-  is-sound = is-sound (c .before);
-}
+total-due-requires c κs =
+    let measured = c .before .before .before .before in
+    record { room = measured .sized .ensures; is-sound = is-sound (c .before) }
 
 share-requires : tie.Need-share-requires
 share-requires c κs =
-    let s = c .before .before .before .before .before .before .before .before in
+    let audited-at = c .before .before .before .before in
+    let s = at-start audited-at in
     sound-facts (state s) (is-sound (c .before .before)) .plan-sound
 
 mul-t11 : tie.Need-mul-t11
@@ -69,8 +67,9 @@ returns-2 : tie.Need-returns-2
 unfolding sound audited total-takings total-claim
 returns-2 c =
     let e = is-sound (c .before .before .before) in
-    let s = c .before .before .before .before .before .before .before .before .before in
-    let a = c .before .before .before .before .before .audited in
+    let audited-at = c .before .before .before .before .before in
+    let s = at-start audited-at in
+    let a = audited-at .audited in
     ap₂ given (audit-figures (s .args .head) (campaign (state s)) (a .result) (a .ensures) e)
     (ap₂ _*_ (c .share .ensures .0) (c .before .total-due .ensures .0))
     ∙ sym (noon-sound (state s) e)
@@ -78,11 +77,4 @@ returns-2 c =
 pub at-noon-spec : {M : Type 1} → statement M
 at-noon-spec =
     tie.close
-    (tie.spec
-    sized-requires
-    audited-requires
-    returns
-    total-due-requires
-    share-requires
-    mul-t11
-    returns-2)
+    (tie.spec (λ c κs. search needs) (λ c κs. search needs) returns total-due-requires share-requires mul-t11 returns-2)

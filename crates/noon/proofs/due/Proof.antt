@@ -6,12 +6,6 @@ use Rattle.noon.specs.Noon.{due}
 use Rattle.noon.proofs.due.Statement.{statement}
 use Rattle.noon.proofs.due.Tie as tie
 
-div-whole : tie.Need-div-whole
-div-whole c = search needs
-
-div-turned : tie.Need-div-turned
-div-turned c = search needs
-
 returns : tie.Need-returns
 unfolding due whole
 returns c = omega arith
@@ -21,4 +15,4 @@ unfolding due whole
 returns-2 c = omega arith
 
 pub due-spec : {M : Type 1} → statement M
-due-spec = tie.close (tie.spec div-whole div-turned returns returns-2)
+due-spec = tie.close (tie.spec (λ c. search needs) (λ c. search needs) returns returns-2)

@@ -5,15 +5,6 @@ use Rattle.audit.proofs.Claims.{share-is, low-below}
 use Rattle.noon.proofs.share.Statement.{statement}
 use Rattle.noon.proofs.share.Tie as tie
 
-weights-requires : tie.Need-weights-requires
-weights-requires c κs = search needs
-
-weigh-requires : tie.Need-weigh-requires
-weigh-requires c κs = search needs
-
-weigh-requires-2 : tie.Need-weigh-requires-2
-weigh-requires-2 c κs = search needs
-
 sub-result : tie.Need-sub-result
 sub-result c =
     let s = c .before .before .before .before .before in
@@ -33,4 +24,4 @@ returns c =
 
 pub share-spec : {M : Type 1} → statement M
 share-spec =
-    tie.close (tie.spec weights-requires weigh-requires weigh-requires-2 sub-result returns)
+    tie.close (tie.spec (λ c κs. search needs) (λ c κs. search needs) (λ c κs. search needs) sub-result returns)

@@ -68,12 +68,6 @@ add-all c =
     let l = c .before .before .before .before .loop in
     omega (arith, fits (c .before), l .inv .2, sound-facts (state s) (s .pre .is-sound) .few)
 
-add-i : tie.Need-add-i Inv-loop μ-loop
-add-i c = omega arith
-
-loop-less : tie.Need-loop-less Inv-loop μ-loop
-loop-less c = omega arith
-
 loop-again : tie.Need-loop-again Inv-loop μ-loop
 loop-again c =
     let s = c .before .before .before .before .before in
@@ -99,15 +93,5 @@ returns c =
 pub total-due-spec : {M : Type 1} → statement M
 total-due-spec =
     tie.close
-    (tie.spec
-    Inv-loop
-    μ-loop
-    loop-holds
-    entry-requires
-    due-requires
-    mul-all
-    add-all
-    add-i
-    loop-less
-    loop-again
-    returns)
+    (tie.spec Inv-loop μ-loop loop-holds entry-requires due-requires mul-all add-all (λ c. omega arith)
+    (λ c. omega arith) loop-again returns)

@@ -25,15 +25,6 @@ loop-holds c =
     let a = c .before .args in
     (omega arith, passed-none (λ i. within (a .count) (at (a .views .now) i)))
 
-mul-within : tie.Need-mul-within Inv-loop μ-loop
-mul-within c = omega arith
-
-shared-slice-read-within : tie.Need-shared-slice-read-within Inv-loop μ-loop
-shared-slice-read-within c = omega arith
-
-within-requires : tie.Need-within-requires Inv-loop μ-loop
-within-requires c κs = search needs
-
 returns : tie.Need-returns Inv-loop μ-loop
 returns c =
     let a = c .before .before .before .before .before .before .args in
@@ -41,12 +32,6 @@ returns c =
     sym (every-not (length (a .views .now)) (λ i. within (a .count) (at (a .views .now) i)) (l .j)
     (c .before .before .before .loop-test .taken)
     (sym (c .before .within .ensures) ∙ not-true (c .before .within .result) (c .if1 .taken)))
-
-add-j : tie.Need-add-j Inv-loop μ-loop
-add-j c = omega arith
-
-loop-less : tie.Need-loop-less Inv-loop μ-loop
-loop-less c = omega arith
 
 loop-again : tie.Need-loop-again Inv-loop μ-loop
 loop-again c =
@@ -67,15 +52,5 @@ returns-2 c =
 pub all-within-spec : {M : Type 1} → statement M
 all-within-spec =
     tie.close
-    (tie.spec
-    Inv-loop
-    μ-loop
-    loop-holds
-    mul-within
-    shared-slice-read-within
-    within-requires
-    returns
-    add-j
-    loop-less
-    loop-again
-    returns-2)
+    (tie.spec Inv-loop μ-loop loop-holds (λ c. omega arith) (λ c. omega arith) (λ c κs. search needs) returns
+    (λ c. omega arith) (λ c. omega arith) loop-again returns-2)

@@ -1,12 +1,12 @@
 -- The questions in turn: the audit tells the first, and each later one is asked where those before it hold.
 use mathlib.Core.Path.{_≡_, sym, _∙_}
 use mathlib.Core.Bool.{true}
-use lib.Dec.{leb}
 use lib.ListN.{length}
 use borrow.Author.Tests.{not-true, not-false, le-leb, lt-leb}
 use Rattle.finite.specs.Finite.{every}
 use Rattle.sets.specs.Set.{within}
 use Rattle.allotments.specs.Allotment.{at}
+use Rattle.allotments.specs.Limits.{max-handed-in}
 use Rattle.day.specs.Day.{state-of, sound}
 use Rattle.questions.specs.Questions.{first-failed}
 use Rattle.optimum.proofs.Asked.{sound-told}
@@ -14,75 +14,54 @@ use borrow.Author.Needs.{needs}
 use Rattle.optimum.proofs.first_failed.Statement.{statement}
 use Rattle.optimum.proofs.first_failed.Tie as tie
 
-is-sound : (c : tie.Else1) → sound (state-of (c .before .before .before .before .args .head)
-    (c .before .before .before .before .args .terms .now) (c .before .before .before .before .args .counts .now)) ≡ true
-is-sound c =
-    let a = c .before .before .before .before .args in
-    let r = c .before .before .audited in
-    sym (sound-told (state-of (a .head) (a .terms .now) (a .counts .now)) (r .result) (r .ensures)) ∙ not-false
-    (r .result .sound) (c .if1 .left)
+-- where the function began, of the place where the state is sound
+abbrev at-start : tie.Else1 → tie.Start
+at-start c = c .before .before .before .before
 
-few : (c : tie.Else2) → leb (length (c .before .before .before .before .before .args .views .now)) 256 ≡ true
-few c = le-leb (length (c .before .before .before .before .before .args .views .now)) 256 (c .if2 .left)
+-- the audit tells question 1
+told : (c : tie.After-audited) → let a = c .before .before .args in
+    c .audited .result .sound ≡ sound (state-of (a .head) (a .terms .now) (a .counts .now))
+told c = sound-told _ _ (c .audited .ensures)
 
-inside : (c : tie.Else3) → every
-    (length (c .before .before .before .before .before .before .before .args .views .now))
-    (λ j. within (c .before .before .before .before .before .before .before .args .head .count)
-    (at (c .before .before .before .before .before .before .before .args .views .now) j)) ≡ true
-inside c = sym (c .before .all-within .ensures) ∙ not-false (c .before .all-within .result) (c .if3 .left)
+is-sound : (c : tie.Else1) → let a = at-start c .args in
+    sound (state-of (a .head) (a .terms .now) (a .counts .now)) ≡ true
+is-sound c = sym (told (c .before .before)) ∙ not-false _ (c .if1 .left)
 
-audited-requires : tie.Need-audited-requires
-audited-requires c κs = search needs
+inside : (c : tie.Else3) → let a = at-start (c .before .before .before) .args in
+    every (length (a .views .now)) (λ j. within (a .head .count) (at (a .views .now) j)) ≡ true
+inside c = sym (c .before .all-within .ensures) ∙ not-false _ (c .if3 .left)
 
 returns : tie.Need-returns
 unfolding first-failed
-returns c =
-    let a = c .before .before .before .before .args in
-    let r = c .before .before .audited in
-    rw (sym (sound-told (state-of (a .head) (a .terms .now) (a .counts .now)) (r .result) (r .ensures)) ∙ not-true
-    (r .result .sound) (c .if1 .taken))
+returns c = rw (sym (told (c .before .before)) ∙ not-true _ (c .if1 .taken))
 
 returns-2 : tie.Need-returns-2
 unfolding first-failed
-returns-2 c =
-    rw (is-sound (c .before), lt-leb _ 256 (c .if2 .taken))
-
-all-within-requires : tie.Need-all-within-requires
-all-within-requires c κs = search needs
+returns-2 c = rw (is-sound (c .before), lt-leb _ max-handed-in (c .if2 .taken))
 
 returns-3 : tie.Need-returns-3
 unfolding first-failed
 returns-3 c =
+    let few = c .before .before in
     rw (
-      is-sound (c .before .before .before),
-      few (c .before .before),
-      sym (c .before .all-within .ensures) ∙ not-true
-          (c .before .all-within .result) (c .if3 .taken),
+      is-sound (few .before),
+      le-leb _ max-handed-in (few .if2 .left),
+      sym (c .before .all-within .ensures) ∙ not-true _ (c .if3 .taken),
     )
 
 returns-4 : tie.Need-returns-4
 unfolding first-failed
 returns-4 c =
-    rw (
-      is-sound (c .before .before .before .before .before),
-      few (c .before .before .before .before),
-      inside
-          (c .before .before),
-      c .if4 .taken,
-    )
+    let few = c .before .before .before .before in
+    rw (is-sound (few .before), le-leb _ max-handed-in (few .if2 .left), inside (c .before .before), c .if4 .taken)
 
 returns-5 : tie.Need-returns-5
 unfolding first-failed
 returns-5 c =
-    rw (
-      is-sound (c .before .before .before .before .before),
-      few (c .before .before .before .before),
-      inside
-          (c .before .before),
-      c .if4 .left,
-    )
+    let few = c .before .before .before .before in
+    rw (is-sound (few .before), le-leb _ max-handed-in (few .if2 .left), inside (c .before .before), c .if4 .left)
 
 pub first-failed-spec : {M : Type 1} → statement M
 first-failed-spec =
     tie.close
-    (tie.spec audited-requires returns returns-2 all-within-requires returns-3 returns-4 returns-5)
+    (tie.spec (λ c κs. search needs) returns returns-2 (λ c κs. search needs) returns-3 returns-4 returns-5)

@@ -19,17 +19,8 @@ abbrev μ-loop : tie.MeasureT-loop
 loop-holds : tie.Need-loop-holds Inv-loop μ-loop
 loop-holds c = (omega arith, refl, λ i l. absurd (not-suc-le-zero l))
 
-add-wholes : tie.Need-add-wholes Inv-loop μ-loop
-add-wholes c = omega arith
-
-mul-wholes : tie.Need-mul-wholes Inv-loop μ-loop
-mul-wholes c = omega arith
-
 element-copy-out-wholes : tie.Need-element-copy-out-wholes Inv-loop μ-loop
 element-copy-out-wholes c = omega (arith, c .before .before .pre .0)
-
-mul-wholes-2 : tie.Need-mul-wholes-2 Inv-loop μ-loop
-mul-wholes-2 c = omega arith
 
 element-copy-out-wholes-2 : tie.Need-element-copy-out-wholes-2 Inv-loop μ-loop
 element-copy-out-wholes-2 c = omega (arith, c .before .before .before .pre .0)
@@ -40,20 +31,11 @@ div-wholes c =
     let l = c .before .before .before .loop in
     omega (arith, s .pre .1 (l .i) (c .before .before .loop-test .taken))
 
-mul-wholes-3 : tie.Need-mul-wholes-3 Inv-loop μ-loop
-mul-wholes-3 c = omega arith
-
 array-write-wholes : tie.Need-array-write-wholes Inv-loop μ-loop
 array-write-wholes c =
     let s = c .before .before .before .before in
     let l = c .before .before .before .loop in
     omega (arith, s .pre .0, l .inv .1)
-
-add-i : tie.Need-add-i Inv-loop μ-loop
-add-i c = omega arith
-
-loop-less : tie.Need-loop-less Inv-loop μ-loop
-loop-less c = omega arith
 
 loop-again : tie.Need-loop-again Inv-loop μ-loop
 loop-again c =
@@ -75,19 +57,6 @@ returns c =
 pub whole-plays-spec : {M : Type 1} → statement M
 whole-plays-spec =
     tie.close
-    (tie.spec
-    Inv-loop
-    μ-loop
-    loop-holds
-    add-wholes
-    mul-wholes
-    element-copy-out-wholes
-    mul-wholes-2
-    element-copy-out-wholes-2
-    div-wholes
-    mul-wholes-3
-    array-write-wholes
-    add-i
-    loop-less
-    loop-again
-    returns)
+    (tie.spec Inv-loop μ-loop loop-holds (λ c. omega arith) (λ c. omega arith) element-copy-out-wholes
+    (λ c. omega arith) element-copy-out-wholes-2 div-wholes (λ c. omega arith) array-write-wholes (λ c. omega arith)
+    (λ c. omega arith) loop-again returns)

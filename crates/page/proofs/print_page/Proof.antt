@@ -34,7 +34,9 @@ module _ (s : Day) (a : Audit) (e : a ≡ audited s) where
 -- the state that is asked about, once its audit has passed
 module _ (c : tie.Else1) where
   abbrev state : Day
-  state = let a = c .before .before .before .before .args in state-of (a .head) (a .terms .now) (a .counts .now)
+  state =
+      let a = c .before .before .before .before .args in
+      state-of (a .head) (a .terms .now) (a .counts .now)
 
   abbrev audit : Audit
   audit = c .before .before .audited .result
@@ -114,14 +116,5 @@ returns-3 c =
 pub print-page-spec : {M : Type 1} → statement M
 print-page-spec =
     tie.close
-    (tie.spec
-    (λ c κs. search needs)
-    returns
-    (λ c. omega (arith, facts c .few))
-    (λ c. omega (arith, facts c .few))
-    returns-2
-    (λ c κs. search needs)
-    put-total-requires
-    put-rows-requires
-    same-length
-    returns-3)
+    (tie.spec (λ c κs. search needs) returns (λ c. omega (arith, facts c .few)) (λ c. omega (arith, facts c .few))
+    returns-2 (λ c κs. search needs) put-total-requires put-rows-requires same-length returns-3)

@@ -10,13 +10,8 @@ use Rattle.page.proofs.put_cents.Tie as tie
 pub put-cents-spec : {M : Type 1} → statement M
 put-cents-spec =
     tie.close
-    (tie.spec
-    (λ c. search needs)
-    (λ c. search needs)
-    (λ c. omega (arith, cents-size (c .before .args .n)))
-    (λ c. omega (arith, cents-size (c .before .args .n)))
-    (λ c. search needs)
-    (λ c. search needs)
+    (tie.spec (λ c. search needs) (λ c. search needs) (λ c. omega (arith, cents-size (c .before .args .n)))
+    (λ c. omega (arith, cents-size (c .before .args .n))) (λ c. search needs) (λ c. search needs)
     (λ c. omega (arith, cents-size (c .before .args .n)))
     (λ c. simp length-set (omega (arith, cents-size (c .before .args .n))))
     (λ c. omega (arith, cents-size (c .before .args .n)))

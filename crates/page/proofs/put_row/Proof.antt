@@ -3,7 +3,7 @@ use mathlib.Core.Path.{_∙_}
 use native.Mathlib.Omega.{arith}
 use lib.ListN.{length-set}
 use borrow.Author.Needs.{needs}
-use Rattle.page.specs.Figures.{row-of}
+use Rattle.page.specs.Figures.{page-row}
 use Rattle.page.proofs.Texts.{number-3, number-6, cents-11, cents-14}
 use Rattle.page.proofs.Lays.{row-laid}
 use Rattle.page.proofs.put_row.Statement.{statement}
@@ -19,7 +19,7 @@ put-cents-requires c κs =
     let named = c .before .before .before .before in
     let start = named .before .before .before in
     let same = simp length-set at (named .put-number .ensures .same) in
-    omega (arith, same, cents-14 (row-of (start .args .c) .paid) (start .pre .2 .paid-fits))
+    omega (arith, same, cents-14 (page-row (start .args .c) .paid) (start .pre .2 .paid-fits))
 
 put-cents-requires-2 : tie.Need-put-cents-requires-2
 put-cents-requires-2 c κs =
@@ -58,26 +58,13 @@ returns c =
     let paid = price .before .before .before .before in
     let named = paid .before .before .before .before .before in
     let start = named .before .before .before in
-    row-laid (start .pre .0) (start .args .i) (row-of (start .args .c)) (start .pre .1) (start .pre .2)
+    row-laid (start .pre .0) (start .args .i) (page-row (start .args .c)) (start .pre .1) (start .pre .2)
     (named .put-number .ensures) (paid .put-cents .ensures) (price .put-cents2 .ensures) (plays .put-number2 .ensures)
     (number .put-number3 .ensures)
 
 pub put-row-spec : {M : Type 1} → statement M
 put-row-spec =
     tie.close
-    (tie.spec
-    (λ c. search needs)
-    (λ c. search needs)
-    (λ c. search needs)
-    put-number-requires
-    (λ c. search needs)
-    (λ c. search needs)
-    put-cents-requires
-    (λ c. search needs)
-    put-cents-requires-2
-    (λ c. search needs)
-    put-number-requires-2
-    (λ c. search needs)
-    put-number-requires-3
-    (λ c. returns c .same)
-    returns)
+    (tie.spec (λ c. search needs) (λ c. search needs) (λ c. search needs) put-number-requires (λ c. search needs)
+    (λ c. search needs) put-cents-requires (λ c. search needs) put-cents-requires-2 (λ c. search needs)
+    put-number-requires-2 (λ c. search needs) put-number-requires-3 (λ c. returns c .same) returns)

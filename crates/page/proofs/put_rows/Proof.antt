@@ -8,14 +8,14 @@ use Rattle.finite.specs.Finite.{table}
 use Rattle.campaigns.specs.declared.Campaign.{Campaign}
 use Rattle.campaigns.specs.Campaign.{campaign-at}
 use Rattle.page.specs.Page.{Row, Row-fits, line-length, row-text, row-lines}
-use Rattle.page.specs.Figures.{row-of}
+use Rattle.page.specs.Figures.{page-row}
 use Rattle.page.specs.Contracts.{Lays}
 use Rattle.page.proofs.Lays.{lays-none, lays-before, rows-none, rows-before}
 use Rattle.page.proofs.put_rows.Statement.{statement}
 use Rattle.page.proofs.put_rows.Tie as tie
 
 abbrev rows-of : ℕ → (terms counts : List ℕ) → List Row
-rows-of n t k = table n (λ i. row-of (campaign-at t k i))
+rows-of n t k = table n (λ i. page-row (campaign-at t k i))
 
 abbrev Inv-loop : tie.InvT-loop
 Inv-loop n terms counts out₀ i₀ out i =
@@ -27,7 +27,7 @@ abbrev μ-loop : tie.MeasureT-loop
 loop-holds : tie.Need-loop-holds Inv-loop μ-loop
 loop-holds c =
     let a = c .before .args in
-    let f : ℕ → Row = λ i. row-of (campaign-at (a .terms .now) (a .counts .now) i) in (
+    let f : ℕ → Row = λ i. page-row (campaign-at (a .terms .now) (a .counts .now) i) in (
       omega arith,
       subst (Lays (a .out .now) (a .out .now) (line-length * a .n) (line-length * a .n)) (rows-none (a .n) f)
           (lays-none (a .out .now) (line-length * a .n)),
@@ -41,7 +41,7 @@ put-row-requires c κs =
     let fits = start .pre .all-fit (o .i - 1) (omega arith) in (
       (omega arith, omega (arith, o .inv .1 .same, start .pre .room)),
       omega (arith, start .pre .few),
-      subst (λ (x : Campaign). Row-fits (row-of x)) (sym e) fits,
+      subst (λ (x : Campaign). Row-fits (page-row x)) (sym e) fits,
     )
 
 -- the line of campaign j before those from i on
@@ -66,10 +66,10 @@ loop-again c =
     let o = turn .loop in
     let e = c .before .before .before .before .entry .ensures .0 in
     let p = c .before .before .put-row .ensures in
-    let f : ℕ → Row = λ i. row-of (campaign-at (a .terms .now) (a .counts .now) i) in
+    let f : ℕ → Row = λ i. page-row (campaign-at (a .terms .now) (a .counts .now) i) in
     let j = o .i - 1 in
     let s : o .i ≡ suc j = omega arith in
-    (omega arith, one-more (a .n) f j (o .i) (omega arith) s (o .inv .1) (ap row-of e) p)
+    (omega arith, one-more (a .n) f j (o .i) (omega arith) s (o .inv .1) (ap page-row e) p)
 
 returns : tie.Need-returns Inv-loop μ-loop
 returns c =
@@ -82,15 +82,6 @@ returns c =
 pub put-rows-spec : {M : Type 1} → statement M
 put-rows-spec =
     tie.close
-    (tie.spec
-    Inv-loop
-    μ-loop
-    loop-holds
-    (λ c. omega arith)
-    (λ c. omega arith)
-    (λ c κs. omega (arith, c .before .before .before .pre .few))
-    put-row-requires
-    (λ c. omega arith)
-    loop-again
-    (λ c. c .before .loop .inv .1 .same)
-    returns)
+    (tie.spec Inv-loop μ-loop loop-holds (λ c. omega arith) (λ c. omega arith)
+    (λ c κs. omega (arith, c .before .before .before .pre .few)) put-row-requires (λ c. omega arith) loop-again
+    (λ c. c .before .loop .inv .1 .same) returns)

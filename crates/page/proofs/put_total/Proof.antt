@@ -28,13 +28,5 @@ returns c =
 pub put-total-spec : {M : Type 1} → statement M
 put-total-spec =
     tie.close
-    (tie.spec
-    (λ c. search needs)
-    (λ c. search needs)
-    (λ c. search needs)
-    put-cents-requires
-    (λ c. search needs)
-    (λ c. refl)
-    put-requires
-    (λ c. returns c .same)
-    returns)
+    (tie.spec (λ c. search needs) (λ c. search needs) (λ c. search needs) put-cents-requires (λ c. search needs)
+    (λ c. refl) put-requires (λ c. returns c .same) returns)

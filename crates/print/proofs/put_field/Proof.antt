@@ -8,10 +8,7 @@ use Rattle.print.proofs.put_field.Tie as tie
 pub put-field-spec : {M : Type 1} → statement M
 put-field-spec =
     tie.close
-    (tie.spec
-    (λ c κs. omega arith)
-    (λ c κs. omega arith)
-    (λ c. search needs)
+    (tie.spec (λ c κs. omega arith) (λ c κs. omega arith) (λ c. search needs)
     (λ c.
     let word = c .before .before in
     let slot = word .before .before .before .before in

@@ -40,23 +40,14 @@ two d at n h b =
 pub put-name-spec : {M : Type 1} → statement M
 put-name-spec =
     tie.close
-    (tie.spec
-    (λ c. omega arith)
-    (λ c. omega arith)
-    (λ c. omega arith)
-    (λ c. omega arith)
-    (λ c. simp length-set (omega (arith, len-one (c .before .args .name) (c .if1 .taken))))
-    (λ c. omega arith)
+    (tie.spec (λ c. omega arith) (λ c. omega arith) (λ c. omega arith) (λ c. omega arith)
+    (λ c. simp length-set (omega (arith, len-one (c .before .args .name) (c .if1 .taken)))) (λ c. omega arith)
     (λ c. simp length-set)
     (λ c. one (c .before .args .out .now) (c .before .args .at) (c .before .args .name) (c .if1 .taken))
-    (λ c. omega arith)
-    (λ c. omega arith)
-    (λ c. omega arith)
+    (λ c. omega arith) (λ c. omega arith) (λ c. omega arith)
     (λ c. simp length-set (omega (arith, len-two (c .before .args .name) (c .if1 .left) (omega arith))))
-    (λ c. omega arith)
-    (λ c. omega arith)
+    (λ c. omega arith) (λ c. omega arith)
     (λ c. omega (arith, len-two (c .before .args .name) (c .if1 .left) (omega arith)))
     (λ c. simp length-set (omega (arith, len-two (c .before .args .name) (c .if1 .left) (omega arith))))
-    (λ c. omega (arith, len-two (c .before .args .name) (c .if1 .left) (omega arith)))
-    (λ c. simp length-set)
+    (λ c. omega (arith, len-two (c .before .args .name) (c .if1 .left) (omega arith))) (λ c. simp length-set)
     (λ c. two (c .before .args .out .now) (c .before .args .at) (c .before .args .name) (c .if1 .left) (omega arith)))

@@ -63,14 +63,5 @@ loop-again c =
 pub put-names-spec : {M : Type 1} → statement M
 put-names-spec =
     tie.close
-    (tie.spec
-    Inv-loop
-    μ-loop
-    loop-holds
-    (λ c κs. tt)
-    put-name-requires
-    (λ c κs. tt)
-    loop-less
-    loop-again
-    (λ c. c .before .loop .inv .stands .same)
-    (λ c. ends (c .before .loop .inv) (c .loop-test .left)))
+    (tie.spec Inv-loop μ-loop loop-holds (λ c κs. tt) put-name-requires (λ c κs. tt) loop-less loop-again
+    (λ c. c .before .loop .inv .stands .same) (λ c. ends (c .before .loop .inv) (c .loop-test .left)))

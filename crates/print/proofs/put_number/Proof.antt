@@ -69,9 +69,7 @@ returns-2 c =
 pub put-number-spec : {M : Type 1} → statement M
 put-number-spec =
     tie.close
-    (tie.spec
-    Inv-loop
-    μ-loop
+    (tie.spec Inv-loop μ-loop
     (λ c.
     let a = c .args in
     record {
@@ -81,26 +79,14 @@ put-number-spec =
       small = omega arith;
       same = refl;
     })
+    (λ c. let o = c .before .loop in omega (arith, two (o .inv) (omega arith))) (λ c. omega arith) (λ c. omega arith)
     (λ c. let o = c .before .loop in omega (arith, two (o .inv) (omega arith)))
-    (λ c. omega arith)
-    (λ c. omega arith)
-    (λ c. let o = c .before .loop in omega (arith, two (o .inv) (omega arith)))
-    (λ c. let o = c .before .loop in omega (arith, two (o .inv) (omega arith)))
-    (λ c. omega arith)
-    (λ c. omega arith)
-    (λ c. let o = c .before .loop in simp length-set (omega (arith, two (o .inv) (omega arith))))
-    (λ c. omega arith)
-    loop-again
+    (λ c. let o = c .before .loop in omega (arith, two (o .inv) (omega arith))) (λ c. omega arith) (λ c. omega arith)
+    (λ c. let o = c .before .loop in simp length-set (omega (arith, two (o .inv) (omega arith)))) (λ c. omega arith)
+    loop-again (λ c. let o = c .before .loop in omega (arith, one (o .inv))) (λ c. omega arith) (λ c. omega arith)
     (λ c. let o = c .before .loop in omega (arith, one (o .inv)))
-    (λ c. omega arith)
-    (λ c. omega arith)
-    (λ c. let o = c .before .loop in omega (arith, one (o .inv)))
-    (λ c. simp length-set (c .before .before .loop .inv .same))
-    returns
-    (λ c. omega arith)
-    (λ c. omega arith)
+    (λ c. simp length-set (c .before .before .loop .inv .same)) returns (λ c. omega arith) (λ c. omega arith)
     (λ c. let o = c .before .before .loop in omega (arith, two (o .inv) (omega arith)))
     (λ c. let o = c .before .before .loop in simp length-set (omega (arith, two (o .inv) (omega arith))))
     (λ c. let o = c .before .before .loop in omega (arith, two (o .inv) (omega arith)))
-    (λ c. simp length-set (c .before .before .loop .inv .same))
-    returns-2)
+    (λ c. simp length-set (c .before .before .loop .inv .same)) returns-2)

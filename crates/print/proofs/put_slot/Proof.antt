@@ -11,8 +11,7 @@ use Rattle.print.proofs.put_slot.Tie as tie
 pub put-slot-spec : {M : Type 1} → statement M
 put-slot-spec =
     tie.close
-    (tie.spec
-    (λ c κs. tt)
+    (tie.spec (λ c κs. tt)
     (λ c.
     let start = c .before .before .before in
     let e = text-names (start .args .slot) (start .args .n) (c .before .if1 .taken) in

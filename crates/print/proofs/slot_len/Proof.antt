@@ -10,8 +10,7 @@ use Rattle.print.proofs.slot_len.Tie as tie
 pub slot-len-spec : {M : Type 1} → statement M
 slot-len-spec =
     tie.close
-    (tie.spec
-    (λ c κs. tt)
+    (tie.spec (λ c κs. tt)
     (λ c.
     let a = c .before .before .args in (
       c .names-len .ensures .0

@@ -21,26 +21,34 @@ loop-holds : tie.Need-loop-holds Inv-loop μ-loop
 loop-holds c =
     (refl, refl, subst (λ (w : Teller). Reached w (2 ^ 64 - 1)) (sym (c .new .ensures)) reached-none)
 
--- where the function began and what the loop knows, of a turn that has read
-abbrev begin : tie.After-turn Inv-loop μ-loop → tie.Start Inv-loop μ-loop
-begin c = c .before .before .before .before .before .before .before .before
+-- the head of the loop, of a turn that has read
+abbrev at-loop : tie.After-turn Inv-loop μ-loop → tie.At-loop Inv-loop μ-loop
+at-loop c = c .before .before .before .before
 
-abbrev reached : (c : tie.After-turn Inv-loop μ-loop) → let o = c .before .before .before .before .loop in
-    Reached (o .teller) (o .turns)
-reached c = c .before .before .before .before .loop .inv .2
+-- where the function began, of the head of the loop
+abbrev at-start : tie.At-loop Inv-loop μ-loop → tie.Start Inv-loop μ-loop
+at-start c = c .before .before .before .before
+
+-- the read of a turn that has asked whether its answers were written
+abbrev after-turn : tie.After-sent Inv-loop μ-loop → tie.After-turn Inv-loop μ-loop
+after-turn c = c .before .before .before .before .before
+
+abbrev reached : (c : tie.After-turn Inv-loop μ-loop) → let o = at-loop c .loop in Reached (o .teller) (o .turns)
+reached c = at-loop c .loop .inv .2
 
 -- the buffers after it
 same-block : (c : tie.After-turn Inv-loop μ-loop)
-    → length (c .turn .last .1 .0) ≡ length (begin c .args .block .now)
-same-block c = c .turn .kept .1 .0 ∙ c .before .before .before .before .loop .inv .0
+    → length (c .turn .last .1 .0) ≡ length (at-start (at-loop c) .args .block .now)
+same-block c = c .turn .kept .1 .0 ∙ at-loop c .loop .inv .0
 
-same-out : (c : tie.After-turn Inv-loop μ-loop) → length (c .turn .last .1 .1 .0) ≡ length (begin c .args .out .now)
-same-out c = c .turn .kept .1 .1 .0 ∙ c .before .before .before .before .loop .inv .1
+same-out : (c : tie.After-turn Inv-loop μ-loop)
+    → length (c .turn .last .1 .1 .0) ≡ length (at-start (at-loop c) .args .out .now)
+same-out c = c .turn .kept .1 .1 .0 ∙ at-loop c .loop .inv .1
 
 -- a write failed
 returns : tie.Need-returns Inv-loop μ-loop
 returns c =
-    let r = c .before .before .before .before .before .before in
+    let r = after-turn (c .before) in
     let s = c .before .sent in
     ran-unsent (reached r) (r .turn .ensures) (sym (s .ensures) ∙ not-true (s .result) (c .if1 .taken))
 
@@ -49,7 +57,7 @@ returns-2 : tie.Need-returns-2 Inv-loop μ-loop
 returns-2 c =
     let ending = c .before .before .before .before in
     let going = ending .before .before in
-    let r = going .before .before .before .before .before .before in
+    let r = after-turn (going .before) in
     let s = going .before .sent in
     ran-through (reached r) (r .turn .ensures) (sym (s .ensures) ∙ not-false (s .result) (going .if1 .left))
     (sym (ending .before .ended .ensures) ∙ ending .if2 .taken) (c .before .before .finish .ensures)
@@ -57,7 +65,7 @@ returns-2 c =
 loop-again : tie.Need-loop-again Inv-loop μ-loop
 loop-again c =
     let going = c .before .before in
-    let r = going .before .before .before .before .before .before in
+    let r = after-turn (going .before) in
     let s = going .before .sent in
     let sent = sym (s .ensures) ∙ not-false (s .result) (going .if1 .left) in
     let more = sym (c .before .ended .ensures) ∙ c .if2 .left in
@@ -66,17 +74,20 @@ loop-again c =
 -- room for the longest answer, before a read and at the end of input
 turn-room : tie.Need-turn-requires Inv-loop μ-loop
 turn-room c κs =
-    let o = c .before .before .before in
-    omega (arith, o .loop .inv .1, o .before .before .before .before .pre)
+    let at-head = c .before .before .before in
+    omega (arith, at-head .loop .inv .1, at-start at-head .pre)
 
 -- the turn that has read, of a run at the end of input
 abbrev at-end : tie.After-finish Inv-loop μ-loop → tie.After-turn Inv-loop μ-loop
-at-end c = c .before .before .before .before .before .before .before .before .before .before
+at-end c =
+    let ending = c .before .before in
+    after-turn (ending .before .before .before)
 
 finish-room : tie.Need-finish-requires Inv-loop μ-loop
 finish-room c κs =
-    let r = c .before .before .before .before .before .before .before .before .before in
-    omega (arith, same-out r, begin r .pre)
+    let ending = c .before in
+    let r = after-turn (ending .before .before .before) in
+    omega (arith, same-out r, at-start (at-loop r) .pre)
 
 same-length-3 : tie.Need-same-length-3 Inv-loop μ-loop
 same-length-3 c = same-block (at-end (c .before .before))
@@ -87,24 +98,8 @@ same-length-4 c = c .before .before .finish .kept .1 .0 ∙ same-out (at-end (c 
 pub run-spec : {M : Type 1} → statement M
 run-spec =
     tie.close
-    (tie.spec
-    Inv-loop
-    μ-loop
-    (λ c κs. tt)
-    loop-holds
-    turn-room
-    (λ c κs. tt)
-    (λ c. same-block (c .before .before .before .before .before .before))
-    (λ c. same-out (c .before .before .before .before .before .before))
-    returns
-    (λ c κs. tt)
-    finish-room
-    same-length-3
-    same-length-4
-    returns-2
-    (λ c. omega arith)
-    (λ c. omega arith)
-    loop-again
-    (λ c. c .before .loop .inv .0)
-    (λ c. c .before .loop .inv .1)
-    (λ c. ran-spent (c .before .loop .inv .2) (omega arith)))
+    (tie.spec Inv-loop μ-loop (λ c κs. tt) loop-holds turn-room (λ c κs. tt)
+    (λ c. same-block (after-turn (c .before)))
+    (λ c. same-out (after-turn (c .before))) returns (λ c κs. tt) finish-room same-length-3
+    same-length-4 returns-2 (λ c. omega arith) (λ c. omega arith) loop-again (λ c. c .before .loop .inv .0)
+    (λ c. c .before .loop .inv .1) (λ c. ran-spent (c .before .loop .inv .2) (omega arith)))

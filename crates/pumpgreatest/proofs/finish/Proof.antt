@@ -8,7 +8,7 @@ use borrow.Author.Needs.{needs}
 use Rattle.stream.specs.declared.feed.Stream.{Stream}
 use Rattle.earnings.specs.declared.Earnings.{Earnings}
 use Rattle.earnings.specs.Earnings.{earned}
-use Rattle.pumpgreatest.specs.Tells.{Tells}
+use Rattle.pumpgreatest.specs.Telling.{Told}
 use Rattle.pumpgreatest.specs.Contracts.{earned-of, earned-at-end}
 use Rattle.pumpgreatest.proofs.Answers.{put-stands}
 use Rattle.pumpgreatest.proofs.finish.Statement.{statement}
@@ -40,22 +40,11 @@ returns c =
     let told : f .result ≡ earned-at-end (s .args .stream) (s .args .views .now) =
     f .ensures ∙ ap (λ (i : ℕ). earned d (take i w)) (n .at-most .ensures)
     ∙ ap₂ earned-of (ap (λ (k : Stream). k .day) (t .ensures .0)) (t .ensures .1) in
-    subst (λ (x : Earnings). Tells (s .args .teller) x (c .tell .result)) told (c .tell .ensures)
+    subst (λ (x : Earnings). Told (s .args .teller) x (c .tell .result)) told (c .tell .ensures)
 
 pub finish-spec : {M : Type 1} → statement M
 finish-spec =
     tie.close
-    (tie.spec
-    (λ c κs. search needs)
-    (λ c κs. search needs)
-    inside
-    slice-aggregate-earned
-    (λ c κs. search needs)
-    (λ c κs. search needs)
-    (λ c. search needs)
-    (λ c. search needs)
-    (λ c. search needs)
-    tell-requires
-    (λ c. search needs)
-    (λ c. search needs)
-    returns)
+    (tie.spec (λ c κs. search needs) (λ c κs. search needs) inside slice-aggregate-earned (λ c κs. search needs)
+    (λ c κs. search needs) (λ c. search needs) (λ c. search needs) (λ c. search needs) tell-requires (λ c. search needs)
+    (λ c. search needs) returns)

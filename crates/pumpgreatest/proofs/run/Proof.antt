@@ -1,12 +1,9 @@
 -- A run, block after block. The loop's invariant: the stream, the entries for views and the teller stand where the
 -- blocks that reads gave have led (`Reached`). A turn leaves it for a read that failed, for a read that gave nothing,
 -- or with one block more.
-use mathlib.Core.Path.{_≡_, refl, sym, _∙_, subst}
-use Prim.Native.Nat.{_-_, _^_}
+use mathlib.Core.Path.{_≡_, refl, sym, _∙_}
 use native.Mathlib.Omega.{arith}
 use lib.ListN.{length}
-use Rattle.stream.specs.declared.feed.Stream.{Stream}
-use Rattle.pumpgreatest.specs.declared.teller.Teller.{Teller}
 use Rattle.pumpgreatest.proofs.Days.{Reached, reached-none, reached-more, ran-failed, ran-spent, ran-through}
 use Rattle.pumpgreatest.proofs.run.Statement.{statement}
 use Rattle.pumpgreatest.proofs.run.Tie as tie
@@ -21,63 +18,66 @@ abbrev μ-loop : tie.MeasureT-loop
 
 loop-holds : tie.Need-loop-holds Inv-loop μ-loop
 loop-holds c =
-    let v = c .before .before .before .before .before .args .views .now in (
-      refl,
-      refl,
-      refl,
-      subst (λ (w : Teller). Reached v (c .before .new .result) v w (2 ^ 64 - 1)) (sym (c .new2 .ensures))
-          (subst (λ (k : Stream). Reached v k v _ (2 ^ 64 - 1)) (sym (c .before .new .ensures)) (reached-none v)),
-    )
+    let v = c .before .before .before .before .before .args .views .now in
+    (refl, refl, refl, reached-none v (c .before .new .ensures) (c .new2 .ensures))
 
--- where the function began, of a turn that has read
-abbrev begin : tie.After-read-block Inv-loop μ-loop → tie.Start Inv-loop μ-loop
-begin c = c .before .before .before .before .before .before .before .before .before .before .before
+-- the head of the loop, of a turn that has read
+abbrev at-loop : tie.After-read-block Inv-loop μ-loop → tie.At-loop Inv-loop μ-loop
+at-loop c = c .before .before .before .before .before
+
+-- where the function began, of the head of the loop
+abbrev at-start : tie.At-loop Inv-loop μ-loop → tie.Start Inv-loop μ-loop
+at-start c = c .before .before .before .before .before .before
+
+-- the read of a turn that has asked whether it failed
+abbrev after-read : tie.After-failed Inv-loop μ-loop → tie.After-read-block Inv-loop μ-loop
+after-read c = c .before .before .before .before .before .before .before .before .before
+
+-- the end of input, of a run that ends there
+abbrev after-finish : tie.After-slice-known8 Inv-loop μ-loop → tie.After-finish Inv-loop μ-loop
+after-finish c = c .before .before .before .before
 
 -- where the run stood before it
 reached-before : (c : tie.After-read-block Inv-loop μ-loop)
-    → Reached (begin c .args .views .now) (c .before .before .before .before .before .loop .stream)
-    (c .before .before .before .before .before .loop .views) (c .before .before .before .before .before .loop .teller)
-    (c .before .before .before .before .before .loop .turns)
-reached-before c = c .before .before .before .before .before .loop .inv .3
+    → let o = at-loop c .loop in Reached (at-start (at-loop c) .args .views .now) (o .stream) (o .views) (o .teller)
+    (o .turns)
+reached-before c = at-loop c .loop .inv .3
 
 -- the buffers and the entries after a read
 same-block : (c : tie.After-read-block Inv-loop μ-loop)
-    → length (c .read-block .last .1 .1 .0) ≡ length (begin c .args .block .now)
-same-block c = c .read-block .kept .1 .1 .0 ∙ c .before .before .before .before .before .loop .inv .0
+    → length (c .read-block .last .1 .1 .0) ≡ length (at-start (at-loop c) .args .block .now)
+same-block c = c .read-block .kept .1 .1 .0 ∙ at-loop c .loop .inv .0
 
 same-views : (c : tie.After-read-block Inv-loop μ-loop)
-    → length (c .read-block .last .1 .1 .1 .0) ≡ length (begin c .args .views .now)
-same-views c = c .read-block .kept .1 .1 .1 .0 ∙ c .before .before .before .before .before .loop .inv .1
+    → length (c .read-block .last .1 .1 .1 .0) ≡ length (at-start (at-loop c) .args .views .now)
+same-views c = c .read-block .kept .1 .1 .1 .0 ∙ at-loop c .loop .inv .1
 
 same-out : (c : tie.After-read-block Inv-loop μ-loop)
-    → length (c .read-block .last .1 .1 .1 .1 .0) ≡ length (begin c .args .out .now)
-same-out c = c .read-block .kept .1 .1 .1 .1 .0 ∙ c .before .before .before .before .before .loop .inv .2
+    → length (c .read-block .last .1 .1 .1 .1 .0) ≡ length (at-start (at-loop c) .args .out .now)
+same-out c = c .read-block .kept .1 .1 .1 .1 .0 ∙ at-loop c .loop .inv .2
 
 -- a read failed
-abbrev failing : tie.Then1 Inv-loop μ-loop → tie.After-read-block Inv-loop μ-loop
-failing c = c .before .before .before .before .before .before .before .before .before .before
-
 returns : tie.Need-returns Inv-loop μ-loop
 returns c =
-    let r = failing c in
+    let r = after-read (c .before) in
     ran-failed (reached-before r) (r .read-block .ensures)
     (sym (c .before .failed .ensures) ∙ c .if1 .taken)
 
 -- the end of input
 returns-2 : tie.Need-returns-2 Inv-loop μ-loop
 returns-2 c =
-    let ending = c .before .before .before .before .before .before .before in
+    let ending = after-finish c .before .before .before in
     let going = ending .before .before in
-    let r = going .before .before .before .before .before .before .before .before .before .before in
+    let r = after-read (going .before) in
     ran-through (reached-before r) (r .read-block .ensures)
     (sym (going .before .failed .ensures) ∙ going .if1 .left)
     (sym (ending .before .ended .ensures) ∙ ending .if2 .taken)
-    (begin r .pre .1)
-    (c .before .before .before .before .finish .ensures)
+    (at-start (at-loop r) .pre .1)
+    (after-finish c .finish .ensures)
 
 loop-again : tie.Need-loop-again Inv-loop μ-loop
 loop-again c =
-    let r = c .before .before .before .before .before .before .before .before .before .before .before .before in
+    let r = after-read (c .before .before .before) in
     let more = sym (c .before .ended .ensures) ∙ c .if2 .left in (
       same-block r,
       same-views r,
@@ -88,57 +88,36 @@ loop-again c =
 -- room for the longest answer, before a read and at the end of input
 read-room : tie.Need-read-block-requires Inv-loop μ-loop
 read-room c κs =
-    let o = c .before .before .before .before in
-    omega (arith, o .loop .inv .2, o .before .before .before .before .before .before .pre .0)
+    let at-head = c .before .before .before .before in
+    omega (arith, at-head .loop .inv .2, at-start at-head .pre .0)
 
 finish-room : tie.Need-finish-requires Inv-loop μ-loop
 finish-room c κs =
     let ending = c .before .before in
-    let r = ending .before .before .before .before .before .before .before .before .before .before .before .before in
-    omega (arith, same-out r, begin r .pre .0)
+    let r = after-read (ending .before .before .before) in
+    omega (arith, same-out r, at-start (at-loop r) .pre .0)
 
 -- the turn that has read, of a run at the end of input
 abbrev at-end : tie.After-finish Inv-loop μ-loop → tie.After-read-block Inv-loop μ-loop
 at-end c =
     let ending = c .before .before .before in
-    ending .before .before .before .before .before .before .before .before .before .before .before .before
+    after-read (ending .before .before .before)
 
 same-length-4 : tie.Need-same-length-4 Inv-loop μ-loop
-same-length-4 c = same-block (at-end (c .before .before .before .before))
+same-length-4 c = same-block (at-end (after-finish c))
 
 same-length-5 : tie.Need-same-length-5 Inv-loop μ-loop
-same-length-5 c =
-    c .before .before .before .before .finish .kept .1 .1 .0 ∙ same-views (at-end (c .before .before .before .before))
+same-length-5 c = after-finish c .finish .kept .1 .1 .0 ∙ same-views (at-end (after-finish c))
 
 same-length-6 : tie.Need-same-length-6 Inv-loop μ-loop
-same-length-6 c =
-    c .before .before .before .before .finish .kept .1 .1 .1 .0 ∙ same-out (at-end (c .before .before .before .before))
+same-length-6 c = after-finish c .finish .kept .1 .1 .1 .0 ∙ same-out (at-end (after-finish c))
 
 pub run-spec : {M : Type 1} → statement M
 run-spec =
     tie.close
-    (tie.spec
-    Inv-loop
-    μ-loop
-    (λ c κs. tt)
-    (λ c κs. tt)
-    loop-holds
-    read-room
-    (λ c κs. tt)
-    (λ c. same-block (failing c))
-    (λ c. same-views (failing c))
-    (λ c. same-out (failing c))
-    returns
-    (λ c κs. tt)
-    finish-room
-    same-length-4
-    same-length-5
-    same-length-6
-    returns-2
-    (λ c. omega arith)
-    (λ c. omega arith)
-    loop-again
-    (λ c. c .before .loop .inv .0)
-    (λ c. c .before .loop .inv .1)
-    (λ c. c .before .loop .inv .2)
+    (tie.spec Inv-loop μ-loop (λ c κs. tt) (λ c κs. tt) loop-holds read-room (λ c κs. tt)
+    (λ c. same-block (after-read (c .before))) (λ c. same-views (after-read (c .before)))
+    (λ c. same-out (after-read (c .before))) returns (λ c κs. tt) finish-room same-length-4 same-length-5 same-length-6
+    returns-2 (λ c. omega arith) (λ c. omega arith) loop-again
+    (λ c. c .before .loop .inv .0) (λ c. c .before .loop .inv .1) (λ c. c .before .loop .inv .2)
     (λ c. ran-spent (c .before .loop .inv .3) (omega arith)))

@@ -52,12 +52,6 @@ returns c =
 pub take-block-spec : {M : Type 1} → statement M
 take-block-spec =
     tie.close
-    (tie.spec
-    Inv-loop
-    μ-loop
-    (λ c. (refl, omega arith, took-none (c .before .before .args .stream)))
-    (λ c κs. c .before .before .before .loop .inv .1)
-    loop-less
-    loop-again
-    (λ c. c .before .before .before .loop .inv .0)
-    returns)
+    (tie.spec Inv-loop μ-loop (λ c. (refl, omega arith, took-none (c .before .before .args .stream)))
+    (λ c κs. c .before .before .before .loop .inv .1) loop-less loop-again
+    (λ c. c .before .before .before .loop .inv .0) returns)

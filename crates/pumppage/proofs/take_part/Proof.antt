@@ -25,11 +25,5 @@ add-place c =
 pub take-part-spec : {M : Type 1} → statement M
 take-part-spec =
     tie.close
-    (tie.spec
-    (λ c. search needs)
-    (λ c. search needs)
-    (λ c. search needs)
-    (λ c κs. search needs)
-    add-place
-    (λ c. search needs)
-    returns)
+    (tie.spec (λ c. search needs) (λ c. search needs) (λ c. search needs) (λ c κs. search needs) add-place
+    (λ c. search needs) returns)

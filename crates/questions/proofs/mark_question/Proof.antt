@@ -14,9 +14,6 @@ runs c =
     let running = c .before .before .running in
     sym (running .ensures) ∙ not-false (running .result) (c .if1 .left)
 
-running-requires : tie.Need-running-requires
-running-requires c κs = search needs
-
 returns : tie.Need-returns
 unfolding first-failed
 returns c =
@@ -36,4 +33,4 @@ returns-3 c =
     rw (runs (c .before), not-false (ltb (a .campaign) (a .head .count)) (c .if2 .left))
 
 pub mark-question-spec : {M : Type 1} → statement M
-mark-question-spec = tie.close (tie.spec running-requires returns returns-2 returns-3)
+mark-question-spec = tie.close (tie.spec (λ c κs. search needs) returns returns-2 returns-3)

@@ -19,7 +19,9 @@ held : (c : tie.Start) → length (c .args .stream .pending) ≡ 201
 held c = search needs
 
 inside : tie.Need-array-share-prefix-pending
-inside c = omega (arith, c .at-most-held .ensures, held (c .before .before .before .before))
+inside c =
+    let at-start = c .before .before .before .before in
+    omega (arith, c .at-most-held .ensures, held at-start)
 
 returns : tie.Need-returns
 unfolding noted
@@ -43,14 +45,6 @@ returns-2 c =
 pub note-spec : {M : Type 1} → statement M
 note-spec =
     tie.close
-    (tie.spec
-    (λ c κs. search needs)
-    inside
-    (λ c. sym (length-take-le (c .before .at-most-held .result) _ (inside (c .before))))
-    (λ c κs. search needs)
-    returns
-    (λ c κs. search needs)
-    (λ c. search needs)
-    (λ c. search needs)
-    (λ c. search needs)
-    returns-2)
+    (tie.spec (λ c κs. search needs) inside
+    (λ c. sym (length-take-le (c .before .at-most-held .result) _ (inside (c .before)))) (λ c κs. search needs) returns
+    (λ c κs. search needs) (λ c. search needs) (λ c. search needs) (λ c. search needs) returns-2)

@@ -29,6 +29,21 @@ loop-holds c =
           (short-stream (a .stream) (held s)) (c .line-end .ensures .0) (c .line-end .ensures .1),
     )
 
+-- where the function began, of the head of the loop
+abbrev at-start : tie.At-loop Inv-loop μ-loop → tie.Start Inv-loop μ-loop
+at-start c = c .before .before .before .before .before
+
+-- the turn's start, of a line that was taken, and that line, of the place behind it
+abbrev at-turn : tie.After-take-line Inv-loop μ-loop → tie.In-loop Inv-loop μ-loop
+at-turn c = c .before .before .before .before
+
+abbrev after-line : tie.After-slice-known4 Inv-loop μ-loop → tie.After-take-line Inv-loop μ-loop
+after-line c = c .before .before .before .before
+
+-- the end of the loop, of the bytes that are fed behind it
+abbrev past-loop : tie.After-feed Inv-loop μ-loop → tie.After-loop Inv-loop μ-loop
+past-loop c = c .before .before .before
+
 -- the line lies in the block
 line-below : (c : tie.In-loop Inv-loop μ-loop) → c .before .loop .from ≤ c .before .loop .end
 line-below c = omega (arith, c .before .loop .inv .2 .end-is)
@@ -39,24 +54,25 @@ bounded c = search needs
 
 add-from : tie.Need-add-from Inv-loop μ-loop
 add-from c =
-    let t = c .before .before .before .before .before .before .before .before in
-    omega (arith, t .loop-test .taken, bounded (t .before .before .before .before .before))
+    let t = at-turn (after-line c) in
+    let given = t .before .before .before .before .before in
+    omega (arith, t .loop-test .taken, bounded given)
 
 take-line-requires : tie.Need-take-line-requires Inv-loop μ-loop
 take-line-requires c κs =
     let o = c .before .before .before .before in
-    let s = o .before .before .before .before .before in
-    (omega (arith, o .loop .inv .1, s .pre), line-plain (o .loop .inv .2))
+    (omega (arith, o .loop .inv .1, at-start o .pre), line-plain (o .loop .inv .2))
 
 loop-less : tie.Need-loop-less Inv-loop μ-loop
 loop-less c =
-    let t = c .before .before .before .before .before .before .before .before .before in
+    let t = at-turn (after-line (c .before)) in
     omega (arith, t .loop-test .taken, line-below t)
 
 loop-again : tie.Need-loop-again Inv-loop μ-loop
 loop-again c =
-    let r = c .before .before .before .before .before .take-line in
-    let t = c .before .before .before .before .before .before .before .before .before in
+    let taken = after-line (c .before) in
+    let r = taken .take-line in
+    let t = at-turn taken in
     let o = t .before .loop in (
       r .kept .1 .1 .0 ∙ o .inv .0,
       r .kept .1 .1 .1 .0 ∙ o .inv .1,
@@ -66,34 +82,23 @@ loop-again c =
 returns : tie.Need-returns Inv-loop μ-loop
 returns c =
     let f = c .before .before .before in
-    let e = f .before .before .before in
+    let e = past-loop f in
     let o = e .before .loop in
-    let s = e .before .before .before .before .before .before in
+    let s = at-start (e .before) in
     going-ends (o .inv .2) (e .loop-test .left) (o .out) (f .feed .last .1 .1 .0) (f .feed .result)
     (omega (arith, o .inv .1, s .pre)) (f .feed .ensures)
 
 pub take-block-spec : {M : Type 1} → statement M
 take-block-spec =
     tie.close
-    (tie.spec
-    Inv-loop
-    μ-loop
-    (λ c κs. omega arith)
-    loop-holds
-    (λ c. line-below c)
-    (λ c. omega (arith, c .before .loop .inv .2 .inside))
-    (λ c. c .before .loop .inv .2 .end-inside)
-    take-line-requires
+    (tie.spec Inv-loop μ-loop (λ c κs. omega arith) loop-holds (λ c. line-below c)
+    (λ c. omega (arith, c .before .loop .inv .2 .inside)) (λ c. c .before .loop .inv .2 .end-inside) take-line-requires
     add-from
-    (λ c κs. let t = c .before .before .before .before .before .before .before .before in
-    omega (arith, t .loop-test .taken))
-    loop-less
-    loop-again
-    (λ c. c .before .loop .inv .2 .inside)
-    (λ c. c .before .loop .inv .2 .inside)
-    (λ c. search needs)
-    (λ c κs. tt)
-    (λ c. let o = c .before .before .before .before .before .before .before .loop in o .inv .0)
-    (λ c. let o = c .before .before .before .before .before .before .before .loop in
-    c .before .before .before .feed .kept .1 .1 .0 ∙ o .inv .1)
+    (λ c κs. omega (arith, at-turn (after-line c) .loop-test .taken))
+    loop-less loop-again (λ c. c .before .loop .inv .2 .inside) (λ c. c .before .loop .inv .2 .inside)
+    (λ c. search needs) (λ c κs. tt)
+    (λ c. past-loop (c .before .before .before) .before .loop .inv .0)
+    (λ c.
+    let f = c .before .before .before in
+    f .feed .kept .1 .1 .0 ∙ past-loop f .before .loop .inv .1)
     returns)

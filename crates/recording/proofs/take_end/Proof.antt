@@ -17,16 +17,12 @@ returns c =
     let s = n .before .before .before .before in
     let x = session-of (s .args .stream) in (
       ap (λ (b : Fed). b .stream) (f .finish .ensures .back-is)
-          ∙ ap (λ (b : Bool). stream-of (cond b (finished x) x)) (le-leb reply-room (length (s .args .out .now)) (s .pre)),
+          ∙ ap (λ (b : Bool). stream-of (cond b (finished x) x))
+          (le-leb reply-room (length (s .args .out .now)) (s .pre)),
       n .note .ensures,
     )
 
 pub take-end-spec : {M : Type 1} → statement M
 take-end-spec =
     tie.close
-    (tie.spec
-    (λ c κs. search needs)
-    (λ c κs. search needs)
-    (λ c. search needs)
-    (λ c. search needs)
-    returns)
+    (tie.spec (λ c κs. search needs) (λ c κs. search needs) (λ c. search needs) (λ c. search needs) returns)

@@ -5,15 +5,6 @@ use borrow.Author.Needs.{needs}
 use Rattle.replay.proofs.open.Statement.{statement}
 use Rattle.replay.proofs.open.Tie as tie
 
-open-requires : tie.Need-open-requires
-open-requires c κs = search needs
-
-number-requires : tie.Need-number-requires
-number-requires c κs = search needs
-
-keep-requires : tie.Need-keep-requires
-keep-requires c κs = search needs
-
 returns : tie.Need-returns
 returns c =
     let a = c .before .before .before .before .args in
@@ -21,9 +12,6 @@ returns c =
     rw (c .keep .ensures)
     (opened (a .day) (a .paid) (a .plan) (o .result) (o .ensures)
     (sym (c .before .before .number .ensures) ∙ c .before .if1 .taken))
-
-keep-requires-2 : tie.Need-keep-requires-2
-keep-requires-2 c κs = search needs
 
 returns-2 : tie.Need-returns-2
 returns-2 c =
@@ -36,4 +24,5 @@ returns-2 c =
 pub open-spec : {M : Type 1} → statement M
 open-spec =
     tie.close
-    (tie.spec open-requires number-requires keep-requires returns keep-requires-2 returns-2)
+    (tie.spec (λ c κs. search needs) (λ c κs. search needs) (λ c κs. search needs) returns (λ c κs. search needs)
+    returns-2)

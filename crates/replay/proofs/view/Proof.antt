@@ -10,12 +10,6 @@ use borrow.Author.Needs.{needs}
 use Rattle.replay.proofs.view.Statement.{statement}
 use Rattle.replay.proofs.view.Tie as tie
 
-view-requires : tie.Need-view-requires
-view-requires c κs = search needs
-
-paid-in-requires : tie.Need-paid-in-requires
-paid-in-requires c κs = search needs
-
 add-keep : tie.Need-add-keep
 add-keep c =
     let s = c .before .before .args .day in
@@ -23,9 +17,6 @@ add-keep c =
     let e : c .paid-in .result ≡ paid-in (call s (show-view w) .answer) =
     c .paid-in .ensures ∙ ap (λ (o : Outcome). paid-in (o .answer)) (c .before .view .ensures) in
     omega (arith, view-fits s (c .before .before .args .paid) w (c .before .before .pre) (omega arith))
-
-keep-requires : tie.Need-keep-requires
-keep-requires c κs = search needs
 
 returns : tie.Need-returns
 returns c =
@@ -35,4 +26,4 @@ returns c =
     (viewed-once (a .day) (a .paid) (a .view) o (c .before .before .view .ensures))
 
 pub view-spec : {M : Type 1} → statement M
-view-spec = tie.close (tie.spec view-requires paid-in-requires add-keep keep-requires returns)
+view-spec = tie.close (tie.spec (λ c κs. search needs) (λ c κs. search needs) add-keep (λ c κs. search needs) returns)

@@ -9,9 +9,6 @@ use Rattle.sets.proofs.Algebra.{including-is}
 use Rattle.sets.proofs.including.Statement.{statement}
 use Rattle.sets.proofs.including.Tie as tie
 
-shl-result : tie.Need-shl-result
-shl-result c = search needs
-
 shifted : (i : ℕ) → i < 64 → 1 * 2 ^ i % 2 ^ 64 ≡ 2 ^ i
 shifted i h = ap (λ (x : ℕ). x % 2 ^ 64) (one-mul (2 ^ i)) ∙ mod-eq-of-lt (pow-lt h)
 
@@ -21,4 +18,4 @@ returns c =
     ∙ including-is (c .args .set) (c .args .i) (c .fits .set .fits) (c .pre)
 
 pub including-spec : {M : Type 1} → statement M
-including-spec = tie.close (tie.spec shl-result returns)
+including-spec = tie.close (tie.spec (λ c. search needs) returns)

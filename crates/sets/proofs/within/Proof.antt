@@ -21,13 +21,10 @@ nothing-left set n h l = go (eqb (set / 2 ^ n) 0) refl
 returns : tie.Need-returns
 returns c = sym (within-far (c .before .args .n) (c .before .args .set) (c .if1 .taken))
 
-shr-result : tie.Need-shr-result
-shr-result c = search needs
-
 returns-2 : tie.Need-returns-2
 returns-2 c =
     let s = c .before in
     nothing-left (s .args .set) (s .args .n) (s .fits .set .fits) (omega (arith, c .if1 .left))
 
 pub within-spec : {M : Type 1} → statement M
-within-spec = tie.close (tie.spec returns shr-result returns-2)
+within-spec = tie.close (tie.spec returns (λ c. search needs) returns-2)

@@ -13,19 +13,11 @@ pub put-campaign-spec : {M : Type 1} → statement M
 unfolding template numbers filled piece numbers-after
 put-campaign-spec =
     tie.close
-    (tie.spec
-    (λ c. refl)
-    (λ c κs. omega arith)
-    (λ c. refl)
-    (λ c κs. omega arith)
-    (λ c. refl)
-    (λ c κs. omega arith)
+    (tie.spec (λ c. refl) (λ c κs. omega arith) (λ c. refl) (λ c κs. omega arith) (λ c. refl) (λ c κs. omega arith)
     (λ c. omega arith)
     (λ c.
     let price = c .before .before in
     let budget = price .before .before .before .before .before in
     let end = budget .before .before .before .before .before in
-    let a = end .before .before .before .before .args in
-    let from-budget = put-before (end .put .ensures) (budget .put-field .ensures) in
-    let from-price = put-before from-budget (price .put-field2 .ensures) in
-    puts-line (Campaign (a .price) (a .budget)) from-price))
+    puts-line (Campaign _ _)
+    (put-before (put-before (end .put .ensures) (budget .put-field .ensures)) (price .put-field2 .ensures))))

@@ -13,23 +13,13 @@ pub put-closed-spec : {M : Type 1} → statement M
 unfolding template numbers filled piece numbers-after
 put-closed-spec =
     tie.close
-    (tie.spec
-    (λ c. refl)
-    (λ c κs. omega arith)
-    (λ c. refl)
-    (λ c κs. omega arith)
-    (λ c. refl)
-    (λ c κs. omega arith)
-    (λ c. refl)
-    (λ c κs. omega arith)
-    (λ c. omega arith)
+    (tie.spec (λ c. refl) (λ c κs. omega arith) (λ c. refl) (λ c κs. omega arith) (λ c. refl) (λ c κs. omega arith)
+    (λ c. refl) (λ c κs. omega arith) (λ c. omega arith)
     (λ c.
     let takings = c .before .before in
     let claim = takings .before .before .before .before .before in
     let full = claim .before .before .before .before .before in
     let end = full .before .before .before .before .before in
-    let a = end .before .before .before .before .args in
     let from-full = put-before (end .put .ensures) (full .put-field .ensures) in
-    let from-claim = put-before from-full (claim .put-field2 .ensures) in
-    let from-takings = put-before from-claim (takings .put-field3 .ensures) in
-    puts-line (Closed (a .takings) (a .claim) (a .full)) from-takings))
+    puts-line (Closed _ _ _)
+    (put-before (put-before from-full (claim .put-field2 .ensures)) (takings .put-field3 .ensures))))

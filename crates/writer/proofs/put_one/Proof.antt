@@ -8,11 +8,7 @@ use Rattle.writer.proofs.put_one.Tie as tie
 pub put-one-spec : {M : Type 1} → statement M
 put-one-spec =
     tie.close
-    (tie.spec
-    (λ c. refl)
-    (λ c κs. omega arith)
-    (λ c κs. omega arith)
-    (λ c. omega arith)
+    (tie.spec (λ c. refl) (λ c κs. omega arith) (λ c κs. omega arith) (λ c. omega arith)
     (λ c.
     let slot = c .before .before in
     let end = slot .before .before .before .before in

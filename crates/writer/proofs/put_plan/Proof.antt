@@ -13,19 +13,11 @@ pub put-plan-spec : {M : Type 1} → statement M
 unfolding template numbers filled piece numbers-after
 put-plan-spec =
     tie.close
-    (tie.spec
-    (λ c. refl)
-    (λ c κs. omega arith)
-    (λ c. refl)
-    (λ c κs. omega arith)
-    (λ c. refl)
-    (λ c κs. omega arith)
+    (tie.spec (λ c. refl) (λ c κs. omega arith) (λ c. refl) (λ c κs. omega arith) (λ c. refl) (λ c κs. omega arith)
     (λ c. omega arith)
     (λ c.
     let depth = c .before .before in
     let width = depth .before .before .before .before .before in
     let end = width .before .before .before .before .before in
-    let a = end .before .before .before .before .args in
-    let from-width = put-before (end .put .ensures) (width .put-field .ensures) in
-    let from-depth = put-before from-width (depth .put-field2 .ensures) in
-    puts-line (Plan (a .depth) (a .width)) from-depth))
+    puts-line (Plan _ _)
+    (put-before (put-before (end .put .ensures) (width .put-field .ensures)) (depth .put-field2 .ensures))))

@@ -13,19 +13,11 @@ pub put-play-spec : {M : Type 1} → statement M
 unfolding template numbers filled piece numbers-after
 put-play-spec =
     tie.close
-    (tie.spec
-    (λ c. refl)
-    (λ c κs. omega arith)
-    (λ c. refl)
-    (λ c κs. omega arith)
-    (λ c. refl)
-    (λ c κs. omega arith)
+    (tie.spec (λ c. refl) (λ c κs. omega arith) (λ c. refl) (λ c κs. omega arith) (λ c. refl) (λ c κs. omega arith)
     (λ c. omega arith)
     (λ c.
     let campaign = c .before .before in
     let paid = campaign .before .before .before .before .before in
     let end = paid .before .before .before .before .before in
-    let a = end .before .before .before .before .args in
-    let from-paid = put-before (end .put .ensures) (paid .put-field .ensures) in
-    let from-campaign = put-before from-paid (campaign .put-field2 .ensures) in
-    puts-line (Play (a .campaign) (a .paid)) from-campaign))
+    puts-line (Play _ _)
+    (put-before (put-before (end .put .ensures) (paid .put-field .ensures)) (campaign .put-field2 .ensures))))

@@ -13,18 +13,8 @@ pub put-tally-spec : {M : Type 1} → statement M
 unfolding template numbers filled piece numbers-after
 put-tally-spec =
     tie.close
-    (tie.spec
-    (λ c. refl)
-    (λ c κs. omega arith)
-    (λ c. refl)
-    (λ c κs. omega arith)
-    (λ c. refl)
-    (λ c κs. omega arith)
-    (λ c. refl)
-    (λ c κs. omega arith)
-    (λ c. refl)
-    (λ c κs. omega arith)
-    (λ c. refl)
+    (tie.spec (λ c. refl) (λ c κs. omega arith) (λ c. refl) (λ c κs. omega arith) (λ c. refl) (λ c κs. omega arith)
+    (λ c. refl) (λ c κs. omega arith) (λ c. refl) (λ c κs. omega arith) (λ c. refl)
     (λ c κs.
     let plays = c .before .before .before .before in
     let turns = plays .before .before .before .before .before in
@@ -41,10 +31,6 @@ put-tally-spec =
     let age = turns .before .before .before .before .before in
     let named = age .before .before .before .before .before in
     let end = named .before .before .before .before .before in
-    let a = end .before .before .before .before .args in
-    let from-named = put-before (end .put .ensures) (named .put-field .ensures) in
-    let from-age = put-before from-named (age .put-field2 .ensures) in
-    let from-turns = put-before from-age (turns .put-field3 .ensures) in
-    let from-plays = put-before from-turns (plays .put-field4 .ensures) in
-    let from-campaign = put-before from-plays (campaign .put-field5 .ensures) in
-    puts-line (Tally (a .campaign) (a .plays) (a .turns) (a .age) (a .named)) from-campaign))
+    let from-age = put-before (put-before (end .put .ensures) (named .put-field .ensures)) (age .put-field2 .ensures) in
+    let from-plays = put-before (put-before from-age (turns .put-field3 .ensures)) (plays .put-field4 .ensures) in
+    puts-line (Tally _ _ _ _ _) (put-before from-plays (campaign .put-field5 .ensures))))

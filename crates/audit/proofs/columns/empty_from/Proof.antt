@@ -7,12 +7,6 @@ use borrow.Author.Needs.{needs}
 use Rattle.audit.proofs.columns.empty_from.Statement.{statement}
 use Rattle.audit.proofs.columns.empty_from.Tie as tie
 
-no-terms-from-requires : tie.Need-no-terms-from-requires
-no-terms-from-requires c κs = search needs
-
-no-counts-in-requires : tie.Need-no-counts-in-requires
-no-counts-in-requires c κs = search needs
-
 returns : tie.Need-returns
 returns c =
     let a = c .before .before .args in
@@ -20,4 +14,4 @@ returns c =
     ∙ empty-joins (a .n) (campaign-at (a .terms .now) (a .counts .now))
 
 pub empty-from-spec : {M : Type 1} → statement M
-empty-from-spec = tie.close (tie.spec no-terms-from-requires no-counts-in-requires returns)
+empty-from-spec = tie.close (tie.spec (λ c κs. search needs) (λ c κs. search needs) returns)

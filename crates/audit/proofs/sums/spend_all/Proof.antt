@@ -35,36 +35,42 @@ came s = campaign-at (s .args .terms .now) (s .args .counts .now)
 abbrev paid : tie.Start Inv-loop μ-loop → ℕ → ℕ
 paid s i = came s i .price * came s i .plays
 
+-- the price of the campaign at hand, of the place behind its plays; and its plays, of the place behind its turns
+abbrev after-price : tie.After-wide16 Inv-loop μ-loop → tie.After-wide32 Inv-loop μ-loop
+after-price c = c .before .before .before .before
+
+abbrev after-plays : tie.After-wide162 Inv-loop μ-loop → tie.After-wide16 Inv-loop μ-loop
+after-plays c = c .before .before .before
+
+-- the head of the loop and where the function began, of its plays
+abbrev at-loop : tie.After-wide16 Inv-loop μ-loop → tie.At-loop Inv-loop μ-loop
+at-loop c = after-price c .before .before .before
+
+abbrev at-start : tie.After-wide16 Inv-loop μ-loop → tie.Start Inv-loop μ-loop
+at-start c = at-loop c .before
+
 -- price × plays of the campaign at hand
 spent-is : (c : tie.After-wide16 Inv-loop μ-loop)
-    → c .before .before .before .before .wide32 .result * c .wide16 .result ≡ paid
-    (c .before .before .before .before .before .before .before .before)
-    (c .before .before .before .before .before .before .before .loop .i)
-spent-is c = ap₂ (λ (x y : ℕ). x * y) (c .before .before .before .before .wide32 .ensures .0) (c .wide16 .ensures .0)
+    → after-price c .wide32 .result * c .wide16 .result ≡ paid (at-start c) (at-loop c .loop .i)
+spent-is c = ap₂ (λ (x y : ℕ). x * y) (after-price c .wide32 .ensures .0) (c .wide16 .ensures .0)
 
 spent-most : (c : tie.After-wide16 Inv-loop μ-loop)
-    → c .before .before .before .before .wide32 .result * c .wide16 .result ≤ 281_474_976_710_656
+    → after-price c .wide32 .result * c .wide16 .result ≤ 281_474_976_710_656
 spent-most c =
-    let x : c .before .before .before .before .wide32 .result ≤ 4_294_967_296 =
-    omega (arith, c .before .before .before .before .wide32 .ensures .1) in
+    let x : after-price c .wide32 .result ≤ 4_294_967_296 = omega (arith, after-price c .wide32 .ensures .1) in
     let y : c .wide16 .result ≤ 65_536 = omega (arith, c .wide16 .ensures .1) in
     mul-le-mul x y
 
-turned-is : (c : tie.After-wide162 Inv-loop μ-loop)
-    → c .before .before .before .before .before .before .before .wide32 .result * c .wide162 .result ≡ came
-    (c .before .before .before .before .before .before .before .before .before .before .before)
-    (c .before .before .before .before .before .before .before .before .before .before .loop .i) .price * came
-    (c .before .before .before .before .before .before .before .before .before .before .before)
-    (c .before .before .before .before .before .before .before .before .before .before .loop .i) .turns
-turned-is c = ap₂ (λ (x y : ℕ). x * y) (c .before .before .before .before .before .before .before .wide32 .ensures .0)
-    (c .wide162 .ensures .0)
+turned-is : (c : tie.After-wide162 Inv-loop μ-loop) → let p = after-plays c in
+    let now = came (at-start p) (at-loop p .loop .i) in
+    after-price p .wide32 .result * c .wide162 .result ≡ now .price * now .turns
+turned-is c = ap₂ (λ (x y : ℕ). x * y) (after-price (after-plays c) .wide32 .ensures .0) (c .wide162 .ensures .0)
 
 turned-most : (c : tie.After-wide162 Inv-loop μ-loop)
-    → c .before .before .before .before .before .before .before .wide32 .result * c .wide162 .result ≤
-    281_474_976_710_656
+    → after-price (after-plays c) .wide32 .result * c .wide162 .result ≤ 281_474_976_710_656
 turned-most c =
-    let x : c .before .before .before .before .before .before .before .wide32 .result ≤ 4_294_967_296 =
-    omega (arith, c .before .before .before .before .before .before .before .wide32 .ensures .1) in
+    let price = after-price (after-plays c) .wide32 in
+    let x : price .result ≤ 4_294_967_296 = omega (arith, price .ensures .1) in
     let y : c .wide162 .result ≤ 65_536 = omega (arith, c .wide162 .ensures .1) in
     mul-le-mul x y
 
@@ -72,44 +78,14 @@ loop-holds : tie.Need-loop-holds Inv-loop μ-loop
 unfolding every sum
 loop-holds c = (omega arith, refl, refl, refl, refl, omega arith, omega arith, omega arith)
 
-mul-wide32 : tie.Need-mul-wide32 Inv-loop μ-loop
-mul-wide32 c = omega arith
-
-element-copy-out-wide32 : tie.Need-element-copy-out-wide32 Inv-loop μ-loop
-element-copy-out-wide32 c = omega arith
-
-wide32-requires : tie.Need-wide32-requires Inv-loop μ-loop
-wide32-requires c κs = search needs
-
-add-wide32 : tie.Need-add-wide32 Inv-loop μ-loop
-add-wide32 c = omega arith
-
-mul-wide32-2 : tie.Need-mul-wide32-2 Inv-loop μ-loop
-mul-wide32-2 c = omega arith
-
-element-copy-out-wide32-2 : tie.Need-element-copy-out-wide32-2 Inv-loop μ-loop
-element-copy-out-wide32-2 c = omega arith
-
-wide32-requires-2 : tie.Need-wide32-requires-2 Inv-loop μ-loop
-wide32-requires-2 c κs = search needs
-
-mul-wide16 : tie.Need-mul-wide16 Inv-loop μ-loop
-mul-wide16 c = omega arith
-
-element-copy-out-wide16 : tie.Need-element-copy-out-wide16 Inv-loop μ-loop
-element-copy-out-wide16 c = omega arith
-
-wide16-requires : tie.Need-wide16-requires Inv-loop μ-loop
-wide16-requires c κs = search needs
-
 mul-spent : tie.Need-mul-spent Inv-loop μ-loop
 mul-spent c = record { fits = omega (arith, spent-most c) }
 
 returns : tie.Need-returns Inv-loop μ-loop
 unfolding spent-of
 returns c =
-    let s = c .before .before .before .before .before .before .before .before .before in
-    let i = c .before .before .before .before .before .before .before .before .loop .i in
+    let s = at-start (c .before) in
+    let i = at-loop (c .before) .loop .i in
     rw (every-not (s .args .n) (λ j. leb (paid s j) (came s j .budget)) i (omega arith)
     (lt-leb (paid s i) (came s i .budget)
     (omega (arith, spent-is (c .before), c .before .before .before .wide322 .ensures .0))))
@@ -120,36 +96,20 @@ add-all c = omega (arith, c .before .before .before .wide322 .ensures .1)
 add-takings : tie.Need-add-takings Inv-loop μ-loop
 add-takings c = omega (arith, spent-most (c .before))
 
-add-wide16 : tie.Need-add-wide16 Inv-loop μ-loop
-add-wide16 c = omega arith
-
-mul-wide16-2 : tie.Need-mul-wide16-2 Inv-loop μ-loop
-mul-wide16-2 c = omega arith
-
-element-copy-out-wide16-2 : tie.Need-element-copy-out-wide16-2 Inv-loop μ-loop
-element-copy-out-wide16-2 c = omega arith
-
-wide16-requires-2 : tie.Need-wide16-requires-2 Inv-loop μ-loop
-wide16-requires-2 c κs = search needs
-
 mul-turned : tie.Need-mul-turned Inv-loop μ-loop
 mul-turned c = record { fits = omega (arith, turned-most c) }
 
 add-turned : tie.Need-add-turned Inv-loop μ-loop
 add-turned c = omega (arith, turned-most c)
 
-add-i : tie.Need-add-i Inv-loop μ-loop
-add-i c = omega arith
-
-loop-less : tie.Need-loop-less Inv-loop μ-loop
-loop-less c = omega arith
-
 loop-again : tie.Need-loop-again Inv-loop μ-loop
 loop-again c =
-    let s = c .before .before .before .before .before .before .before .before .before .before .before in
-    let l = c .before .before .before .before .before .before .before .before .before .before .loop in
-    let e = spent-is (c .before .before .before) in
-    let b = c .before .before .before .before .before .wide322 .ensures .0 in (
+    let p = after-plays c in
+    let s = at-start p in
+    let l = at-loop p .loop in
+    let e = spent-is p in
+    let budget = p .before .before .wide322 in
+    let b = budget .ensures .0 in (
       omega arith,
       every-next (l .i) (λ j. leb (paid s j) (came s j .budget))
           ∙ both-join (every (l .i) (λ j. leb (paid s j) (came s j .budget)))
@@ -158,8 +118,8 @@ loop-again c =
       omega (arith, sum-next (l .i) (λ j. came s j .budget), l .inv .2, b),
       omega (arith, sum-next (l .i) (paid s), l .inv .3, e),
       omega (arith, sum-next (l .i) (λ j. came s j .price * came s j .turns), l .inv .4, turned-is c),
-      omega (arith, c .before .before .before .before .before .wide322 .ensures .1, l .inv .5),
-      omega (arith, spent-most (c .before .before .before), l .inv .6),
+      omega (arith, budget .ensures .1, l .inv .5),
+      omega (arith, spent-most p, l .inv .6),
       omega (arith, turned-most c, l .inv .7),
     )
 
@@ -174,31 +134,8 @@ returns-2 c =
 pub spend-all-spec : {M : Type 1} → statement M
 spend-all-spec =
     tie.close
-    (tie.spec
-    Inv-loop
-    μ-loop
-    loop-holds
-    mul-wide32
-    element-copy-out-wide32
-    wide32-requires
-    add-wide32
-    mul-wide32-2
-    element-copy-out-wide32-2
-    wide32-requires-2
-    mul-wide16
-    element-copy-out-wide16
-    wide16-requires
-    mul-spent
-    returns
-    add-all
-    add-takings
-    add-wide16
-    mul-wide16-2
-    element-copy-out-wide16-2
-    wide16-requires-2
-    mul-turned
-    add-turned
-    add-i
-    loop-less
-    loop-again
+    (tie.spec Inv-loop μ-loop loop-holds (λ c. omega arith) (λ c. omega arith) (λ c κs. search needs) (λ c. omega arith)
+    (λ c. omega arith) (λ c. omega arith) (λ c κs. search needs) (λ c. omega arith) (λ c. omega arith)
+    (λ c κs. search needs) mul-spent returns add-all add-takings (λ c. omega arith) (λ c. omega arith)
+    (λ c. omega arith) (λ c κs. search needs) mul-turned add-turned (λ c. omega arith) (λ c. omega arith) loop-again
     returns-2)

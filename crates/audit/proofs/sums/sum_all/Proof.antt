@@ -34,20 +34,11 @@ spent-is : (c : tie.After-spend-all) → c .spend-all .result .within ≡ true
 unfolding spent-of
 spent-is c e = c .spend-all .ensures ∙ rw (paid-is c ∙ e)
 
-spend-all-requires : tie.Need-spend-all-requires
-spend-all-requires c κs = search needs
-
-none-requires : tie.Need-none-requires
-none-requires c κs = search needs
-
 returns : tie.Need-returns
 unfolding summed
 returns c = c .none .ensures
     ∙ sym (rw (paid-is (c .before .before .before) ∙ not-true (c .before .before .before .spend-all .result .within)
     (c .before .if1 .taken)))
-
-wait-all-requires : tie.Need-wait-all-requires
-wait-all-requires c κs = search needs
 
 returns-2 : tie.Need-returns-2
 unfolding summed sums-of waited-of
@@ -66,4 +57,4 @@ returns-2 c =
 
 pub sum-all-spec : {M : Type 1} → statement M
 sum-all-spec =
-    tie.close (tie.spec spend-all-requires none-requires returns wait-all-requires returns-2)
+    tie.close (tie.spec (λ c κs. search needs) (λ c κs. search needs) returns (λ c κs. search needs) returns-2)

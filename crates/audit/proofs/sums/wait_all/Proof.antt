@@ -33,52 +33,66 @@ weighed s a = weight (s .args .plan .depth) (s .args .plan .width) a
 abbrev gain : tie.Start Inv-loop μ-loop → ℕ → ℕ
 gain s i = came s i .price * waiting (s .args .plan) (came s i)
 
-weight-is : (c : tie.After-wide32 Inv-loop μ-loop)
-    → c .before .before .weigh2 .result ≡ weighed (c .before .before .before .before .before .before .before .before)
-    (came (c .before .before .before .before .before .before .before .before)
-    (c .before .before .before .before .before .before .loop .i) .age)
-weight-is c = c .before .before .weigh2 .ensures .0
-    ∙ ap (weighed (c .before .before .before .before .before .before .before .before))
-    (c .before .before .before .wide16 .ensures .0)
+-- the turn's start, the head of the loop, the weight of age 0 and where the function began, of the age of the campaign
+-- at hand
+abbrev at-turn : tie.After-wide16 Inv-loop μ-loop → tie.In-loop Inv-loop μ-loop
+at-turn c = c .before .before
 
-rising : (c : tie.After-wide32 Inv-loop μ-loop)
-    → c .before .before .before .before .before .before .before .weigh .result ≤ c .before .before .weigh2 .result
+abbrev at-loop : tie.After-wide16 Inv-loop μ-loop → tie.At-loop Inv-loop μ-loop
+at-loop c = at-turn c .before
+
+abbrev after-low : tie.After-wide16 Inv-loop μ-loop → tie.After-weigh Inv-loop μ-loop
+after-low c = at-loop c .before
+
+abbrev at-start : tie.After-wide16 Inv-loop μ-loop → tie.Start Inv-loop μ-loop
+at-start c = after-low c .before
+
+-- that age, of the place behind its price
+abbrev after-age : tie.After-wide32 Inv-loop μ-loop → tie.After-wide16 Inv-loop μ-loop
+after-age c = c .before .before .before
+
+-- its weight, and that of the age 0
+abbrev weight-at : tie.After-wide32 Inv-loop μ-loop → ℕ
+weight-at c = c .before .before .weigh2 .result
+
+abbrev low : tie.After-wide32 Inv-loop μ-loop → ℕ
+low c = after-low (after-age c) .weigh .result
+
+weight-is : (c : tie.After-wide32 Inv-loop μ-loop) → let a = after-age c in
+    weight-at c ≡ weighed (at-start a) (came (at-start a) (at-loop a .loop .i) .age)
+weight-is c = c .before .before .weigh2 .ensures .0 ∙ ap (weighed (at-start (after-age c)))
+    (after-age c .wide16 .ensures .0)
+
+rising : (c : tie.After-wide32 Inv-loop μ-loop) → low c ≤ weight-at c
 rising c =
-    let s = c .before .before .before .before .before .before .before .before in
-    let i = c .before .before .before .before .before .before .loop .i in
+    let a = after-age c in
+    let s = at-start a in
+    let i = at-loop a .loop .i in
     let z = plan-sized (s .args .plan) (s .pre .1 .0 .plan-sound) in
     omega (
       arith,
       weight-is c,
-      c .before .before .before .before .before .before .before .weigh .ensures .0,
+      after-low a .weigh .ensures .0,
       weight-mono (s .args .plan .depth) (s .args .plan .width) (z .wide) (came s i .age)
-          (s .pre .1 .1 .age-most i (c .before .before .before .before .before .loop-test .taken)),
+          (s .pre .1 .1 .age-most i (at-turn a .loop-test .taken)),
     )
 
-gained-is : (c : tie.After-wide32 Inv-loop μ-loop)
-    → c .wide32 .result *
-    (c .before .before .weigh2 .result - c .before .before .before .before .before .before .before .weigh .result) ≡
-    gain (c .before .before .before .before .before .before .before .before)
-    (c .before .before .before .before .before .before .loop .i)
+gained-is : (c : tie.After-wide32 Inv-loop μ-loop) → let a = after-age c in
+    c .wide32 .result * (weight-at c - low c) ≡ gain (at-start a) (at-loop a .loop .i)
 gained-is c = ap₂ (λ (x y : ℕ). x * y) (c .wide32 .ensures .0)
-    (ap₂ (λ (x y : ℕ). x - y) (weight-is c)
-    (c .before .before .before .before .before .before .before .weigh .ensures .0))
+    (ap₂ (λ (x y : ℕ). x - y) (weight-is c) (after-low (after-age c) .weigh .ensures .0))
 
 gained-most : (c : tie.After-wide32 Inv-loop μ-loop)
-    → c .wide32 .result *
-    (c .before .before .weigh2 .result - c .before .before .before .before .before .before .before .weigh .result) ≤
-    4_294_967_296_000_000
+    → c .wide32 .result * (weight-at c - low c) ≤ 4_294_967_296_000_000
 gained-most c =
+    let a = after-age c in
     let x : c .wide32 .result ≤ 1_000_000 =
     omega (
       arith,
       c .wide32 .ensures .0,
-      c .before .before .before .before .before .before .before .before .pre .1
-          .1 .price-most (c .before .before .before .before .before .before .loop .i)
-          (c .before .before .before .before .before .loop-test .taken),
+      at-start a .pre .1 .1 .price-most (at-loop a .loop .i) (at-turn a .loop-test .taken),
     ) in
-    let y : c .before .before .weigh2 .result - c .before .before .before .before .before .before .before .weigh
-    .result ≤ 4_294_967_296 = omega (arith, c .before .before .weigh2 .ensures .1) in
+    let y : weight-at c - low c ≤ 4_294_967_296 = omega (arith, c .before .before .weigh2 .ensures .1) in
     mul-le-mul x y
 
 weigh-requires : tie.Need-weigh-requires Inv-loop μ-loop
@@ -88,37 +102,10 @@ loop-holds : tie.Need-loop-holds Inv-loop μ-loop
 unfolding waited-of sum
 loop-holds c = (omega arith, refl, omega arith)
 
-add-wide16 : tie.Need-add-wide16 Inv-loop μ-loop
-add-wide16 c = omega arith
-
-mul-wide16 : tie.Need-mul-wide16 Inv-loop μ-loop
-mul-wide16 c = omega arith
-
-element-copy-out-wide16 : tie.Need-element-copy-out-wide16 Inv-loop μ-loop
-element-copy-out-wide16 c = omega arith
-
-wide16-requires : tie.Need-wide16-requires Inv-loop μ-loop
-wide16-requires c κs = search needs
-
 weigh-requires-2 : tie.Need-weigh-requires-2 Inv-loop μ-loop
-weigh-requires-2 c κs = (
-  c .before .before .before .before .before .pre .1 .0,
-  omega (
-    arith,
-    c .wide16 .ensures .0,
-    c .before .before .before .before .before .pre .1 .1 .age-most
-        (c .before .before .before .loop .i) (omega arith),
-  ),
-)
-
-mul-wide32 : tie.Need-mul-wide32 Inv-loop μ-loop
-mul-wide32 c = omega arith
-
-element-copy-out-wide32 : tie.Need-element-copy-out-wide32 Inv-loop μ-loop
-element-copy-out-wide32 c = omega arith
-
-wide32-requires : tie.Need-wide32-requires Inv-loop μ-loop
-wide32-requires c κs = search needs
+weigh-requires-2 c κs =
+    let p = at-start c .pre .1 in
+    (p .0, omega (arith, c .wide16 .ensures .0, p .1 .age-most (at-loop c .loop .i) (omega arith)))
 
 sub-sum : tie.Need-sub-sum Inv-loop μ-loop
 sub-sum c = rising c
@@ -129,17 +116,11 @@ mul-sum c = record { fits = omega (arith, gained-most c) }
 add-sum : tie.Need-add-sum Inv-loop μ-loop
 add-sum c = omega (arith, gained-most c)
 
-add-i : tie.Need-add-i Inv-loop μ-loop
-add-i c = omega arith
-
-loop-less : tie.Need-loop-less Inv-loop μ-loop
-loop-less c = omega arith
-
 loop-again : tie.Need-loop-again Inv-loop μ-loop
 unfolding waited-of
 loop-again c =
-    let s = c .before .before .before .before .before .before .before .before in
-    let l = c .before .before .before .before .before .before .loop in (
+    let s = at-start (after-age c) in
+    let l = at-loop (after-age c) .loop in (
       omega arith,
       omega (arith, sum-next (l .i) (gain s), l .inv .1, gained-is c),
       omega (arith, gained-most c, l .inv .2),
@@ -153,23 +134,6 @@ returns c = let s = c .before .before .before in
 pub wait-all-spec : {M : Type 1} → statement M
 wait-all-spec =
     tie.close
-    (tie.spec
-    Inv-loop
-    μ-loop
-    weigh-requires
-    loop-holds
-    add-wide16
-    mul-wide16
-    element-copy-out-wide16
-    wide16-requires
-    weigh-requires-2
-    mul-wide32
-    element-copy-out-wide32
-    wide32-requires
-    sub-sum
-    mul-sum
-    add-sum
-    add-i
-    loop-less
-    loop-again
-    returns)
+    (tie.spec Inv-loop μ-loop weigh-requires loop-holds (λ c. omega arith) (λ c. omega arith) (λ c. omega arith)
+    (λ c κs. search needs) weigh-requires-2 (λ c. omega arith) (λ c. omega arith) (λ c κs. search needs) sub-sum mul-sum
+    add-sum (λ c. omega arith) (λ c. omega arith) loop-again returns)

@@ -7,16 +7,12 @@ use borrow.Author.Needs.{needs}
 use Rattle.day.proofs.Day.audit.Statement.{statement}
 use Rattle.day.proofs.Day.audit.Tie as tie
 
-head-requires : tie.Need-head-requires
-head-requires c κs = search needs
-
-audited-requires : tie.Need-audited-requires
-audited-requires c κs = search needs
-
 returns : tie.Need-returns
-returns c = let s = c .before .before .before .before .before .args .t1 in
+returns c =
+    let headed = c .before .before .before .before in
+    let s = headed .before .args .t1 in
     c .audited .ensures ∙ ap (λ (h : Head). audited (state-of h (s .terms) (s .counts)))
-    (c .before .before .before .before .head .ensures)
+    (headed .head .ensures)
 
 pub audit-spec : {M : Type 1} → statement M
-audit-spec = tie.close (tie.spec head-requires audited-requires returns)
+audit-spec = tie.close (tie.spec (λ c κs. search needs) (λ c κs. search needs) returns)

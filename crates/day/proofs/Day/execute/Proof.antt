@@ -8,17 +8,13 @@ use borrow.Author.Needs.{needs}
 use Rattle.day.proofs.Day.execute.Statement.{statement}
 use Rattle.day.proofs.Day.execute.Tie as tie
 
-head-requires : tie.Need-head-requires
-head-requires c κs = search needs
-
-execute-requires : tie.Need-execute-requires
-execute-requires c κs = search needs
-
 returns : tie.Need-returns
-returns c = let a = c .before .before .before .before .before .before .before .before .args in
+returns c =
+    let headed = c .before .before .before .before .before .before .before in
+    let a = headed .before .args in
     c .before .before .execute .ensures
     ∙ ap (λ (h : Head). call (state-of h (a .self .terms) (a .self .counts)) (asked (a .ask)))
-    (c .before .before .before .before .before .before .before .head .ensures)
+    (headed .head .ensures)
 
 pub execute-spec : {M : Type 1} → statement M
-execute-spec = tie.close (tie.spec head-requires execute-requires returns)
+execute-spec = tie.close (tie.spec (λ c κs. search needs) (λ c κs. search needs) returns)

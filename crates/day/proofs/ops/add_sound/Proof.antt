@@ -24,32 +24,40 @@ use Rattle.day.proofs.ops.add_sound.Tie as tie
 abbrev state : tie.Start → Day
 state s = state-of (s .args .head) (s .args .terms .now) (s .args .counts .now)
 
+-- where the function began, of the place behind the questions, and of questions all answered yes
+abbrev at-start : tie.After-add-question → tie.Start
+at-start c = c .before .before .before
+
+abbrev past-start : tie.Else1 → tie.Start
+past-start c = at-start (c .before)
+
 asked : (c : tie.After-add-question)
     → c .add-question .result ≡ first-failed
-    (questions (state (c .before .before .before)) (add-campaign (c .before .before .before .args .t)))
+    (questions (state (at-start c)) (add-campaign (at-start c .args .t)))
 unfolding total-budgets
 asked c =
-    let a = c .before .before .before .args in
+    let s = at-start c in
+    let a = s .args in
     c .add-question .ensures ∙ ap (λ (b : ℕ). first-failed (add-questions (a .head) (a .t) b))
-    (c .before .total-budgets .ensures .0) ∙ own-asks (state (c .before .before .before)) (add-campaign (a .t))
-    (c .before .before .before .pre .is-sound)
+    (c .before .total-budgets .ensures .0) ∙ own-asks (state s) (add-campaign (a .t)) (s .pre .is-sound)
 
-yes : (c : tie.Else1)
-    → Yes (questions (state (c .before .before .before .before))
-    (add-campaign (c .before .before .before .before .args .t)))
-yes c = asked-yes (state (c .before .before .before .before))
-    (add-campaign (c .before .before .before .before .args .t)) (c .before .add-question .result) (asked (c .before))
+yes : (c : tie.Else1) → let s = past-start c in Yes (questions (state s) (add-campaign (s .args .t)))
+yes c =
+    let s = past-start c in
+    asked-yes (state s) (add-campaign (s .args .t)) (c .before .add-question .result) (asked (c .before))
     (c .if1 .left)
 
-room : (c : tie.Else1) → c .before .before .before .before .args .head .count < 64
-room c = ltb-true (c .before .before .before .before .args .head .count) 64 (yes c .1 .1 .0)
+room : (c : tie.Else1) → past-start c .args .head .count < 64
+room c = ltb-true (past-start c .args .head .count) 64 (yes c .1 .1 .0)
 
-price-narrow : (c : tie.Else1) → c .before .before .before .before .args .t .price ≤ max-price
-price-narrow c = let t = c .before .before .before .before .args .t in
+price-narrow : (c : tie.Else1) → past-start c .args .t .price ≤ max-price
+price-narrow c =
+    let t = past-start c .args .t in
     leb-true (t .price) max-price (both-right (leb 1 (t .price)) (leb (t .price) max-price) (yes c .1 .1 .1 .0))
 
-budget-narrow : (c : tie.Else1) → c .before .before .before .before .args .t .budget ≤ max-budget
-budget-narrow c = let t = c .before .before .before .before .args .t in
+budget-narrow : (c : tie.Else1) → past-start c .args .t .budget ≤ max-budget
+budget-narrow c =
+    let t = past-start c .args .t in
     leb-true (t .budget) max-budget
     (both-right (leb (t .price) (t .budget)) (leb (t .budget) max-budget) (yes c .1 .1 .1 .1 .0))
 
@@ -59,11 +67,9 @@ total-budgets-requires c κs = sound-facts (state (c .before)) (c .before .pre .
 add-question-requires : tie.Need-add-question-requires
 add-question-requires c κs = c .total-budgets .ensures .1
 
-refused-requires : tie.Need-refused-requires
-refused-requires c κs = search needs
-
 returns : tie.Need-returns
-returns c = let s = c .before .before .before .before .before in
+returns c =
+    let s = at-start (c .before .before) in
     steps-refused (s .args .head) (s .args .terms .now) (s .args .counts .now) (add-campaign (s .args .t))
     (c .refused .result) (c .before .before .add-question .result) (c .refused .ensures) (asked (c .before .before))
     (c .before .if1 .taken)
@@ -90,31 +96,21 @@ element-write-terms-2 : tie.Need-element-write-terms-2
 element-write-terms-2 c = omega (arith, room (c .before .before))
 
 add-t19 : tie.Need-add-t19
-add-t19 c = omega (arith, room (c .before .before .before .before))
+add-t19 c =
+    let past = c .before .before .before .before in
+    omega (arith, room past)
 
 returns-2 : tie.Need-returns-2
 returns-2 c =
-    let s = c .before .before .before .before .before .before .before .before in
-    let y = yes (c .before .before .before .before) in
+    let past = c .before .before .before .before in
+    let s = past-start past in
     ap (λ (d : Day). record { day = d; answer = Done })
     (joined-is (state s) (s .args .t) (s .pre .room) (sound-facts (state s) (s .pre .is-sound))
-    (room (c .before .before .before .before)))
-    ∙ sym (call-yes (state s) (add-campaign (s .args .t)) y)
+    (room past))
+    ∙ sym (call-yes (state s) (add-campaign (s .args .t)) (yes past))
 
 pub add-sound-spec : {M : Type 1} → statement M
 add-sound-spec =
     tie.close
-    (tie.spec
-    total-budgets-requires
-    add-question-requires
-    refused-requires
-    returns
-    cast-terms
-    mul-terms
-    element-write-terms
-    cast-terms-2
-    add-terms
-    mul-terms-2
-    element-write-terms-2
-    add-t19
-    returns-2)
+    (tie.spec total-budgets-requires add-question-requires (λ c κs. search needs) returns cast-terms mul-terms
+    element-write-terms cast-terms-2 add-terms mul-terms-2 element-write-terms-2 add-t19 returns-2)

@@ -5,7 +5,7 @@ use mathlib.Core.Path.{_≡_, sym, _∙_}
 use Prim.Native.Nat.{ℕ}
 use Rattle.campaigns.specs.declared.Campaign.{Campaign}
 use Rattle.campaigns.specs.Campaign.{campaign-at}
-use Rattle.audit.specs.Contracts.{limits}
+use Rattle.audit.specs.Contracts.{limits-hold}
 use Rattle.audit.proofs.Audits.{audit-outside, plan-of}
 use Rattle.day.specs.Day.{audited}
 use borrow.Author.Needs.{needs}
@@ -15,14 +15,8 @@ use Rattle.day.proofs.ops.audited.Tie as tie
 abbrev came : tie.Start → ℕ → Campaign
 came s = campaign-at (s .args .terms .now) (s .args .counts .now)
 
-limited : (c : tie.Else1) → limits (c .before .before .args .head) ≡ true
+limited : (c : tie.Else1) → limits-hold (c .before .before .args .head) ≡ true
 limited c = sym (c .before .limits-hold .ensures) ∙ not-false (c .before .limits-hold .result) (c .if1 .left)
-
-limits-hold-requires : tie.Need-limits-hold-requires
-limits-hold-requires c κs = search needs
-
-unsound-requires : tie.Need-unsound-requires
-unsound-requires c κs = search needs
 
 returns : tie.Need-returns
 unfolding audited
@@ -46,10 +40,4 @@ returns-2 c = c .audit-parts .ensures
 pub audited-spec : {M : Type 1} → statement M
 audited-spec =
     tie.close
-    (tie.spec
-    limits-hold-requires
-    unsound-requires
-    returns
-    weights-requires
-    audit-parts-requires
-    returns-2)
+    (tie.spec (λ c κs. search needs) (λ c κs. search needs) returns weights-requires audit-parts-requires returns-2)

@@ -38,12 +38,6 @@ runs c = sym (c .before .running .ensures) ∙ not-false (c .before .running .re
 abbrev closing : Day → Audit → Outcome
 closing s a = record { day = in-phase s (Closed (a .takings)); answer = Closing (a .takings) (a .claim) (a .full) }
 
-running-requires : tie.Need-running-requires
-running-requires c κs = search needs
-
-refused-requires : tie.Need-refused-requires
-refused-requires c κs = search needs
-
 returns : tie.Need-returns
 returns c = let s = c .before .before .before in
     steps-refused (s .args .head) (s .args .terms .now) (s .args .counts .now) close-day (c .refused .result) 11
@@ -66,4 +60,4 @@ returns-2 c =
 
 pub close-sound-spec : {M : Type 1} → statement M
 close-sound-spec =
-    tie.close (tie.spec running-requires refused-requires returns audit-parts-requires returns-2)
+    tie.close (tie.spec (λ c κs. search needs) (λ c κs. search needs) returns audit-parts-requires returns-2)

@@ -9,14 +9,8 @@ use Rattle.day.proofs.Questions.{unsound-refused}
 use Rattle.day.proofs.ops.execute.Statement.{statement}
 use Rattle.day.proofs.ops.execute.Tie as tie
 
-sized-requires : tie.Need-sized-requires
-sized-requires c κs = search needs
-
 prepare-requires : tie.Need-prepare-requires
 prepare-requires c κs = c .before .before .before .sized .ensures
-
-refused-requires : tie.Need-refused-requires
-refused-requires c κs = search needs
 
 returns : tie.Need-returns
 returns c =
@@ -39,10 +33,4 @@ returns-2 c = c .execute-sound .ensures
 pub execute-spec : {M : Type 1} → statement M
 execute-spec =
     tie.close
-    (tie.spec
-    sized-requires
-    prepare-requires
-    refused-requires
-    returns
-    execute-sound-requires
-    returns-2)
+    (tie.spec (λ c κs. search needs) prepare-requires (λ c κs. search needs) returns execute-sound-requires returns-2)

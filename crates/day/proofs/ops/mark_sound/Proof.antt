@@ -33,12 +33,6 @@ yes c =
     let s = c .before .before in
     asked-yes (state s) (ask s) (c .before .mark-question .result) (asked (c .before)) (c .if1 .left)
 
-mark-question-requires : tie.Need-mark-question-requires
-mark-question-requires c κs = search needs
-
-refused-requires : tie.Need-refused-requires
-refused-requires c κs = search needs
-
 returns : tie.Need-returns
 returns c =
     let d = c .before .before in
@@ -69,4 +63,4 @@ returns-2 c =
 
 pub mark-sound-spec : {M : Type 1} → statement M
 mark-sound-spec =
-    tie.close (tie.spec mark-question-requires refused-requires returns marked-requires returns-2)
+    tie.close (tie.spec (λ c κs. search needs) (λ c κs. search needs) returns marked-requires returns-2)

@@ -6,18 +6,9 @@ use Rattle.day.specs.Calls.{marked}
 use Rattle.day.proofs.ops.marked.Statement.{statement}
 use Rattle.day.proofs.ops.marked.Tie as tie
 
-including-requires : tie.Need-including-requires
-including-requires c κs = search needs
-
 returns : tie.Need-returns
 unfolding marked
 returns c = rw (c .before .if1 .taken) (c .including .ensures)
-
-including-requires-2 : tie.Need-including-requires-2
-including-requires-2 c κs = search needs
-
-without-requires : tie.Need-without-requires
-without-requires c κs = search needs
 
 returns-2 : tie.Need-returns-2
 unfolding marked
@@ -28,4 +19,4 @@ returns-2 c =
 
 pub marked-spec : {M : Type 1} → statement M
 marked-spec =
-    tie.close (tie.spec including-requires returns including-requires-2 without-requires returns-2)
+    tie.close (tie.spec (λ c κs. search needs) returns (λ c κs. search needs) (λ c κs. search needs) returns-2)

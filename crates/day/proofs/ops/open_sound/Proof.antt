@@ -20,14 +20,12 @@ use Rattle.day.proofs.ops.open_sound.Tie as tie
 abbrev state : tie.Start → Day
 state s = state-of (s .args .head) (s .args .terms .now) (s .args .counts .now)
 
-asked-2 : (c : tie.Then1)
-    → 2 ≡ first-failed (questions (state (c .before .before)) (open-plan (c .before .before .args .plan)))
+asked-2 : (c : tie.Then1) → let s = c .before .before in
+    2 ≡ first-failed (questions (state s) (open-plan (s .args .plan)))
 unfolding first-failed
-asked-2 c = rw (
-  c .before .before .pre .is-sound,
-  sym (c .before .closed .ensures)
-      ∙ not-true (c .before .closed .result) (c .if1 .taken),
-)
+asked-2 c =
+    let p = sym (c .before .closed .ensures) ∙ not-true (c .before .closed .result) (c .if1 .taken) in
+    rw (c .before .before .pre .is-sound, p)
 
 asked-plan : (c : tie.After-plan-question) → let s = c .before .before .before in
     c .plan-question .result ≡ first-failed (questions (state s) (open-plan (s .args .plan)))
@@ -37,25 +35,14 @@ asked-plan c =
     ∙ not-false (c .before .before .closed .result) (c .before .if1 .left) in
     rw (c .before .before .before .pre .is-sound, p) (c .plan-question .ensures)
 
-closed-requires : tie.Need-closed-requires
-closed-requires c κs = search needs
-
-refused-requires : tie.Need-refused-requires
-refused-requires c κs = search needs
-
 returns : tie.Need-returns
 returns c = let s = c .before .before .before in
     steps-refused (s .args .head) (s .args .terms .now) (s .args .counts .now) (open-plan (s .args .plan))
     (c .refused .result) 2 (c .refused .ensures) (asked-2 (c .before)) (λ e. omega arith)
 
-plan-question-requires : tie.Need-plan-question-requires
-plan-question-requires c κs = search needs
-
-refused-requires-2 : tie.Need-refused-requires-2
-refused-requires-2 c κs = search needs
-
 returns-2 : tie.Need-returns-2
-returns-2 c = let s = c .before .before .before .before .before in
+returns-2 c =
+    let s = c .before .before .before .before .before in
     steps-refused (s .args .head) (s .args .terms .now) (s .args .counts .now) (open-plan (s .args .plan))
     (c .refused2 .result) (c .before .before .plan-question .result) (c .refused2 .ensures)
     (asked-plan (c .before .before)) (c .before .if2 .taken)
@@ -70,11 +57,5 @@ returns-3 c =
 pub open-sound-spec : {M : Type 1} → statement M
 open-sound-spec =
     tie.close
-    (tie.spec
-    closed-requires
-    refused-requires
-    returns
-    plan-question-requires
-    refused-requires-2
-    returns-2
-    returns-3)
+    (tie.spec (λ c κs. search needs) (λ c κs. search needs) returns (λ c κs. search needs) (λ c κs. search needs)
+    returns-2 returns-3)

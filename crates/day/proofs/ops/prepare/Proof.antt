@@ -7,7 +7,7 @@ use borrow.Author.Tests.{not-true, not-false}
 use Prim.Native.Nat.{ℕ}
 use Rattle.campaigns.specs.declared.Campaign.{Campaign}
 use Rattle.campaigns.specs.Campaign.{campaign-at}
-use Rattle.audit.specs.Contracts.{limits}
+use Rattle.audit.specs.Contracts.{limits-hold}
 use Rattle.day.specs.Day.{sound}
 use Rattle.finite.proofs.Tests.{never}
 use Rattle.audit.proofs.Audits.{outside, audit-sound, plan-of}
@@ -17,11 +17,8 @@ use Rattle.day.proofs.ops.prepare.Tie as tie
 abbrev came : tie.Start → ℕ → Campaign
 came s = campaign-at (s .args .terms .now) (s .args .counts .now)
 
-within-limits : (c : tie.Else1) → limits (c .before .before .args .head) ≡ true
+within-limits : (c : tie.Else1) → limits-hold (c .before .before .args .head) ≡ true
 within-limits c = sym (c .before .limits-hold .ensures) ∙ not-false (c .before .limits-hold .result) (c .if1 .left)
-
-limits-hold-requires : tie.Need-limits-hold-requires
-limits-hold-requires c κs = search needs
 
 returns : tie.Need-returns
 unfolding sound
@@ -56,4 +53,4 @@ returns-2 c =
 pub prepare-spec : {M : Type 1} → statement M
 prepare-spec =
     tie.close
-    (tie.spec limits-hold-requires returns weights-requires audit-parts-requires returns-2)
+    (tie.spec (λ c κs. search needs) returns weights-requires audit-parts-requires returns-2)

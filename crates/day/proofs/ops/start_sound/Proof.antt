@@ -29,12 +29,6 @@ asked-6 c = rw (
 fills : (c : tie.Else1) → is-filling (c .before .before .args .head .phase) ≡ true
 fills c = sym (c .before .filling .ensures) ∙ not-false (c .before .filling .result) (c .if1 .left)
 
-filling-requires : tie.Need-filling-requires
-filling-requires c κs = search needs
-
-refused-requires : tie.Need-refused-requires
-refused-requires c κs = search needs
-
 returns : tie.Need-returns
 returns c = let s = c .before .before .before in
     steps-refused (s .args .head) (s .args .terms .now) (s .args .counts .now) start-day (c .refused .result) 6
@@ -45,4 +39,4 @@ returns-2 c = let s = c .before .before .before in
     sym (call-yes (state s) start-day (s .pre .is-sound, (fills (c .before), tt)))
 
 pub start-sound-spec : {M : Type 1} → statement M
-start-sound-spec = tie.close (tie.spec filling-requires refused-requires returns returns-2)
+start-sound-spec = tie.close (tie.spec (λ c κs. search needs) (λ c κs. search needs) returns returns-2)

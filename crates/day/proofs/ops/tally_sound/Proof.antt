@@ -19,20 +19,14 @@ use Rattle.day.proofs.ops.tally_sound.Tie as tie
 abbrev state : tie.Start → Day
 state s = state-of (s .args .head) (s .args .terms .now) (s .args .counts .now)
 
-asked-15 : (c : tie.Then1)
-    → 15 ≡ first-failed (questions (state (c .before .before)) (ask-tally (c .before .before .args .campaign)))
+asked-15 : (c : tie.Then1) → let s = c .before .before in
+    15 ≡ first-failed (questions (state s) (ask-tally (s .args .campaign)))
 unfolding first-failed
-asked-15 c = rw (
-  c .before .before .pre .is-sound,
-  le-ltb (c .before .before .args .campaign)
-      (c .before .before .args .head .count) (c .if1 .taken),
-)
+asked-15 c = let s = c .before .before in
+    rw (s .pre .is-sound, le-ltb (s .args .campaign) (s .args .head .count) (c .if1 .taken))
 
 abbrev tallied : Day → Campaign → Outcome
 tallied s x = record { day = s; answer = tally-of x }
-
-refused-requires : tie.Need-refused-requires
-refused-requires c κs = search needs
 
 returns : tie.Need-returns
 returns c = let s = c .before .before .before in
@@ -49,4 +43,4 @@ returns-2 c = let s = c .before .before .before in ap (tallied (state s)) (c .en
     (s .pre .is-sound, (lt-ltb (s .args .campaign) (s .args .head .count) (c .before .if1 .left), tt)))
 
 pub tally-sound-spec : {M : Type 1} → statement M
-tally-sound-spec = tie.close (tie.spec refused-requires returns entry-requires returns-2)
+tally-sound-spec = tie.close (tie.spec (λ c κs. search needs) returns entry-requires returns-2)

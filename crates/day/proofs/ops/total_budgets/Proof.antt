@@ -23,39 +23,17 @@ loop-holds : tie.Need-loop-holds Inv-loop μ-loop
 unfolding sum
 loop-holds c = (omega arith, refl, omega arith)
 
-add-wide32 : tie.Need-add-wide32 Inv-loop μ-loop
-add-wide32 c = omega arith
-
-mul-wide32 : tie.Need-mul-wide32 Inv-loop μ-loop
-mul-wide32 c = omega arith
-
-element-copy-out-wide32 : tie.Need-element-copy-out-wide32 Inv-loop μ-loop
-element-copy-out-wide32 c = omega arith
-
-wide32-requires : tie.Need-wide32-requires Inv-loop μ-loop
-wide32-requires c κs = search needs
-
 add-all : tie.Need-add-all Inv-loop μ-loop
 add-all c = omega (arith, c .wide32 .ensures .1)
 
-add-i : tie.Need-add-i Inv-loop μ-loop
-add-i c = omega arith
-
-loop-less : tie.Need-loop-less Inv-loop μ-loop
-loop-less c = omega arith
-
 loop-again : tie.Need-loop-again Inv-loop μ-loop
-loop-again c = let l = c .before .before .before .loop in (
-  omega arith,
-  omega (
-    arith,
-    sum-next (l .i) (budget (c .before .before .before .before)),
-    l .inv .1,
-    c .wide32
-        .ensures .0,
-  ),
-  omega (arith, c .wide32 .ensures .1, l .inv .2),
-)
+loop-again c =
+    let at-loop = c .before .before .before in
+    let l = at-loop .loop in (
+      omega arith,
+      omega (arith, sum-next (l .i) (budget (at-loop .before)), l .inv .1, c .wide32 .ensures .0),
+      omega (arith, c .wide32 .ensures .1, l .inv .2),
+    )
 
 returns : tie.Need-returns Inv-loop μ-loop
 returns c = let s = c .before .before in let e : c .before .loop .i ≡ s .args .n = omega arith in
@@ -64,16 +42,5 @@ returns c = let s = c .before .before in let e : c .before .loop .i ≡ s .args 
 pub total-budgets-spec : {M : Type 1} → statement M
 total-budgets-spec =
     tie.close
-    (tie.spec
-    Inv-loop
-    μ-loop
-    loop-holds
-    add-wide32
-    mul-wide32
-    element-copy-out-wide32
-    wide32-requires
-    add-all
-    add-i
-    loop-less
-    loop-again
-    returns)
+    (tie.spec Inv-loop μ-loop loop-holds (λ c. omega arith) (λ c. omega arith) (λ c. omega arith) (λ c κs. search needs)
+    add-all (λ c. omega arith) (λ c. omega arith) loop-again returns)

@@ -9,7 +9,7 @@ use borrow.Author.Tests.{ltb-true}
 use Rattle.campaigns.specs.Limits.{max-views}
 use Rattle.choice.specs.declared.Candidate.{Candidate}
 use Rattle.choice.specs.Candidates.{candidate-of, after-view}
-use Rattle.choice.specs.Contracts.{Counts, Ready}
+use Rattle.choice.specs.Contracts.{Counts, In-bounds}
 use Rattle.day.specs.declared.Day.{Day}
 use Rattle.day.specs.Day.{campaign, state-of}
 use Rattle.questions.specs.Questions.{first-failed}
@@ -38,17 +38,12 @@ yes c =
     (c .if1 .left)
 
 ready : (c : tie.Else1)
-    → let s = c .before .before in Ready (s .args .head .plan) (found (state s) (s .args .view)) (campaign (state s))
+    → let s = c .before .before in
+    In-bounds (s .args .head .plan) (found (state s) (s .args .view)) (campaign (state s))
 ready c =
     let s = c .before .before in
     let y = yes c in
     named-ready (state s) (s .args .view) (sound-facts (state s) (y .0)) (y .1 .1 .1 .0)
-
-view-question-requires : tie.Need-view-question-requires
-view-question-requires c κs = search needs
-
-refused-requires : tie.Need-refused-requires
-refused-requires c κs = search needs
 
 returns : tie.Need-returns
 returns c =
@@ -57,9 +52,6 @@ returns c =
     steps-refused (a .head) (a .terms .now) (a .counts .now) (show-view (a .view)) (c .refused .result)
     (d .view-question .result) (c .refused .ensures) (asked d) (c .before .if1 .taken)
 
-without-requires : tie.Need-without-requires
-without-requires c κs = search needs
-
 play-requires : tie.Need-play-requires
 play-requires c κs =
     let d = c .before .before .before in
@@ -67,13 +59,10 @@ play-requires c κs =
       s .pre .0,
       (
         s .pre .1 .room,
-        subst (λ (x : ℕ). Ready (s .args .head .plan) (record { set = x }) (campaign (state s)))
+        subst (λ (x : ℕ). In-bounds (s .args .head .plan) (record { set = x }) (campaign (state s)))
             (sym (c .before .without .ensures)) (ready d),
       ),
     )
-
-view-answer-requires : tie.Need-view-answer-requires
-view-answer-requires c κs = search needs
 
 add-t12 : tie.Need-add-t12
 add-t12 c =
@@ -101,12 +90,5 @@ returns-2 c =
 pub show-sound-spec : {M : Type 1} → statement M
 show-sound-spec =
     tie.close
-    (tie.spec
-    view-question-requires
-    refused-requires
-    returns
-    without-requires
-    play-requires
-    view-answer-requires
-    add-t12
-    returns-2)
+    (tie.spec (λ c κs. search needs) (λ c κs. search needs) returns (λ c κs. search needs) play-requires
+    (λ c κs. search needs) add-t12 returns-2)

@@ -14,9 +14,6 @@ abbrev μ-loop : tie.MeasureT-loop
 loop-holds : tie.Need-loop-holds Inv-loop μ-loop
 loop-holds c = euclid-begins (c .args .a) (c .args .b) (c .pre)
 
-rem-rest : tie.Need-rem-rest Inv-loop μ-loop
-rem-rest c = omega arith
-
 loop-less : tie.Need-loop-less Inv-loop μ-loop
 loop-less c = mod-lt (c .before .loop .x) (omega arith)
 
@@ -33,4 +30,4 @@ returns c =
     euclid-ends (s .args .a) (s .args .b) (o .x) (o .y) (s .pre) (c .loop-test .left) (o .inv)
 
 pub gcd-spec : {M : Type 1} → statement M
-gcd-spec = tie.close (tie.spec Inv-loop μ-loop loop-holds rem-rest loop-less loop-again returns)
+gcd-spec = tie.close (tie.spec Inv-loop μ-loop loop-holds (λ c. omega arith) loop-less loop-again returns)

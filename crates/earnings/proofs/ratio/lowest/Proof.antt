@@ -18,11 +18,8 @@ divided t g k n e =
 pub lowest-spec : {M : Type 1} → statement M
 lowest-spec =
     tie.close
-    (tie.spec
-    (λ c. nothing (c .before .args .takings) (c .before .args .greatest) (c .if1 .taken))
-    (λ c κs. omega arith)
-    (λ c. c .gcd .ensures .1)
-    (λ c. c .gcd .ensures .1)
+    (tie.spec (λ c. nothing (c .before .args .takings) (c .before .args .greatest) (c .if1 .taken))
+    (λ c κs. omega arith) (λ c. c .gcd .ensures .1) (λ c. c .gcd .ensures .1)
     (λ c.
     let a = c .before .before .args in
     divided (a .takings) (a .greatest) (c .gcd .result) (c .before .if1 .left) (c .gcd .ensures .0)))

@@ -85,19 +85,5 @@ returns-4 c =
 pub behind-spec : {M : Type 1} → statement M
 behind-spec =
     tie.close
-    (tie.spec
-    Inv-loop
-    μ-loop
-    returns
-    (λ c. omega arith)
-    returns-2
-    loop-holds
-    (λ c. omega arith)
-    (λ c. omega arith)
-    (λ c. omega arith)
-    returns-3
-    (λ c. omega arith)
-    (λ c. omega arith)
-    loop-again
-    (λ c. omega arith)
-    returns-4)
+    (tie.spec Inv-loop μ-loop returns (λ c. omega arith) returns-2 loop-holds (λ c. omega arith) (λ c. omega arith)
+    (λ c. omega arith) returns-3 (λ c. omega arith) (λ c. omega arith) loop-again (λ c. omega arith) returns-4)

@@ -8,7 +8,5 @@ use Rattle.lines.proofs.scan.byte.Tie as tie
 pub byte-spec : {M : Type 1} → statement M
 byte-spec =
     tie.close
-    (tie.spec
-    (λ c. search needs)
-    (λ c. search needs)
+    (tie.spec (λ c. search needs) (λ c. search needs)
     (λ c. sym (List·getD-eq-default (c .before .args .s .now) 0 (c .if1 .left))))

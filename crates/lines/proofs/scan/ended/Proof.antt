@@ -9,8 +9,7 @@ use Rattle.lines.proofs.scan.ended.Tie as tie
 pub ended-spec : {M : Type 1} → statement M
 ended-spec =
     tie.close
-    (tie.spec
-    (λ c κs. search needs)
+    (tie.spec (λ c κs. search needs)
     (λ c.
     let b = c .before .behind in
     let start = c .before .before .before .before in

@@ -10,9 +10,7 @@ use Rattle.lines.proofs.scan.field.Tie as tie
 pub field-spec : {M : Type 1} → statement M
 field-spec =
     tie.close
-    (tie.spec
-    (λ c κs. search needs)
-    (λ c κs. search needs)
+    (tie.spec (λ c κs. search needs) (λ c κs. search needs)
     (λ c.
     let b = c .before .before in
     let a = b .before .before .before .args in

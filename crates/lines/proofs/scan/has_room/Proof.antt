@@ -11,9 +11,6 @@ use Rattle.lines.proofs.scan.has_room.Tie as tie
 pub has-room-spec : {M : Type 1} → statement M
 has-room-spec =
     tie.close
-    (tie.spec
-    (λ c. omega arith)
-    (λ c. omega arith)
-    (λ c. refl)
+    (tie.spec (λ c. omega arith) (λ c. omega arith) (λ c. refl)
     (λ c. let a = c .before .before .args in sym (le-leb (a .n * 10 + a .digit) (a .max) (omega arith)))
     (λ c. let a = c .before .before .args in last-digit (a .n) (a .digit) (a .max) (omega arith)))

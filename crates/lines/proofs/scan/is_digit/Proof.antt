@@ -8,7 +8,6 @@ use Rattle.lines.proofs.scan.is_digit.Tie as tie
 pub is-digit-spec : {M : Type 1} → statement M
 is-digit-spec =
     tie.close
-    (tie.spec
-    (λ c. sym (digit-yes (c .before .before .args .b) (omega arith) (omega arith)))
+    (tie.spec (λ c. sym (digit-yes (c .before .before .args .b) (omega arith) (omega arith)))
     (λ c. sym (digit-below (c .before .args .b) (omega arith)))
     (λ c. sym (digit-above (c .before .before .args .b) (omega arith))))

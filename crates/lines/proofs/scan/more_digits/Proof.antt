@@ -33,20 +33,27 @@ returns c =
     (slot-yes (a .slot) (o .number) (o .inv .2) (o .inv .3)) (omega arith)
     (sym (o .inv .1) ∙ digits-halt l (o .i) (o .number) d)
 
+-- the turn, of a byte that is a digit; and that byte, of one that has room
+abbrev at-turn : tie.Else1 Inv-loop μ-loop → tie.At-loop Inv-loop μ-loop
+at-turn c = c .before .before .before .before
+
+abbrev at-digit : tie.Else2 Inv-loop μ-loop → tie.Else1 Inv-loop μ-loop
+at-digit c = c .before .before .before .before
+
 -- the byte is a digit
-digit : (c : tie.Else1 Inv-loop μ-loop) → let turn = c .before .before .before .before in
+digit : (c : tie.Else1 Inv-loop μ-loop) → let turn = at-turn c in
     is-digit (getD (turn .before .before .args .s .now) (turn .loop .i) 0) ≡ true
 digit c = sym (c .before .is-digit .ensures) ∙ not-false _ (c .if1 .left)
 
 sub-wide : tie.Need-sub-wide Inv-loop μ-loop
 sub-wide c =
-    let turn = c .before .before .before .before in
+    let turn = at-turn c in
     digit-from (getD (turn .before .before .args .s .now) (turn .loop .i) 0) (digit c) .0
 
 has-room-requires : tie.Need-has-room-requires Inv-loop μ-loop
 has-room-requires c κs =
     let here = c .before .before in
-    let turn = here .before .before .before .before in
+    let turn = at-turn here in
     let o = turn .loop in
     let d = digit-from (getD (turn .before .before .args .s .now) (o .i) 0) (digit here) in
     (omega (arith, o .inv .3, c .slot-max .ensures), omega (arith, d, c .before .wide .ensures))
@@ -56,7 +63,7 @@ returns-2 : tie.Need-returns-2 Inv-loop μ-loop
 returns-2 c =
     let most = c .before .before .before in
     let here = most .before .before in
-    let turn = here .before .before .before .before in
+    let turn = at-turn here in
     let a = turn .before .before .args in
     let l = a .s .now in
     let o = turn .loop in
@@ -73,22 +80,22 @@ returns-2 c =
     (omega (arith, over, m .ensures, w .ensures, least, ap value same)))
 
 -- a further digit fits
-fits : (c : tie.Else2 Inv-loop μ-loop) → let here = c .before .before .before .before in
-    let turn = here .before .before .before .before in
+fits : (c : tie.Else2 Inv-loop μ-loop) → let here = at-digit c in
+    let turn = at-turn here in
     let n = turn .loop .number * 10 + c .before .before .before .wide .result in
     let m = slot-max (turn .before .before .args .slot) in
     (n ≤ m) × (m ≤ max-u64)
 fits c =
-    let here = c .before .before .before .before in
-    let turn = here .before .before .before .before in
+    let here = at-digit c in
+    let turn = at-turn here in
     let m = c .before .before .slot-max in
     let yes = sym (c .before .has-room .ensures) ∙ not-false _ (c .if2 .left) in
     (omega (arith, leb-true _ (m .result) yes, m .ensures), omega (arith, max-range (turn .before .before .args .slot)))
 
 loop-again : tie.Need-loop-again Inv-loop μ-loop
 loop-again c =
-    let here = c .before .before .before .before in
-    let turn = here .before .before .before .before in
+    let here = at-digit c in
+    let turn = at-turn here in
     let l = turn .before .before .args .s .now in
     let o = turn .loop in (
       omega arith,
@@ -110,22 +117,7 @@ returns-3 c =
 pub more-digits-spec : {M : Type 1} → statement M
 more-digits-spec =
     tie.close
-    (tie.spec
-    Inv-loop
-    μ-loop
-    (λ c. (omega arith, refl, c .before .pre .2, c .before .pre .3))
-    (λ c. omega arith)
-    (λ c κs. tt)
-    returns
-    sub-wide
-    (λ c κs. tt)
-    (λ c κs. tt)
-    has-room-requires
-    (λ c κs. tt)
-    returns-2
-    (λ c. omega (arith, fits c))
-    (λ c. omega (arith, fits c))
-    (λ c. omega arith)
-    (λ c. omega arith)
-    loop-again
+    (tie.spec Inv-loop μ-loop (λ c. (omega arith, refl, c .before .pre .2, c .before .pre .3)) (λ c. omega arith)
+    (λ c κs. tt) returns sub-wide (λ c κs. tt) (λ c κs. tt) has-room-requires (λ c κs. tt) returns-2
+    (λ c. omega (arith, fits c)) (λ c. omega (arith, fits c)) (λ c. omega arith) (λ c. omega arith) loop-again
     returns-3)

@@ -51,14 +51,21 @@ add-number c =
     let b = c .before .byte in
     omega (arith, inside (turn .before .before .args .s .now) (turn .loop .i) (b .result) (b .ensures) (c .if1 .left))
 
+-- the turn, of a name that was read; and that name, of one that joins the set
+abbrev at-turn : tie.After-number Inv-loop μ-loop → tie.At-loop Inv-loop μ-loop
+at-turn c = c .before .before .before .before
+
+abbrev after-name : tie.Else3 Inv-loop μ-loop → tie.After-number Inv-loop μ-loop
+after-name c = c .before .before .before .before
+
 -- what stands behind the space does not join the set
-ends : (c : tie.After-number Inv-loop μ-loop) → let turn = c .before .before .before .before in
+ends : (c : tie.After-number Inv-loop μ-loop) → let turn = at-turn c in
     let a = turn .before .before .args in
     let l = a .s .now in
     with-name (turn .loop .set) (slot-at campaign-slot (place l (turn .loop .i + 1))) ≡ unseen
     → slot-at names-slot (place l (a .at)) ≡ unseen
 ends c q =
-    let turn = c .before .before .before .before in
+    let turn = at-turn c in
     let l = turn .before .before .args .s .now in
     let o = turn .loop in
     let b = c .before .before .byte in
@@ -71,7 +78,7 @@ ends c q =
 returns-2 : tie.Need-returns-2 Inv-loop μ-loop
 returns-2 c =
     let name = c .before .before .before in
-    let turn = name .before .before .before .before in
+    let turn = at-turn name in
     let l = turn .before .before .args .s .now in
     let o = turn .loop in
     let x = name .number in
@@ -82,7 +89,7 @@ returns-2 c =
 shl-bit : tie.Need-shl-bit Inv-loop μ-loop
 shl-bit c =
     let name = c .before .before .before in
-    let turn = name .before .before .before .before in
+    let turn = at-turn name in
     let l = turn .before .before .args .s .now in
     let x = name .number in
     omega (arith, name-small l (x .result) (place l (turn .loop .i + 1)) (x .ensures) (c .before .if2 .left))
@@ -95,7 +102,7 @@ bit n h = shl-exact {a = 1} 1 n set-bits (lit< tt) (omega arith) ∙ one-mul (2 
 returns-3 : tie.Need-returns-3 Inv-loop μ-loop
 returns-3 c =
     let name = c .before .before .before .before .before in
-    let turn = name .before .before .before .before in
+    let turn = at-turn name in
     let l = turn .before .before .args .s .now in
     let o = turn .loop in
     let x = name .number in
@@ -109,11 +116,11 @@ returns-3 c =
     (joins-not (o .set) s n (drop (x .result .end) l) (seen-in l (x .result) s (x .ensures) h) (omega (arith, low))))
 
 -- the name joins the set
-bit-of : (c : tie.Else3 Inv-loop μ-loop) → let n = c .before .before .before .before .number .result .number in
+bit-of : (c : tie.Else3 Inv-loop μ-loop) → let n = after-name c .number .result .number in
     ((1 * 2 ^ n) % suc max-u64 ≡ 2 ^ n) × (2 ^ n ≤ 2 ^ max-campaign)
 bit-of c =
-    let name = c .before .before .before .before in
-    let turn = name .before .before .before .before in
+    let name = after-name c in
+    let turn = at-turn name in
     let l = turn .before .before .args .s .now in
     let x = name .number in
     let n = x .result .number in
@@ -122,8 +129,8 @@ bit-of c =
 
 loop-again : tie.Need-loop-again Inv-loop μ-loop
 loop-again c =
-    let name = c .before .before .before .before in
-    let turn = name .before .before .before .before in
+    let name = after-name c in
+    let turn = at-turn name in
     let l = turn .before .before .args .s .now in
     let o = turn .loop in
     let x = name .number in
@@ -155,22 +162,6 @@ returns-4 c =
 pub names-spec : {M : Type 1} → statement M
 names-spec =
     tie.close
-    (tie.spec
-    Inv-loop
-    μ-loop
-    (λ c. (names-all (place (c .before .args .s .now) (c .before .args .at)), λ p. refl))
-    (λ c κs. tt)
-    returns
-    add-number
-    (λ c κs. omega arith)
-    (λ c κs. tt)
-    returns-2
-    shl-bit
-    (λ c κs. tt)
-    returns-3
-    (λ c. omega (arith, bit-of c))
-    (λ c. omega arith)
-    (λ c. omega arith)
-    loop-again
-    (λ c κs. tt)
-    returns-4)
+    (tie.spec Inv-loop μ-loop (λ c. (names-all (place (c .before .args .s .now) (c .before .args .at)), λ p. refl))
+    (λ c κs. tt) returns add-number (λ c κs. omega arith) (λ c κs. tt) returns-2 shl-bit (λ c κs. tt) returns-3
+    (λ c. omega (arith, bit-of c)) (λ c. omega arith) (λ c. omega arith) loop-again (λ c κs. tt) returns-4)

@@ -74,17 +74,5 @@ more-digits-requires c κs =
 pub number-spec : {M : Type 1} → statement M
 number-spec =
     tie.close
-    (tie.spec
-    (λ c κs. tt)
-    returns
-    (λ c. omega arith)
-    (λ c κs. tt)
-    returns-2
-    (λ c. omega arith)
-    (λ c. omega arith)
-    (λ c κs. tt)
-    more-digits-requires
-    (λ c κs. tt)
-    returns-3
-    returns-4
-    returns-5)
+    (tie.spec (λ c κs. tt) returns (λ c. omega arith) (λ c κs. tt) returns-2 (λ c. omega arith) (λ c. omega arith)
+    (λ c κs. tt) more-digits-requires (λ c κs. tt) returns-3 returns-4 returns-5)

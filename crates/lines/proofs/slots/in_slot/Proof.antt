@@ -11,8 +11,7 @@ pub in-slot-spec : {M : Type 1} → statement M
 unfolding in-slot
 in-slot-spec =
     tie.close
-    (tie.spec
-    (λ c κs. tt)
+    (tie.spec (λ c κs. tt)
     (λ c.
     let a = c .before .args in
     let n = a .number in

@@ -7,10 +7,7 @@ use Rattle.lines.proofs.slots.slot_max.Tie as tie
 pub slot-max-spec : {M : Type 1} → statement M
 slot-max-spec =
     tie.close
-    (tie.spec
-    (λ c. simp (c .match .keys1))
-    (λ c. simp (c .match .keys2))
-    (λ c. simp (c .match .keys3))
+    (tie.spec (λ c. simp (c .match .keys1)) (λ c. simp (c .match .keys2)) (λ c. simp (c .match .keys3))
     (λ c. simp (c .match .keys4))
     (λ c. let other = c .match .rest in
     simp (

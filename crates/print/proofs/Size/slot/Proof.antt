@@ -8,10 +8,7 @@ use Rattle.print.proofs.Size.slot.Tie as tie
 pub slot-spec : {M : Type 1} → statement M
 slot-spec =
     tie.close
-    (tie.spec
-    (λ c κs. tt)
-    (λ c κs. tt)
-    (λ c. omega arith)
+    (tie.spec (λ c κs. tt) (λ c κs. tt) (λ c. omega arith)
     (λ c.
     let in-range = c .before .before .before in
     record {

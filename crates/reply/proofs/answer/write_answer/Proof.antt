@@ -38,30 +38,81 @@ said {a} {b} {d} {e} {at} {to} q p = (
       (arith, p .next, answer-line-most b),
 )
 
+-- what the records ask, and what their lines are: the answer is that of its arm
+write-record-requires : tie.Need-write-record-requires
+write-record-requires c κs =
+    let arm = c .before .before in
+    ranged (arm .answer .given .1) (arm .before .before .before .pre)
+
+returns : tie.Need-returns
+returns c =
+    let sent = c .before .before in
+    let arm = sent .before .before .before in
+    said (arm .answer .given .1) (sent .write-record .ensures)
+
+write-record-requires-2 : tie.Need-write-record-requires-2
+write-record-requires-2 c κs =
+    let arm = c .before in
+    ranged (arm .enum-told .given .1) (arm .before .before .before .pre)
+
+returns-2 : tie.Need-returns-2
+returns-2 c =
+    let sent = c .before .before in
+    let arm = sent .before .before in
+    said (arm .enum-told .given .1) (sent .write-record2 .ensures)
+
+write-record-requires-3 : tie.Need-write-record-requires-3
+write-record-requires-3 c κs =
+    let arm = c .before .before in
+    ranged (arm .answer2 .given .1) (arm .before .before .before .pre)
+
+returns-3 : tie.Need-returns-3
+returns-3 c =
+    let sent = c .before .before in
+    let arm = sent .before .before .before in
+    said (arm .answer2 .given .1) (sent .write-record3 .ensures)
+
+write-record-requires-4 : tie.Need-write-record-requires-4
+write-record-requires-4 c κs =
+    let arm = c .before in
+    ranged (arm .enum-told2 .given .1) (arm .before .before .before .pre)
+
+returns-4 : tie.Need-returns-4
+returns-4 c =
+    let sent = c .before .before in
+    let arm = sent .before .before in
+    said (arm .enum-told2 .given .1) (sent .write-record4 .ensures)
+
+write-record-requires-5 : tie.Need-write-record-requires-5
+write-record-requires-5 c κs =
+    let arm = c .before .before in
+    ranged (arm .answer3 .given .1) (arm .before .before .before .pre)
+
+returns-6 : tie.Need-returns-6
+returns-6 c =
+    let sent = c .before .before in
+    let arm = sent .before .before .before in
+    said (arm .answer3 .given .1) (sent .write-record5 .ensures)
+
 pub write-answer-spec : {M : Type 1} → statement M
 write-answer-spec =
     tie.close
-    (tie.spec
+    (tie.spec (λ c. search needs)
+    write-record-requires
+    (λ c. search needs) write-record-requires-2
     (λ c. search needs)
-    (λ c κs. ranged (c .before .before .answer .given .1) (c .before .before .before .before .before .pre))
+    write-record-requires-3
+    (λ c. search needs) write-record-requires-4
+    (λ c. search needs) (λ c. search needs)
+    write-record-requires-5
     (λ c. search needs)
-    (λ c κs. ranged (c .before .enum-told .given .1) (c .before .before .before .before .pre))
+    returns
     (λ c. search needs)
-    (λ c κs. ranged (c .before .before .answer2 .given .1) (c .before .before .before .before .before .pre))
+    returns-2
     (λ c. search needs)
-    (λ c κs. ranged (c .before .enum-told2 .given .1) (c .before .before .before .before .pre))
+    returns-3
     (λ c. search needs)
-    (λ c. search needs)
-    (λ c κs. ranged (c .before .before .answer3 .given .1) (c .before .before .before .before .before .pre))
-    (λ c. search needs)
-    (λ c. said (c .before .before .before .before .before .answer .given .1) (c .before .before .write-record .ensures))
-    (λ c. search needs)
-    (λ c. said (c .before .before .before .before .enum-told .given .1) (c .before .before .write-record2 .ensures))
-    (λ c. search needs)
-    (λ c. said (c .before .before .before .before .before .answer2 .given .1)
-    (c .before .before .write-record3 .ensures))
-    (λ c. search needs)
-    (λ c. said (c .before .before .before .before .enum-told2 .given .1) (c .before .before .write-record4 .ensures))
+    returns-4
     (λ c. let a = c .before .before .before .args in (
       subst
           (λ (x : Answer). Put (a .out .now) (a .out .now) (a .at) (a .at) (answer-line x))
@@ -69,5 +120,4 @@ write-answer-spec =
       omega arith,
     ))
     (λ c. search needs)
-    (λ c. said (c .before .before .before .before .before .answer3 .given .1)
-    (c .before .before .write-record5 .ensures)))
+    returns-6)

@@ -47,47 +47,46 @@ module _ (r : Record) (o : List ℕ) (at : ℕ) (z : Writing) (p : (in-range r �
         same = ap length m ∙ over-length o at (line r);
       }
 
+-- the line written, of a match on whether it is, and where the function began
+abbrev after-write : tie.After-slice-known2 → tie.After-write-line
+after-write c = c .before .before
+
+abbrev at-start : tie.After-write-line → tie.Start
+at-start c = c .before .before .before
+
 add-result : tie.Need-add-result
 add-result c =
-    let a = c .before .before .before .before .before .before .before .before .args in
+    let written = after-write (c .before .before .before) in
+    let w = written .write-line in
+    let s = at-start written in
+    let a = s .args in
     omega (
       arith,
-      length-is (a .r) (a .out .now) (a .at)
-          (c .before .before .before .before .before .write-line .result)
-          (c .before .before .before .before .before .before .before .before .pre)
-          (c .before .before .before .before .before .write-line .ensures .0) (c .before .n .given .0 .0)
+      length-is (a .r) (a .out .now) (a .at) (w .result) (s .pre) (w .ensures .0) (c .before .n .given .0 .0)
           (c .before .n .given .1),
       line-most (a .r),
     )
 
 returns : tie.Need-returns
 returns c =
-    let a = c .before .before .before .before .before .before .before .before .args in
-    let w = c .before .before .before .before .before .write-line in
-    let p = c .before .before .before .before .before .before .before .before .pre in
-    sent (a .r) (a .out .now) (a .at) (w .result) p (w .ensures .0) (c .before .n .given .0 .0)
+    let written = after-write (c .before .before .before) in
+    let w = written .write-line in
+    let s = at-start written in
+    let a = s .args in
+    sent (a .r) (a .out .now) (a .at) (w .result) (s .pre) (w .ensures .0) (c .before .n .given .0 .0)
     (c .before .n .given .1) (w .last .1 .0) (w .ensures .1)
 
 returns-2 : tie.Need-returns-2
 returns-2 c =
-    let a = c .before .before .before .before .before .before .before .args in
-    absurd (never (a .r) (a .out .now) (a .at) (c .before .before .before .before .write-line .result)
-    (c .before .before .before .before .before .before .before .pre)
-    (c .before .before .before .before .write-line .ensures .0) (c .enum-told .given .0 .0)
+    let written = after-write (c .before .before) in
+    let w = written .write-line in
+    let s = at-start written in
+    let a = s .args in
+    absurd (never (a .r) (a .out .now) (a .at) (w .result) (s .pre) (w .ensures .0) (c .enum-told .given .0 .0)
     (c .enum-told .given .1))
 
 pub write-record-spec : {M : Type 1} → statement M
 write-record-spec =
     tie.close
-    (tie.spec
-    (λ c. search needs)
-    (λ c. search needs)
-    (λ c. search needs)
-    (λ c κs. search needs)
-    (λ c. search needs)
-    add-result
-    (λ c. search needs)
-    (λ c. search needs)
-    returns
-    (λ c. search needs)
-    returns-2)
+    (tie.spec (λ c. search needs) (λ c. search needs) (λ c. search needs) (λ c κs. search needs) (λ c. search needs)
+    add-result (λ c. search needs) (λ c. search needs) returns (λ c. search needs) returns-2)

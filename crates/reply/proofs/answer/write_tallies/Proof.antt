@@ -46,15 +46,18 @@ write-record-requires c κs =
 
 loop-again : tie.Need-loop-again Inv-loop μ-loop
 loop-again c =
-    let a = c .before .before .before .before .before .before .before .before .args in
-    let o = c .before .before .before .before .before .before .loop in
-    let p = c .before .before .write-record .ensures in
-    let r = c .before .before .before .before .tally-record .result in (
+    let sent = c .before .before in
+    let told = sent .before .before in
+    let at-loop = told .before .before in
+    let a = at-loop .before .before .args in
+    let o = at-loop .loop in
+    let p = sent .write-record .ensures in
+    let r = told .tally-record .result in (
       omega arith,
       omega (arith, p .next, line-most r),
-      subst (Put (a .out .now) (c .before .before .write-record .last .1 .0) (a .at)
-          (c .before .before .write-record .result)) (tallies-next (campaign-at (a .terms .now) (a .counts .now))
-          (o .i) r (c .before .before .before .before .tally-record .ensures .0)) (put-then (o .inv .2) p),
+      subst (Put (a .out .now) (sent .write-record .last .1 .0) (a .at)
+          (sent .write-record .result)) (tallies-next (campaign-at (a .terms .now) (a .counts .now))
+          (o .i) r (told .tally-record .ensures .0)) (put-then (o .inv .2) p),
     )
 
 returns : tie.Need-returns Inv-loop μ-loop
@@ -70,14 +73,5 @@ returns c =
 pub write-tallies-spec : {M : Type 1} → statement M
 write-tallies-spec =
     tie.close
-    (tie.spec
-    Inv-loop
-    μ-loop
-    loop-holds
-    (λ c κs. omega arith)
-    write-record-requires
-    (λ c. omega arith)
-    (λ c. omega arith)
-    loop-again
-    (λ c. c .before .loop .inv .2 .same)
-    returns)
+    (tie.spec Inv-loop μ-loop loop-holds (λ c κs. omega arith) write-record-requires (λ c. omega arith)
+    (λ c. omega arith) loop-again (λ c. c .before .loop .inv .2 .same) returns)

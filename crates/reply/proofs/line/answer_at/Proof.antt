@@ -33,23 +33,18 @@ of-head c {l} {o} {o'} {at} {to} {after} w =
     subst (λ (h : Head). Written (state-of h (a .terms .now) (a .counts .now)) l o o' at after to)
     (from-head c .rebuilt .ensures) w
 
-rebuilt-requires : tie.Need-rebuilt-requires
-rebuilt-requires c κs = search needs
-
 respond-requires : tie.Need-respond-requires
 respond-requires c κs =
     let head = c .before .before .before in
     let s = head .before .before .before .before in
-    subst (λ (h : Head). Ready (s .args .turn .sound) h (s .args .list .now) (s .args .terms .now) (s .args .counts .now))
+    let a = s .args in
+    subst (λ (h : Head). Ready (a .turn .sound) h (a .list .now) (a .terms .now) (a .counts .now))
     (sym (head .rebuilt .ensures)) (s .pre .1)
 
 write-answer-requires : tie.Need-write-answer-requires
 write-answer-requires c κs =
     let done = c .before .before in
     (answer-ranged (state done) (at-start done .args .line .now) _ (done .respond .ensures .0), omega arith)
-
-closes-requires : tie.Need-closes-requires
-closes-requires c κs = search needs
 
 write-tallies-requires : tie.Need-write-tallies-requires
 write-tallies-requires c κs =
@@ -63,9 +58,6 @@ write-tallies-requires c κs =
           (arith, p .1, p .0 .same, at-start done .pre .0),
     )
 
-same-length : tie.Need-same-length
-same-length c = search needs
-
 returns : tie.Need-returns
 returns c =
     let closing = c .before .before .before .before .before .before in
@@ -77,9 +69,6 @@ returns c =
           (c .before .before .write-tallies .ensures)),
       x .1,
     )
-
-same-length-2 : tie.Need-same-length-2
-same-length-2 c = search needs
 
 returns-2 : tie.Need-returns-2
 returns-2 c =
@@ -94,13 +83,5 @@ returns-2 c =
 pub answer-at-spec : {M : Type 1} → statement M
 answer-at-spec =
     tie.close
-    (tie.spec
-    rebuilt-requires
-    respond-requires
-    write-answer-requires
-    closes-requires
-    write-tallies-requires
-    same-length
-    returns
-    same-length-2
-    returns-2)
+    (tie.spec (λ c κs. search needs) respond-requires write-answer-requires (λ c κs. search needs)
+    write-tallies-requires (λ c. search needs) returns (λ c. search needs) returns-2)

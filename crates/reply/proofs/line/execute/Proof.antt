@@ -11,7 +11,8 @@ use Rattle.day.specs.declared.Step.{Step}
 use Rattle.day.specs.Day.{state-of}
 use Rattle.lines.proofs.Record.{the-type}
 use Rattle.lines.specs.declared.Record.{Record}
-use Rattle.lines.specs.declared.Record.the-variants.{Plan, Campaign, Start, View, Close, Done, Play, Nobody, Refused, Closed}
+use Rattle.lines.specs.declared.Record.the-variants.{Plan, Campaign, Start, View, Close}
+use Rattle.lines.specs.declared.Record.the-variants.{Done, Play, Nobody, Refused, Closed}
 use Rattle.lines.specs.declared.Record.the-variants.{Tally, Pause, Resume}
 use Rattle.day.specs.declared.Outcome.{Outcome}
 use Rattle.day.specs.Calls.Call.{add-campaign, start-day, show-view, close-day, mark-campaign}
@@ -32,86 +33,46 @@ state s = state-of (s .args .head) (s .args .terms .now) (s .args .counts .now)
 made : (s : Day) {r t : Record} {o : Outcome} → r ≡ t → o ≡ executed s (request t) → o ≡ executed s (request r)
 made s {r} {t} {o} e p = subst (λ (x : Record). o ≡ executed s (request x)) (sym e) p
 
-enum-known-input : tie.Need-enum-known-input
-enum-known-input c = search needs
-
-open-plan-requires : tie.Need-open-plan-requires
-open-plan-requires c κs = search needs
-
-enum-known-input-2 : tie.Need-enum-known-input-2
-enum-known-input-2 c = search needs
-
-add-sound-requires : tie.Need-add-sound-requires
-add-sound-requires c κs = search needs
-
-enum-told : tie.Need-enum-told
-enum-told c = search needs
-
-start-sound-requires : tie.Need-start-sound-requires
-start-sound-requires c κs = search needs
-
-enum-known-input-3 : tie.Need-enum-known-input-3
-enum-known-input-3 c = search needs
-
-show-sound-requires : tie.Need-show-sound-requires
-show-sound-requires c κs = search needs
-
-enum-told-2 : tie.Need-enum-told-2
-enum-told-2 c = search needs
-
-close-sound-requires : tie.Need-close-sound-requires
-close-sound-requires c κs = search needs
-
-enum-known-input-4 : tie.Need-enum-known-input-4
-enum-known-input-4 c = search needs
-
-mark-sound-requires : tie.Need-mark-sound-requires
-mark-sound-requires c κs = search needs
-
-enum-known-input-5 : tie.Need-enum-known-input-5
-enum-known-input-5 c = search needs
-
-mark-sound-requires-2 : tie.Need-mark-sound-requires-2
-mark-sound-requires-2 c κs = search needs
-
-refused-requires : tie.Need-refused-requires
-refused-requires c κs = search needs
-
 returns : tie.Need-returns
 returns c =
-    let s = c .before .before .before .before .before .before .before in (
-      made (state s) (c .before .before .before .before .before .input .given .1) (c .open-plan .ensures .0),
+    let arm = c .before .before .before .before .before in
+    let s = arm .before .before in (
+      made (state s) (arm .input .given .1) (c .open-plan .ensures .0),
       c .open-plan .ensures .1,
     )
 
 returns-2 : tie.Need-returns-2
 returns-2 c =
-    let s = c .before .before .before .before .before .before in
+    let arm = c .before .before .before .before in
+    let s = arm .before .before in
     let w = s .args .list .now in (
-      made (state s) (c .before .before .before .before .input2 .given .1) (c .add-sound .ensures),
+      made (state s) (arm .input2 .given .1) (c .add-sound .ensures),
       same-weights
           (state s) (add-campaign _) w tt (c .add-sound .ensures) (s .pre .0),
     )
 
 returns-3 : tie.Need-returns-3
 returns-3 c =
-    let s = c .before .before .before .before .before in (
-      made (state s) (c .before .before .before .enum-told .given .1) (c .start-sound .ensures),
+    let arm = c .before .before .before in
+    let s = arm .before .before in (
+      made (state s) (arm .enum-told .given .1) (c .start-sound .ensures),
       same-weights (state s)
           start-day (s .args .list .now) tt (c .start-sound .ensures) (s .pre .0),
     )
 
 returns-4 : tie.Need-returns-4
 returns-4 c =
-    let s = c .before .before .before .before .before .before .before in (
-      made (state s) (c .before .before .before .before .before .input3 .given .1) (c .show-sound .ensures),
+    let arm = c .before .before .before .before .before in
+    let s = arm .before .before in (
+      made (state s) (arm .input3 .given .1) (c .show-sound .ensures),
       same-weights (state s) (show-view _) (s .args .list .now) tt (c .show-sound .ensures) (s .pre .0),
     )
 
 returns-5 : tie.Need-returns-5
 returns-5 c =
-    let s = c .before .before .before .before .before .before in (
-      made (state s) (c .before .before .before .before .enum-told2 .given .1) (c .close-sound .ensures),
+    let arm = c .before .before .before .before in
+    let s = arm .before .before in (
+      made (state s) (arm .enum-told2 .given .1) (c .close-sound .ensures),
       same-weights
           (state s) close-day (s .args .list .now) tt (c .close-sound .ensures) (s .pre .0),
     )
@@ -169,27 +130,7 @@ returns-8 c =
 pub execute-spec : {M : Type 1} → statement M
 execute-spec =
     tie.close
-    (tie.spec
-    enum-known-input
-    open-plan-requires
-    enum-known-input-2
-    add-sound-requires
-    enum-told
-    start-sound-requires
-    enum-known-input-3
-    show-sound-requires
-    enum-told-2
-    close-sound-requires
-    enum-known-input-4
-    mark-sound-requires
-    enum-known-input-5
-    mark-sound-requires-2
-    refused-requires
-    returns
-    returns-2
-    returns-3
-    returns-4
-    returns-5
-    returns-6
-    returns-7
-    returns-8)
+    (tie.spec (λ c. search needs) (λ c κs. search needs) (λ c. search needs) (λ c κs. search needs) (λ c. search needs)
+    (λ c κs. search needs) (λ c. search needs) (λ c κs. search needs) (λ c. search needs) (λ c κs. search needs)
+    (λ c. search needs) (λ c κs. search needs) (λ c. search needs) (λ c κs. search needs) (λ c κs. search needs) returns
+    returns-2 returns-3 returns-4 returns-5 returns-6 returns-7 returns-8)

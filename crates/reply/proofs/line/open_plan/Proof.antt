@@ -5,9 +5,6 @@ use Rattle.reply.proofs.Kept.{opened-sound}
 use Rattle.reply.proofs.line.open_plan.Statement.{statement}
 use Rattle.reply.proofs.line.open_plan.Tie as tie
 
-open-sound-requires : tie.Need-open-sound-requires
-open-sound-requires c κs = search needs
-
 renew-requires : tie.Need-renew-requires
 renew-requires c κs =
     let s = c .before .before .before .before .before .before .before in
@@ -15,7 +12,9 @@ renew-requires c κs =
     (s .pre .0, opened-sound (s .args .head) _ _ (open-plan (s .args .plan)) (s .pre .1) (o .result) _ _ (o .ensures))
 
 returns : tie.Need-returns
-returns c = (c .before .before .before .before .open-sound .ensures, c .renew .ensures)
+returns c =
+    let opened = c .before .before .before .before in
+    (opened .open-sound .ensures, c .renew .ensures)
 
 pub open-plan-spec : {M : Type 1} → statement M
-open-plan-spec = tie.close (tie.spec open-sound-requires renew-requires returns)
+open-plan-spec = tie.close (tie.spec (λ c κs. search needs) renew-requires returns)

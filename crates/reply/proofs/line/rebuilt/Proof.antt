@@ -6,9 +6,6 @@ use Rattle.campaigns.specs.declared.Phase.{Phase}
 use Rattle.reply.proofs.line.rebuilt.Statement.{statement}
 use Rattle.reply.proofs.line.rebuilt.Tie as tie
 
-rebuilt-phase-requires : tie.Need-rebuilt-phase-requires
-rebuilt-phase-requires c κs = search needs
-
 abbrev with-phase : Head → Phase → Head
 with-phase h p = record {
   phase = p;
@@ -22,4 +19,4 @@ returns : tie.Need-returns
 returns c = ap (with-phase (c .before .before .args .head)) (c .before .rebuilt-phase .ensures)
 
 pub rebuilt-spec : {M : Type 1} → statement M
-rebuilt-spec = tie.close (tie.spec rebuilt-phase-requires returns)
+rebuilt-spec = tie.close (tie.spec (λ c κs. search needs) returns)

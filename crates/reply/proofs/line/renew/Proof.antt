@@ -22,11 +22,5 @@ returns c =
     let g : a ≡ b = ap₂ (λ (x y : ℕ). record { depth = x; width = y }) e f in
     subst (λ (p : Plan). Weights p (s .args .list .now)) g (s .pre .0)
 
-weights-requires : tie.Need-weights-requires
-weights-requires c κs = search needs
-
-returns-2 : tie.Need-returns-2
-returns-2 c = search needs
-
 pub renew-spec : {M : Type 1} → statement M
-renew-spec = tie.close (tie.spec returns weights-requires returns-2)
+renew-spec = tie.close (tie.spec returns (λ c κs. search needs) (λ c. search needs))

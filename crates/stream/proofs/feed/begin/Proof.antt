@@ -4,11 +4,8 @@ use borrow.Author.Needs.{needs}
 use Rattle.stream.proofs.feed.begin.Statement.{statement}
 use Rattle.stream.proofs.feed.begin.Tie as tie
 
-prepare-requires : tie.Need-prepare-requires
-prepare-requires c κs = search needs
-
 returns : tie.Need-returns
 returns c = (refl, refl, c .prepare .ensures)
 
 pub begin-spec : {M : Type 1} → statement M
-begin-spec = tie.close (tie.spec prepare-requires returns)
+begin-spec = tie.close (tie.spec (λ c κs. search needs) returns)

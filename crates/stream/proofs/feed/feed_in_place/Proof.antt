@@ -13,21 +13,6 @@ use Rattle.stream.proofs.feed.feed_in_place.Tie as tie
 begin-requires : tie.Need-begin-requires
 begin-requires c κs = c .before .before .before .sized .ensures
 
-at-most-held-requires : tie.Need-at-most-held-requires
-at-most-held-requires c κs = search needs
-
-run-requires : tie.Need-run-requires
-run-requires c κs = search needs
-
-clear-requires : tie.Need-clear-requires
-clear-requires c κs = search needs
-
-same-length : tie.Need-same-length
-same-length c = search needs
-
-same-length-2 : tie.Need-same-length-2
-same-length-2 c = search needs
-
 returns : tie.Need-returns
 returns c =
     let ran = c .before .before .before .before .before .before .before .before .before .before in
@@ -45,12 +30,5 @@ returns c =
 pub feed-in-place-spec : {M : Type 1} → statement M
 feed-in-place-spec =
     tie.close
-    (tie.spec
-    (λ c κs. search needs)
-    begin-requires
-    at-most-held-requires
-    run-requires
-    clear-requires
-    same-length
-    same-length-2
-    returns)
+    (tie.spec (λ c κs. search needs) begin-requires (λ c κs. search needs) (λ c κs. search needs) (λ c κs. search needs)
+    (λ c. search needs) (λ c. search needs) returns)

@@ -12,29 +12,11 @@ use Rattle.stream.proofs.feed.finish_in_place.Tie as tie
 abbrev stream : tie.Start → Stream
 stream s = let a = s .args in stream-at (a .head) (a .terms .now) (a .counts .now) (a .pending .now) (a .kept)
 
-clear-requires : tie.Need-clear-requires
-clear-requires c κs = search needs
-
-same-length : tie.Need-same-length
-same-length c = search needs
-
 returns : tie.Need-returns
 returns c =
     let none = c .before .before .before .before in
     let s = none .before .before .before in
     finishes-idle (stream s) (s .args .out .now) (none .if1 .taken) (c .before .before .clear .ensures)
-
-slice-aggregate-feed-in-place : tie.Need-slice-aggregate-feed-in-place
-slice-aggregate-feed-in-place c = search needs
-
-feed-in-place-requires : tie.Need-feed-in-place-requires
-feed-in-place-requires c κs = search needs
-
-same-length-2 : tie.Need-same-length-2
-same-length-2 c = search needs
-
-same-length-3 : tie.Need-same-length-3
-same-length-3 c = search needs
 
 returns-2 : tie.Need-returns-2
 returns-2 c =
@@ -49,12 +31,5 @@ returns-2 c =
 pub finish-in-place-spec : {M : Type 1} → statement M
 finish-in-place-spec =
     tie.close
-    (tie.spec
-    clear-requires
-    same-length
-    returns
-    slice-aggregate-feed-in-place
-    feed-in-place-requires
-    same-length-2
-    same-length-3
-    returns-2)
+    (tie.spec (λ c κs. search needs) (λ c. search needs) returns (λ c. search needs) (λ c κs. search needs)
+    (λ c. search needs) (λ c. search needs) returns-2)

@@ -20,8 +20,13 @@ neither : (a b : Bool) → (a || b) ≡ false → (a ≡ false) × (b ≡ false)
 neither false b e = (refl, e)
 neither true b e = absurd (never true e refl)
 
+-- where the function began, of the place behind the batch
 abbrev at-start : tie.After-run-batch → tie.Start
 at-start c = c .before .before .before .before .before .before .before .before .before
+
+-- the batch, of the place behind its results
+abbrev after-batch : tie.After-struct-known → tie.After-run-batch
+after-batch c = c .before .before .before .before .before .before
 
 abbrev began : tie.Start → Session
 began s = let a = s .args in session (state-of (a .first .turn .head) (a .terms .now) (a .counts .now))
@@ -48,17 +53,11 @@ run-batch-requires c κs =
     ((p .0, p .1, omega (arith, p .2), omega (arith, p .3)), s .pre .1)
 
 sub-if1 : tie.Need-sub-if1
-sub-if1 c = let ran = c .before .before .before .before .before .before in ran .run-batch .ensures .fits
-
-same-length : tie.Need-same-length
-same-length c = search needs
-
-same-length-2 : tie.Need-same-length-2
-same-length-2 c = search needs
+sub-if1 c = after-batch c .run-batch .ensures .fits
 
 returns : tie.Need-returns
 returns c =
-    let ran = c .before .before .before .before .before .before .before in
+    let ran = after-batch (c .before) in
     let s = at-start ran in
     let b = ran .run-batch in
     let i = b .ensures .moves (began s) (s .args .out .now) (started s) in (
@@ -67,30 +66,20 @@ returns c =
     )
 
 sub-keep : tie.Need-sub-keep
-sub-keep c = let ran = c .before .before .before .before .before .before .before .before in
-    ran .run-batch .ensures .inside
+sub-keep c = after-batch (c .before .before) .run-batch .ensures .inside
 
 part-keep-start : tie.Need-part-keep-start
-part-keep-start c = let ran = c .before .before .before .before .before .before .before .before in
-    ran .run-batch .ensures .inside
-
-part-keep-end : tie.Need-part-keep-end
-part-keep-end c = search needs
+part-keep-start c = after-batch (c .before .before) .run-batch .ensures .inside
 
 keep-requires : tie.Need-keep-requires
-keep-requires c κs = let ran = c .before .before .before .before .before .before .before .before .before in
+keep-requires c κs =
+    let ran = after-batch (c .before .before .before) in
     (ran .run-batch .ensures .few, ran .run-batch .ensures .wide)
-
-same-length-3 : tie.Need-same-length-3
-same-length-3 c = search needs
-
-same-length-4 : tie.Need-same-length-4
-same-length-4 c = search needs
 
 returns-2 : tie.Need-returns-2
 returns-2 c =
     let more = c .before .before .before .before .before in
-    let ran = more .before .before .before .before .before .before .before in
+    let ran = after-batch (more .before) in
     let s = at-start ran in
     let b = ran .run-batch in
     let e = b .ensures in
@@ -108,16 +97,5 @@ returns-2 c =
 pub run-spec : {M : Type 1} → statement M
 run-spec =
     tie.close
-    (tie.spec
-    run-batch-requires
-    sub-if1
-    same-length
-    same-length-2
-    returns
-    sub-keep
-    part-keep-start
-    part-keep-end
-    keep-requires
-    same-length-3
-    same-length-4
-    returns-2)
+    (tie.spec run-batch-requires sub-if1 (λ c. search needs) (λ c. search needs) returns sub-keep part-keep-start
+    (λ c. search needs) keep-requires (λ c. search needs) (λ c. search needs) returns-2)

@@ -9,23 +9,11 @@ use Rattle.wezghuli.proofs.Stored.{misused, called}
 use Rattle.wezghuli.proofs.calls.answer_call.Statement.{statement}
 use Rattle.wezghuli.proofs.calls.answer_call.Tie as tie
 
-is-head-requires : tie.Need-is-head-requires
-is-head-requires c κs = search needs
-
 returns : tie.Need-returns
 returns c =
     let a = c .before .before .before .args in
     misused (asked (a .ask)) (memory (a .head .now) (a .terms .now) (a .counts .now) (a .answer .now))
     (sym (c .before .is-head .ensures) ∙ not-true (c .before .is-head .result) (c .if1 .taken))
-
-head-of-requires : tie.Need-head-of-requires
-head-of-requires c κs = search needs
-
-execute-requires : tie.Need-execute-requires
-execute-requires c κs = search needs
-
-store-requires : tie.Need-store-requires
-store-requires c κs = search needs
 
 returns-2 : tie.Need-returns-2
 returns-2 c =
@@ -43,4 +31,5 @@ returns-2 c =
 pub answer-call-spec : {M : Type 1} → statement M
 answer-call-spec =
     tie.close
-    (tie.spec is-head-requires returns head-of-requires execute-requires store-requires returns-2)
+    (tie.spec (λ c κs. search needs) returns (λ c κs. search needs) (λ c κs. search needs) (λ c κs. search needs)
+    returns-2)

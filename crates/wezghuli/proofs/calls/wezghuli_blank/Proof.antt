@@ -7,12 +7,6 @@ use borrow.Author.Needs.{needs}
 use Rattle.wezghuli.proofs.calls.wezghuli_blank.Statement.{statement}
 use Rattle.wezghuli.proofs.calls.wezghuli_blank.Tie as tie
 
-blank-requires : tie.Need-blank-requires
-blank-requires c κs = search needs
-
-head-words-requires : tie.Need-head-words-requires
-head-words-requires c κs = search needs
-
 returns : tie.Need-returns
 returns c =
     let first = c .before .before .before in (
@@ -22,4 +16,4 @@ returns c =
     )
 
 pub wezghuli-blank-spec : {M : Type 1} → statement M
-wezghuli-blank-spec = tie.close (tie.spec blank-requires head-words-requires returns)
+wezghuli-blank-spec = tie.close (tie.spec (λ c κs. search needs) (λ c κs. search needs) returns)

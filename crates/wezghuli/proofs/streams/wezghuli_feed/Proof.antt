@@ -1,41 +1,29 @@
 -- Memory that is no stream is left as it was; else what the stream in place has become is stored.
 use borrow.Author.Needs.{needs}
-use Rattle.wezghuli.specs.Library.{lent}
+use Rattle.wezghuli.specs.Library.{Lent, lent}
 use Rattle.wezghuli.proofs.Streamed.{fed-misused, fed-stored}
 use Rattle.wezghuli.proofs.streams.wezghuli_feed.Statement.{statement}
 use Rattle.wezghuli.proofs.streams.wezghuli_feed.Tie as tie
 
--- where the function began, of a stream whose status was asked
-abbrev begin : tie.After-status → tie.Start
-begin c = c .before .before .before .before .before
+-- the memory lent
+abbrev given : tie.After-status → Lent
+given c =
+    let a = c .before .before .before .before .before .args in
+    lent (a .head .now) (a .terms .now) (a .counts .now) (a .pending .now) (a .words .now) (a .out .now)
 
 returns : tie.Need-returns
-returns c =
-    let a = begin (c .before) .args in
-    let m = lent (a .head .now) (a .terms .now) (a .counts .now) (a .pending .now) (a .words .now) (a .out .now) in
-    fed-misused (a .input .now) m (c .before .status .result) (c .before .status .ensures) (c .if1 .taken)
+returns c = fed-misused (given (c .before)) (c .before .status .ensures) (c .if1 .taken) _
 
 returns-2 : tie.Need-returns-2
 returns-2 c =
     let moved = c .before .before .before .before .before in
     let headed = moved .before .before .before .before .before in
     let asked = headed .before .before .before .before in
-    let a = begin asked .args in
-    fed-stored (a .head .now) (a .terms .now) (a .counts .now) (a .pending .now) (a .words .now) (a .out .now)
-    (asked .status .result) (headed .before .before .before .if1 .left) (asked .status .ensures)
-    (headed .head-of .result) (headed .head-of .ensures) (moved .feed-in-place .result) _ _ _ _ _ _ (c .store .ensures)
-    (a .input .now)
-    (moved .feed-in-place .ensures)
+    fed-stored (given asked) (asked .status .ensures) (headed .before .before .before .if1 .left)
+    (headed .head-of .ensures) (moved .feed-in-place .result) _ (c .store .ensures) _ (moved .feed-in-place .ensures)
 
 pub wezghuli-feed-spec : {M : Type 1} → statement M
 wezghuli-feed-spec =
     tie.close
-    (tie.spec
-    (λ c κs. search needs)
-    returns
-    (λ c. search needs)
-    (λ c κs. search needs)
-    (λ c κs. search needs)
-    (λ c κs. search needs)
-    (λ c. search needs)
-    returns-2)
+    (tie.spec (λ c κs. search needs) returns (λ c. search needs) (λ c κs. search needs) (λ c κs. search needs)
+    (λ c κs. search needs) (λ c. search needs) returns-2)

@@ -4,18 +4,6 @@ use borrow.Author.Needs.{needs}
 use Rattle.wezghuli.proofs.text.wezghuli_read_line.Statement.{statement}
 use Rattle.wezghuli.proofs.text.wezghuli_read_line.Tie as tie
 
-read-line-requires : tie.Need-read-line-requires
-read-line-requires c κs = search needs
-
-enum-known-r : tie.Need-enum-known-r
-enum-known-r c = search needs
-
-record-words-requires : tie.Need-record-words-requires
-record-words-requires c κs = search needs
-
-enum-known-question : tie.Need-enum-known-question
-enum-known-question c = search needs
-
 returns : tie.Need-returns
 returns c =
     let got = c .before .before in
@@ -35,10 +23,4 @@ returns-2 c =
 pub wezghuli-read-line-spec : {M : Type 1} → statement M
 wezghuli-read-line-spec =
     tie.close
-    (tie.spec
-    read-line-requires
-    enum-known-r
-    record-words-requires
-    enum-known-question
-    returns
-    returns-2)
+    (tie.spec (λ c κs. search needs) (λ c. search needs) (λ c κs. search needs) (λ c. search needs) returns returns-2)

@@ -1,5 +1,5 @@
 -- The block, part by part. The loop's invariant: the bytes before the place were taken and their answers told
--- (`Tells`). With room for the longest answer a part takes a byte at least, so that fewer and fewer bytes are left.
+-- (`Told`). With room for the longest answer a part takes a byte at least, so that fewer and fewer bytes are left.
 use mathlib.Core.Path.{_≡_, refl, sym, _∙_}
 use Prim.Native.Nat.{_≤_, _-_}
 use native.Mathlib.Omega.{arith}
@@ -9,7 +9,7 @@ use mir.Val.{Fits}
 use borrow.Author.Needs.{needs}
 use borrow.Author.Tests.{not-true}
 use Rattle.reply.specs.Session.{reply-room}
-use Rattle.pumpday.specs.Tells.{Tells}
+use Rattle.pumpday.specs.Telling.{Told}
 use Rattle.pumpday.specs.Contracts.{by}
 use Rattle.pumpday.proofs.Pumps.{tells-none, part-less, part-more, stopped}
 use Rattle.pumpday.proofs.teller.Teller.answer_block.Statement.{statement}
@@ -18,10 +18,14 @@ use Rattle.pumpday.proofs.teller.Teller.answer_block.Tie as tie
 abbrev Inv-loop : tie.InvT-loop
 Inv-loop block out₀ t₀ out t =
     (length out ≡ length out₀) × (t .from ≤ length block)
-    × Tells (t₀ .teller) (by (t₀ .teller) (take (t .from) block)) (t .teller)
+    × Told (t₀ .teller) (by (t₀ .teller) (take (t .from) block)) (t .teller)
 
 abbrev μ-loop : tie.MeasureT-loop
 μ-loop block out₀ t₀ out t = length block - t .from
+
+-- the head of the loop, of a turn that has asked whether it is sent
+abbrev at-loop : tie.After-sent Inv-loop μ-loop → tie.At-loop Inv-loop μ-loop
+at-loop c = c .before .before .before .before
 
 told-fits : (s : tie.Start Inv-loop μ-loop) → Fits w64 (s .args .self .wire .told)
 told-fits s = search needs
@@ -33,17 +37,19 @@ loop-holds c =
 
 loop-less : tie.Need-loop-less Inv-loop μ-loop
 loop-less c =
-    let turn = c .before .before .before .before .before .before .before .before .before in
+    let going = c .before .before .before .before in
+    let turn = at-loop (going .before) in
     let s = turn .before .before .before in
     let o = turn .loop in
     let p = c .before .before .answer-part in
-    let h = c .before .before .before .before .before .before .before .if1 .taken in
+    let h = going .before .before .before .if1 .taken in
     let room : reply-room ≤ length (o .out) = omega (arith, o .inv .0, s .pre) in
     omega (arith, part-less (s .args .block .now) (o .out) (o .t) (p .result) (p .ensures) h room, h)
 
 loop-again : tie.Need-loop-again Inv-loop μ-loop
 loop-again c =
-    let turn = c .before .before .before .before .before .before .before .before .before in
+    let going = c .before .before .before .before in
+    let turn = at-loop (going .before) in
     let s = turn .before .before .before in
     let o = turn .loop in
     let p = c .before .before .answer-part in (
@@ -55,7 +61,7 @@ loop-again c =
 -- a write failed
 returns : tie.Need-returns Inv-loop μ-loop
 returns c =
-    let turn = c .before .before .before .before .before in
+    let turn = at-loop (c .before) in
     let a = turn .before .before .before .args in
     let o = turn .loop in
     let n = c .before .sent in
@@ -65,15 +71,7 @@ returns c =
 pub answer-block-spec : {M : Type 1} → statement M
 answer-block-spec =
     tie.close
-    (tie.spec
-    Inv-loop
-    μ-loop
-    loop-holds
-    (λ c κs. tt)
-    (λ c. c .before .before .before .before .before .loop .inv .0)
-    returns
-    (λ c κs. c .before .before .before .before .before .before .loop .inv .1)
-    loop-less
-    loop-again
+    (tie.spec Inv-loop μ-loop loop-holds (λ c κs. tt) (λ c. at-loop (c .before) .loop .inv .0)
+    returns (λ c κs. at-loop (c .before .before) .loop .inv .1) loop-less loop-again
     (λ c. c .before .before .loop .inv .0)
     (λ c. let i = c .before .before .loop .inv in record { inside = i .1; tells = i .2; all = λ s. omega arith }))

@@ -1,29 +1,22 @@
 -- One read, and the whole block that it gave: what the read and the block promise adds up to what a read takes.
-use mathlib.Core.Path.{sym}
-use lib.Seq.{length-take-le}
 use borrow.Author.Needs.{needs}
+use Rattle.wire.proofs.Blocks.{given-length}
 use Rattle.pumpday.proofs.Pumps.{taken-is}
 use Rattle.pumpday.proofs.teller.Teller.turn.Statement.{statement}
 use Rattle.pumpday.proofs.teller.Teller.turn.Tie as tie
 
-slice-aggregate-answer-block : tie.Need-slice-aggregate-answer-block
-slice-aggregate-answer-block c =
-    let r = c .before .before .before .before .before .read in
-    sym (length-take-le (r .result .n) (r .last .1 .0) (r .ensures .inside))
+-- the read, of the place where the block is cut
+abbrev after-read : tie.After-answer-block-arg → tie.After-read
+after-read c = c .before .before .before .before .before
 
 returns : tie.Need-returns
 returns c =
-    let r = c .before .before .before .before .before .before .before .before .before .before .read in
-    taken-is (r .ensures) (c .before .before .before .answer-block .ensures)
+    let answered = c .before .before .before in
+    taken-is (after-read (answered .before .before) .read .ensures) (answered .answer-block .ensures)
 
 pub turn-spec : {M : Type 1} → statement M
 turn-spec =
     tie.close
-    (tie.spec
-    (λ c κs. search needs)
-    (λ c. search needs)
-    slice-aggregate-answer-block
-    (λ c κs. search needs)
-    (λ c. search needs)
-    (λ c. search needs)
-    returns)
+    (tie.spec (λ c κs. search needs) (λ c. search needs)
+    (λ c. given-length (after-read c .read .ensures)) (λ c κs. search needs)
+    (λ c. search needs) (λ c. search needs) returns)

@@ -10,6 +10,6 @@ abbrev pub new-teller : Teller
 new-teller = record { day = blank; wire = new-wire }
 
 -- the page of s told
-pub record Tells (w : Teller) (s : Day) (r : Teller) : Type 0 where
+pub record Told (w : Teller) (s : Day) (r : Teller) : Type 0 where
   pub day-is : r .day ≡ s
   pub writes : Writes (w .wire) (page-of s) (r .wire)

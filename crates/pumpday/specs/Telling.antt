@@ -19,6 +19,6 @@ session-after k l false = fed (session-of k) l
 session-after k l true = finished (session-of k)
 
 -- the stream has come to y, and the answers of y were told
-pub record Tells (w : Teller) (y : Session) (r : Teller) : Type 0 where
+pub record Told (w : Teller) (y : Session) (r : Teller) : Type 0 where
   pub stream-is : session-of (r .stream) ≡ silent y
   pub writes : Writes (w .wire) (y .output) (r .wire)

@@ -10,6 +10,6 @@ abbrev pub new-teller : Teller
 new-teller = record { earnings = Refused 0; wire = new-wire }
 
 -- the line of x told
-pub record Tells (w : Teller) (x : Earnings) (r : Teller) : Type 0 where
+pub record Told (w : Teller) (x : Earnings) (r : Teller) : Type 0 where
   pub earnings-is : r .earnings ≡ x
   pub writes : Writes (w .wire) (earnings-text x) (r .wire)
