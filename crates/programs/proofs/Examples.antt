@@ -1,6 +1,6 @@
 -- Any blocks can be handed to a new stream: what it hands back is written out from the definitions, with room for every
--- answer, and the theorem for any chunking says what was written. Of each day the answers are computed line by line, and
--- of the block of which a part is taken the bytes.
+-- answer, and the theorem for any chunking says what was written. The answers to the lines of each day are computed;
+-- so are the bytes of the block of which a part is taken.
 use mathlib.Core.Path.{_≡_, refl, sym, ap, ap₂, _∙_, subst, subst⁻¹}
 use mathlib.Core.Bool.{Bool, cond}
 use mathlib.Core.List.{List, [], _∷_, _++_}
@@ -25,7 +25,7 @@ use Rattle.audit.specs.Sound.{sound-record}
 use Rattle.day.specs.Day.{blank, total-takings, total-claim, total-budgets, sound}
 use Rattle.questions.specs.Questions.{first-failed, width-holds}
 use Rattle.day.specs.Calls.{call}
-use Rattle.reply.specs.Reply.{reply, reply-text, next, outcome, tallies}
+use Rattle.reply.specs.Reply.{reply, reply-records, record-lines, tally-records, next, outcome}
 use Rattle.reply.specs.Session.{Session, reply-room, after-byte, fed, consumed-count, upto}
 use Rattle.reply.proofs.Sessions.{fed-append}
 use Rattle.stream.specs.declared.feed.Stream.{Stream}
@@ -56,11 +56,12 @@ record Computed : Type 0 where
   odd : answers-to odd-lines (bytes "(view 0)") ≡ joined odd-answers []
 
 computed : Computed
-unfolding replies after-lines joined reply reply-text next outcome tallies reading first-of forms held-or ended-or
-    made numbers-of rest-of step strip slot-at set-at numeral-at digits is-digit template in-slot in-range line text
-    filled slot-text names-text piece numbers numeral numeral-in numbers-after call first-failed sound sound-record
-    blank sum count every table within size member width-holds weight share whole claim total-takings total-claim
-    total-budgets sound-plan priced counted uncounted empty sound-campaign best choice collect without
+unfolding replies after-lines joined reply reply-records record-lines tally-records next outcome
+    reading first-of forms held-or ended-or made numbers-of rest-of step strip slot-at set-at numeral-at digits
+    is-digit template in-slot in-range line text filled slot-text names-text piece numbers numeral numeral-in
+    numbers-after call first-failed sound sound-record blank sum count every table within size member
+    width-holds weight share whole claim total-takings total-claim total-budgets sound-plan priced counted uncounted
+    empty sound-campaign best choice collect without
 computed = record { day = refl; listing = refl; odd = refl }
 
 -- What is handed back.
@@ -222,9 +223,9 @@ taken room n w d e r count said same f =
     )
 
 pub in-part : In-part
-unfolding fed after-byte consumed-count joined reply reply-text next outcome reading first-of forms held-or ended-or
-    made numbers-of rest-of step strip slot-at set-at numeral-at digits is-digit template in-slot line text filled
-    slot-text piece numbers numeral numeral-in numbers-after
+unfolding fed after-byte consumed-count joined reply reply-records record-lines next outcome
+    reading first-of forms held-or ended-or made numbers-of rest-of step strip slot-at set-at numeral-at digits
+    is-digit template in-slot line text filled slot-text piece numbers numeral numeral-in numbers-after
 in-part = record {
   first-alone = λ d e r. taken reply-room 11 _ d e r refl refl;
   one-byte-short = λ d e r. taken (reply-room + 12) 11 _ d e r refl refl;

@@ -45,36 +45,17 @@ use Rattle.floor.proofs.Noon.{noon-at-end}
 use Rattle.refinement.specs.Correspondence.{Buys-alike}
 use Rattle.refinement.specs.Days.{Day-agrees}
 use Rattle.refinement.proofs.Days.{days-as-algorithm-4}
-use Rattle.reply.specs.Reply.{Request, request, request-of, executed, outcome, tallies, answer-line, is-closing}
-use Rattle.reply.specs.Reply.{reply-text, reply, next}
+use Rattle.reply.specs.Reply.{Request, request, request-of, executed, outcome, tally-records, answer-records}
+use Rattle.reply.specs.Reply.{is-closing, reply-records, reply, next}
 use Rattle.reply.specs.Reply.Request.{makes, fails}
-use Rattle.reply.specs.Contracts.{answer-in-range}
-use Rattle.reply.proofs.Replies.{Said, line-said}
-use Rattle.reply.proofs.Ranges.{said-range}
-use Rattle.reply.specs.Session.{upto}
+use Rattle.reply.specs.Answered.{Output-lines}
+use Rattle.reply.proofs.Replies.{Said, line-said, answers-each}
 use Rattle.stream.specs.Chunking.{after-lines, replies}
 use Rattle.programs.specs.Lines.{with-request, calls-of, with-exchange, exchanges, first-line, is-plan, is-ok}
 use Rattle.programs.specs.Lines.{price-in, of-reading, sum-after, sum-over, sum-paid, day-of}
 use Rattle.programs.specs.Lines.{Lines-keep-the-demands, Rest-is-a-line}
 
--- The first line of an answer.
-
-first-is : (t w : List ℕ) → ((i : ℕ) → getD t i 0 ≡ 10 → ⊥) → first-line (t ++ (10 ∷ w)) ≡ t
-unfolding upto
-first-is [] w p = refl
-first-is (b ∷ t) w p = go (eqb b 10) refl (first-is t w (λ i. p (suc i)))
-  where
-    go : (x : Bool) → eqb b 10 ≡ x → first-line (t ++ (10 ∷ w)) ≡ t
-        → take (cond x 0 (suc (upto (t ++ (10 ∷ w))))) (b ∷ (t ++ (10 ∷ w))) ≡ b ∷ t
-    go true e q = absurd (p 0 (eqb-true b 10 e))
-    go false e q = ap (λ (m : List ℕ). b ∷ m) q
-
-line-reads : (r : Record) (w : List ℕ) → in-range r ≡ true → reading (first-line (line r ++ w)) ≡ Got r
-unfolding line
-line-reads r w h =
-    ap (λ (m : List ℕ). reading (first-line m)) (append-assoc (text r) (10 ∷ []) w)
-    ∙ ap reading (first-is (text r) w (one-text .plain r))
-    ∙ one-text .reads r h
+-- The first line of an answer reads as its record.
 
 -- the record of an answer; no line asks for one tally
 abbrev record-of : Answer → Record
@@ -85,21 +66,21 @@ record-of no-one = Nobody
 record-of (tallied p t a n) = Tally 0 p t a n
 record-of (closing t c f) = Closed t c f
 
-answer-line-reads : (a : Answer) → Said a → answer-in-range a ≡ true → (w : List ℕ)
-    → reading (first-line (answer-line a ++ w)) ≡ Got (record-of a)
-answer-line-reads (refusing q) h r w = line-reads (Refused q) w r
-answer-line-reads done h r w = line-reads Done w r
-answer-line-reads (played i p) h r w = line-reads (Play i p) w r
-answer-line-reads no-one h r w = line-reads Nobody w r
-answer-line-reads (tallied p t a n) h r w = absurd h
-answer-line-reads (closing t c f) h r w = line-reads (Closed t c f) w r
+first-reads : (a : Answer) → Said a → (w : List ℕ) (rs : List Record) → Output-lines w (answer-records a ++ rs)
+    → reading (first-line w) ≡ Got (record-of a)
+first-reads (refusing q) h w rs o = o .0 .reads
+first-reads done h w rs o = o .0 .reads
+first-reads (played i p) h w rs o = o .0 .reads
+first-reads no-one h w rs o = o .0 .reads
+first-reads (tallied p t a n) h w rs o = absurd h
+first-reads (closing t c f) h w rs o = o .0 .reads
 
 said-is : (s : Day) (l : List ℕ) → reading (first-line (reply s l)) ≡ Got (record-of (outcome s l .answer))
-unfolding reply reply-text
+unfolding reply-records
 said-is s l =
     let o = outcome s l in
-    answer-line-reads (o .answer) (line-said s l) (said-range s l)
-    (cond (is-closing (o .answer)) (tallies (campaign (o .day)) (o .day .count)) [])
+    first-reads (o .answer) (line-said s l) (reply s l)
+    (cond (is-closing (o .answer)) (tally-records (campaign (o .day)) (o .day .count)) []) (answers-each s l .lines-are)
 
 -- The calls.
 
