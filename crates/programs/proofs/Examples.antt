@@ -39,7 +39,7 @@ use Rattle.programs.specs.Examples.{in-one, blocks-of, Any-blocks}
 use Rattle.stream.specs.Listing.{lines-of, listing-lines, listing-answers}
 use Rattle.programs.specs.Examples.{Handed, first-block, second-block, answers, Day-in-two-blocks, two-lines}
 use Rattle.programs.specs.Examples.{In-part, Answers, Listing-answered, odd-lines, odd-answers}
-use Rattle.programs.specs.Examples.{Odd-lines-answered}
+use Rattle.programs.specs.Examples.{Listing-closes, Odd-lines-answered}
 
 -- What is computed: the answers to lines and a rest.
 
@@ -54,6 +54,7 @@ record Computed : Type 0 where
   day : answers-to day-lines (bytes "(close)") ≡ answers
   listing : answers-to listing-lines [] ≡ joined listing-answers []
   odd : answers-to odd-lines (bytes "(view 0)") ≡ joined odd-answers []
+  close : Listing-closes
 
 computed : Computed
 unfolding replies after-lines joined reply reply-records record-lines tally-records next outcome
@@ -61,8 +62,8 @@ unfolding replies after-lines joined reply reply-records record-lines tally-reco
     is-digit template in-slot in-range line text filled slot-text names-text piece numbers numeral numeral-in
     numbers-after call first-failed sound sound-record blank sum count every table within size member
     width-holds weight share whole claim total-takings total-claim total-budgets sound-plan priced counted uncounted
-    empty sound-campaign best choice collect without
-computed = record { day = refl; listing = refl; odd = refl }
+    empty sound-campaign best choice collect without upto
+computed = record { day = refl; listing = refl; odd = refl; close = refl }
 
 -- What is handed back.
 
@@ -245,6 +246,9 @@ listing-plain = ((refl, (refl, (refl, (refl, (refl, (refl, (refl, (refl, (refl, 
 
 pub listing-answered : Listing-answered
 listing-answered = answered listing-lines [] listing-answers listing-plain (computed .listing)
+
+pub listing-closes : Listing-closes
+listing-closes = computed .close
 
 odd-plain : All-plain odd-lines × Plain (bytes "(view 0)")
 unfolding upto

@@ -6,9 +6,7 @@ use mathlib.Core.Bool.{Bool, true, false, cond, _&&_}
 use mathlib.Core.List.{List, [], _∷_, _++_, append-assoc, append-nil}
 use Prim.Native.Nat.{ℕ, suc, _+_, _≤_, _<_}
 use native.Mathlib.Omega.{arith}
-use lib.Dec.{eqb}
-use lib.ListN.{getD, take}
-use borrow.Author.Tests.{eqb-true, ne-eqb}
+use borrow.Author.Tests.{ne-eqb}
 use Rattle.finite.specs.Finite.{total}
 use Rattle.finite.proofs.Tables.{total-snoc}
 use Rattle.lines.specs.declared.Record.{Record}
@@ -16,10 +14,7 @@ use Rattle.lines.specs.declared.Record.the-variants.{Plan, Campaign, Start, Vie
 use Rattle.lines.specs.declared.Record.the-variants.{Closed, Tally, Pause, Resume}
 use Rattle.lines.specs.declared.Reading.{Reading}
 use Rattle.lines.specs.declared.Reading.the-variants.{Got, Refusal}
-use Rattle.lines.specs.Form.{text, in-range}
 use Rattle.lines.specs.Reading.{reading}
-use Rattle.lines.proofs.Inverse.{one-text}
-use Rattle.writer.specs.Writing.{line}
 use Rattle.campaigns.specs.declared.Terms.{Terms}
 use Rattle.campaigns.specs.declared.View.{View as Lift}
 use Rattle.campaigns.specs.View.{full}
@@ -268,18 +263,24 @@ noon-is ls =
     (subst⁻¹ (λ (xs : List Exchange). Noon-floor (history xs) (final blank (calls-of ls))) (exchanges-are blank ls)
     (noon-at-end blank (calls-of ls) (from-blank (calls-of ls))))
 
-closing-figures : (ls : List (List ℕ)) (t c f : ℕ) → Closed t c f ≡ closed-by (after-lines blank ls)
-    → (floor-figure (after-lines blank ls) ≤ c) × (c ≤ f) × (f ≡ full (day-of ls .plan) t)
-closing-figures ls t c f e =
-    let s = after-lines blank ls in
-    let n = noon-is ls in
-    let same-t : t ≡ total-takings s = closed-takings t c f _ _ _ e in
-    let same-c : c ≡ total-claim s = closed-claim t c f _ _ _ e in
-    let same-f : f ≡ full (s .plan) (total-takings s) = closed-full t c f _ _ _ e in (
-      subst⁻¹ (λ (x : ℕ). floor-figure s ≤ x) same-c (n .claim-above),
-      subst⁻¹ (λ (x : ℕ). x ≤ f) same-c (subst⁻¹ (λ (x : ℕ). total-claim s ≤ x) same-f (n .claim-below)),
-      same-f ∙ ap₂ full (n .plan-is) (sym same-t),
-    )
+module _ (ls : List (List ℕ)) (t c f : ℕ) (e : Closed t c f ≡ closed-by (after-lines blank ls)) where
+  closing-takings : t ≡ total-takings (after-lines blank ls)
+  closing-takings = closed-takings t c f _ _ _ e
+
+  closing-claim : c ≡ total-claim (after-lines blank ls)
+  closing-claim = closed-claim t c f _ _ _ e
+
+  closing-full : f ≡ full (day-of ls .plan) t
+  closing-full = closed-full t c f _ _ _ e ∙ ap₂ full (noon-is ls .plan-is) (sym closing-takings)
+
+  closing-figures : (floor-figure (after-lines blank ls) ≤ c) × (c ≤ f)
+  closing-figures =
+      let s = after-lines blank ls in
+      let n = noon-is ls in (
+        subst⁻¹ (λ (x : ℕ). floor-figure s ≤ x) closing-claim (n .claim-above),
+        subst⁻¹ (λ (x : ℕ). x ≤ f) closing-claim
+            (subst⁻¹ (λ (x : ℕ). total-claim s ≤ x) (closed-full t c f _ _ _ e) (n .claim-below)),
+      )
 
 agrees-is : (ls : List (List ℕ)) (B : Terms → ℕ) → Buys-alike B → 1 < day-of ls .plan .width
     → Day-agrees B (day-of ls) (after-lines blank ls)
@@ -301,7 +302,11 @@ lines-keep-the-demands ls =
       floor = floor-is ls;
       noon = noon-is ls;
       closing-is = λ l t c f e.
-          closed-takings t c f _ _ _ (line-closes (after-lines blank ls) t c f l e) ∙ floor-is ls .takings-is ∙ p;
+          let k = line-closes (after-lines blank ls) t c f l e in (
+            closing-takings ls t c f k ∙ floor-is ls .takings-is ∙ p,
+            closing-claim ls t c f k,
+            closing-full ls t c f k,
+          );
       closing-noon = λ l t c f e. closing-figures ls t c f (line-closes (after-lines blank ls) t c f l e);
       agrees = agrees-is ls;
     }

@@ -1,19 +1,25 @@
 -- That the theorem for any chunking has something to speak of: every list of blocks can be handed to a new stream, and
 -- a day in two blocks, with the answers that it gets; a block of which a part is taken for want of room. Document 01's
--- listing, and a day with lines that are refused, each as a whole input and what answers it.
+-- listing, and a day with lines that are refused, each as a whole input and what answers it; and the listing's close,
+-- of which `Of-lines.closing-is` and `Of-lines.closing-noon` speak.
 use mathlib.Core.Path.{_≡_}
 use mathlib.Core.List.{List, [], _∷_, _++_}
 use Prim.Native.Nat.{ℕ, _+_, _≤_}
 use Prim.Native.String.{String}
 use lib.ListN.{length, take, replicate}
+use Rattle.lines.specs.declared.Record.the-variants.{Closed}
+use Rattle.lines.specs.declared.Reading.the-variants.{Got}
 use Rattle.lines.specs.Form.{bytes}
+use Rattle.lines.specs.Reading.{reading}
 use Rattle.day.specs.Day.{blank}
+use Rattle.reply.specs.Reply.{reply}
 use Rattle.reply.specs.Session.{reply-room}
 use Rattle.stream.specs.declared.feed.Fed.{Fed}
 use Rattle.stream.specs.Stream.{new-stream, session-of, Feeds, Finishes}
 use Rattle.stream.specs.Listing.{lines-of, listing-lines, listing-answers}
 use Rattle.stream.specs.Chunking.{joined, after-lines, replies, last-reply, Split}
 use Rattle.stream.specs.Chunking.{Feeding, In-blocks, stream-after, all-written, all-output}
+use Rattle.programs.specs.Lines.{first-line}
 
 -- the blocks as one input
 abbrev pub in-one : List (List ℕ) → List ℕ
@@ -82,6 +88,11 @@ Answers ls rest told = all-output (session-of new-stream) (joined ls rest) ≡ j
 -- document 01's listing
 abbrev pub Listing-answered : Type 0
 Listing-answered = Answers listing-lines [] listing-answers
+
+-- behind its other lines the last, (close), is answered (closed (takings 16) (claim 48) (full 64))
+abbrev pub Listing-closes : Type 0
+Listing-closes =
+    reading (first-line (reply (after-lines blank (take 10 listing-lines)) (bytes "(close)"))) ≡ Got (Closed 16 48 64)
 
 -- a running day with an empty line, an output form, a line of 200 bytes that is no form, one of 201 bytes and one of
 -- 402, and a last line without byte 10
