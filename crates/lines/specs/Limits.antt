@@ -35,7 +35,7 @@ set-bits = max-campaign + 1
 abbrev pub max-question : ℕ
 max-question = 19
 
--- the most cents that takings, claim and full run up to
+-- what takings, claim and full run up to
 abbrev pub max-money : ℕ
 max-money = 18446744073709551615
 

@@ -23,7 +23,7 @@ pub const SET_BITS: u64 = MAX_CAMPAIGN + 1;
 // The highest refusal number.
 pub const MAX_QUESTION: u64 = 19;
 
-// The most cents of takings, claim and full.
+// What takings, claim and full run up to.
 pub const MAX_MONEY: u64 = 18_446_744_073_709_551_615;
 
 // The set of a view: all of 64 bits.

@@ -38,7 +38,7 @@ use Rattle.stream.proofs.Chunking.{fed-said, fed-lines, any-input, any-chunking
 use Rattle.programs.specs.Examples.{in-one, blocks-of, Any-blocks}
 use Rattle.stream.specs.Listing.{lines-of, listing-lines, listing-answers}
 use Rattle.programs.specs.Examples.{Handed, first-block, second-block, answers, Day-in-two-blocks, two-lines}
-use Rattle.programs.specs.Examples.{In-part, Answers, Listing-answered, odd-lines, odd-answers}
+use Rattle.programs.specs.Examples.{In-part, Input-answered, Listing-answered, odd-lines, odd-answers}
 use Rattle.programs.specs.Examples.{Listing-closes, Odd-lines-answered}
 
 -- What is computed: the answers to lines and a rest.
@@ -237,7 +237,7 @@ in-part = record {
 
 -- the answers to its lines and its rest are those to the input
 answered : (ls : List (List ℕ)) (rest : List ℕ) (told : List (List ℕ)) → All-plain ls × Plain rest
-    → answers-to ls rest ≡ joined told [] → Answers ls rest told
+    → answers-to ls rest ≡ joined told [] → Input-answered ls rest told
 answered ls rest told p e = any-input (joined ls rest) ls rest (p .0) (p .1) refl ∙ e
 
 listing-plain : All-plain listing-lines × Plain []

@@ -43,10 +43,11 @@ use Rattle.refinement.proofs.Days.{days-as-algorithm-4}
 use Rattle.reply.specs.Reply.{Request, request, request-of, executed, outcome, tally-records, answer-records}
 use Rattle.reply.specs.Reply.{is-closing, reply-records, reply, next}
 use Rattle.reply.specs.Reply.Request.{makes, fails}
+use Rattle.reply.specs.Session.{first-line}
 use Rattle.reply.specs.Answered.{Output-lines}
 use Rattle.reply.proofs.Replies.{Said, line-said, answers-each}
 use Rattle.stream.specs.Chunking.{after-lines, replies}
-use Rattle.programs.specs.Lines.{with-request, calls-of, with-exchange, exchanges, first-line, is-plan, is-ok}
+use Rattle.programs.specs.Lines.{with-request, calls-of, with-exchange, exchanges, is-plan, is-ok}
 use Rattle.programs.specs.Lines.{price-in, of-reading, sum-after, sum-over, sum-paid, day-of}
 use Rattle.programs.specs.Lines.{Lines-keep-the-demands, Rest-is-a-line}
 

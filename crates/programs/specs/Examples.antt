@@ -13,13 +13,12 @@ use Rattle.lines.specs.Form.{bytes}
 use Rattle.lines.specs.Reading.{reading}
 use Rattle.day.specs.Day.{blank}
 use Rattle.reply.specs.Reply.{reply}
-use Rattle.reply.specs.Session.{reply-room}
+use Rattle.reply.specs.Session.{reply-room, first-line}
 use Rattle.stream.specs.declared.feed.Fed.{Fed}
 use Rattle.stream.specs.Stream.{new-stream, session-of, Feeds, Finishes}
 use Rattle.stream.specs.Listing.{lines-of, listing-lines, listing-answers}
 use Rattle.stream.specs.Chunking.{joined, after-lines, replies, last-reply, Split}
 use Rattle.stream.specs.Chunking.{Feeding, In-blocks, stream-after, all-written, all-output}
-use Rattle.programs.specs.Lines.{first-line}
 
 -- the blocks as one input
 abbrev pub in-one : List (List ℕ) → List ℕ
@@ -82,12 +81,12 @@ pub record In-part : Type 0 where
   pub both : Takes (reply-room + 13) 22 ("(refused 17)" ∷ "(refused 17)" ∷ [])
 
 -- a new stream answers the input of these lines and a rest by these lines, and nothing else
-abbrev pub Answers : (lines : List (List ℕ)) → (rest : List ℕ) → (answers : List (List ℕ)) → Type 0
-Answers ls rest told = all-output (session-of new-stream) (joined ls rest) ≡ joined told []
+abbrev pub Input-answered : (lines : List (List ℕ)) → (rest : List ℕ) → (answers : List (List ℕ)) → Type 0
+Input-answered ls rest told = all-output (session-of new-stream) (joined ls rest) ≡ joined told []
 
 -- document 01's listing
 abbrev pub Listing-answered : Type 0
-Listing-answered = Answers listing-lines [] listing-answers
+Listing-answered = Input-answered listing-lines [] listing-answers
 
 -- behind its other lines the last, (close), is answered (closed (takings 16) (claim 48) (full 64))
 abbrev pub Listing-closes : Type 0
@@ -108,4 +107,4 @@ odd-answers =
     "(play 0 (paid 5))" ∷ [])
 
 abbrev pub Odd-lines-answered : Type 0
-Odd-lines-answered = Answers odd-lines (bytes "(view 0)") odd-answers
+Odd-lines-answered = Input-answered odd-lines (bytes "(view 0)") odd-answers

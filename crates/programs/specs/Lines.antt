@@ -4,7 +4,6 @@ use mathlib.Core.Path.{_≡_}
 use mathlib.Core.Bool.{Bool, true, false, cond, _&&_}
 use mathlib.Core.List.{List, [], _∷_, _++_}
 use Prim.Native.Nat.{ℕ, _+_, _≤_, _<_}
-use lib.ListN.{take}
 use Rattle.lines.specs.declared.Record.{Record}
 use Rattle.lines.specs.declared.Record.the-variants.{Plan, Campaign, Start, View, Close, Done, Play, Nobody, Refused}
 use Rattle.lines.specs.declared.Record.the-variants.{Closed, Tally, Pause, Resume}
@@ -26,7 +25,7 @@ use Rattle.refinement.specs.Correspondence.{Buys-alike}
 use Rattle.refinement.specs.Days.{Day-agrees}
 use Rattle.reply.specs.Reply.{Request, request-of, outcome, reply, next}
 use Rattle.reply.specs.Reply.Request.{makes, fails}
-use Rattle.reply.specs.Session.{upto}
+use Rattle.reply.specs.Session.{first-line}
 use Rattle.stream.specs.Chunking.{after-lines, replies, last-reply, with-rest}
 
 -- The calls.
@@ -50,10 +49,6 @@ exchanges s [] = []
 exchanges s (l ∷ ls) = with-exchange (request-of (reading l)) (outcome s l .answer) (exchanges (next s l) ls)
 
 -- What was paid, told by the text alone.
-
--- what the first line of an answer says
-abbrev pub first-line : List ℕ → List ℕ
-first-line w = take (upto w) w
 
 abbrev pub is-plan : Record → Bool
 is-plan (Plan k d) = true

@@ -4,7 +4,7 @@ use mathlib.Core.Path.{_≡_}
 use mathlib.Core.Bool.{true, cond}
 use mathlib.Core.List.{List, [], _∷_}
 use Prim.Native.Nat.{ℕ, suc, _≤_}
-use lib.ListN.{length, take, drop, getD}
+use lib.ListN.{length, drop, getD}
 use Rattle.lines.specs.declared.Record.{Record}
 use Rattle.lines.specs.declared.Reading.the-variants.{Got}
 use Rattle.lines.specs.Limits.{max-question}
@@ -13,13 +13,13 @@ use Rattle.lines.specs.Reading.{reading}
 use Rattle.day.specs.declared.Answer.the-variants.{Refused as refusing}
 use Rattle.day.specs.declared.Day.{Day}
 use Rattle.reply.specs.Reply.{outcome, is-closing, reply-records, reply, next}
-use Rattle.reply.specs.Session.{upto}
+use Rattle.reply.specs.Session.{upto, first-line}
 
 -- the first line of w, without its byte 10, is read as r, an output form whose numbers are in their ranges
 pub record Output-line (w : List ℕ) (r : Record) : Type 0 where
   pub output : is-output r ≡ true
   pub ranged : in-range r ≡ true
-  pub reads : reading (take (upto w) w) ≡ Got r
+  pub reads : reading (first-line w) ≡ Got r
   pub ends : getD w (upto w) 0 ≡ 10
 
 -- the lines of w, and nothing else, are such lines of these records
