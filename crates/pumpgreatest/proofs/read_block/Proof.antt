@@ -12,7 +12,7 @@ returns : tie.Need-returns
 returns c =
     let t = c .before .before .before .before in
     let r = after-read (t .before .before .before .before) .read in
-    record { n = r .result .n; reads = r .ensures; took = t .take-block .ensures }
+    record { n = r .result .n; reads = r .ensures; took = t .take-block .ensures .0 }
 
 pub read-block-spec : {M : Type 1} → statement M
 read-block-spec =
