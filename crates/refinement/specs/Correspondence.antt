@@ -48,9 +48,10 @@ abbrev pub compared-quantity : Instance → ℕ → (age : ℕ) → Fraction
 compared-quantity I i age = C I ⊗ integer (I .b i) ⊗ power (I .d ÷ (I .d - 1)) age
 
 -- document 01's score, price × W(age), orders campaigns of any prices and ages as that quantity does
-abbrev pub Scores-order : Instance → Type 0
-Scores-order I =
-    (m i a a′ : ℕ) → a ≤ I .k → a′ ≤ I .k → less (compared-quantity I m a) (compared-quantity I i a′)
+abbrev pub Scores-order : Type 0
+Scores-order =
+    (I : Instance) → 0 < I .k → 1 < I .d → (m i a a′ : ℕ) → a ≤ I .k → a′ ≤ I .k
+    → less (compared-quantity I m a) (compared-quantity I i a′)
     ≡ ltb (I .b m * weight (I .k) (I .d) a) (I .b i * weight (I .k) (I .d) a′)
 
 -- a campaign's counts stand for the variables of advertiser i before slot j: its age is the degree of the current copy;
