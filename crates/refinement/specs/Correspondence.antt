@@ -3,7 +3,7 @@
 use mathlib.Core.Path.{_≡_}
 use mathlib.Core.Bool.{true, false}
 use mathlib.Core.List.{List, [], _∷_, map}
-use Prim.Native.Nat.{ℕ, _-_, _*_, _/_, _≤_, _<_}
+use Prim.Native.Nat.{ℕ, _-_, _*_, _≤_, _<_}
 use lib.Dec.{ltb}
 use lib.ListN.{length}
 use Rattle.finite.specs.Finite.{sum}
@@ -14,7 +14,7 @@ use Rattle.campaigns.specs.declared.Terms.{Terms}
 use Rattle.campaigns.specs.declared.View.{View}
 use Rattle.campaigns.specs.Choice.{Choice}
 use Rattle.campaigns.specs.Choice.Choice.{nobody, plays}
-use Rattle.campaigns.specs.Campaign.{fresh}
+use Rattle.campaigns.specs.Campaign.{whole-plays, fresh}
 use Rattle.campaigns.specs.View.{names, chosen-of, viewed}
 use Rattle.refinement.specs.Fraction.{Fraction, _÷_, integer, _⊖_, _⊗_, power, less, _≈_}
 use Rattle.refinement.specs.Algorithm4.{Instance, Neighbors, Variables, C, part, feasible-neighbor, quantity}
@@ -24,11 +24,11 @@ use Rattle.refinement.specs.Algorithm4.{line-9, algorithm-4, matches}
 -- B_i: "Without loss of generality, B_i/b_i is integral". The budget that was handed in, the budget without the cents
 -- left over, and any other amount that buys as many whole plays will do.
 abbrev pub Buys-alike : (Terms → ℕ) → Type 0
-Buys-alike B = (t : Terms) → B t / t .price ≡ t .budget / t .price
+Buys-alike B = (t : Terms) → whole-plays (t .price) (B t) ≡ whole-plays (t .price) (t .budget)
 
 -- the budget without the cents left over: price × whole plays
 abbrev pub spendable : Terms → ℕ
-spendable t = t .price * (t .budget / t .price)
+spendable t = t .price * whole-plays (t .price) (t .budget)
 
 -- k is the depth, d the width, the advertisers are n campaigns, and b_i is the price of campaign i
 abbrev pub instance : (Terms → ℕ) → Plan → (n : ℕ) → (ℕ → Terms) → Instance
