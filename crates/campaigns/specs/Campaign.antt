@@ -111,24 +111,17 @@ untouched (Closed t) c = true
 unfoldable pub sound-campaign : Phase → Plan → (accepted : ℕ) → Campaign → Bool
 sound-campaign p pl n c = priced c && counted pl n c && untouched p c
 
--- the state holds campaigns by columns in two arrays: prices and budgets; plays, turns, ages and named. Campaign i's
--- entry of the first column is i, and those of the later ones are
-abbrev pub column-2 : ℕ → ℕ
-column-2 i = i + max-campaigns
+-- the state holds campaigns by columns in two arrays: where campaign i stands in column c, of which the first is 0
+abbrev pub column : (c i : ℕ) → ℕ
+column c i = i + c * max-campaigns
 
-abbrev pub column-3 : ℕ → ℕ
-column-3 i = i + 2 * max-campaigns
-
-abbrev pub column-4 : ℕ → ℕ
-column-4 i = i + 3 * max-campaigns
-
--- campaign i of them
+-- prices and budgets; plays, turns, ages and named
 abbrev pub campaign-at : (terms counts : List ℕ) → ℕ → Campaign
 campaign-at t n i = record {
   price = getD t i 0;
-  budget = getD t (column-2 i) 0;
+  budget = getD t (column 1 i) 0;
   plays = getD n i 0;
-  turns = getD n (column-2 i) 0;
-  age = getD n (column-3 i) 0;
-  named = getD n (column-4 i) 0;
+  turns = getD n (column 1 i) 0;
+  age = getD n (column 2 i) 0;
+  named = getD n (column 3 i) 0;
 }

@@ -9,14 +9,14 @@ use Rattle.campaigns.specs.declared.Campaign.{Campaign}
 use Rattle.campaigns.specs.declared.Plan.{Plan}
 use Rattle.campaigns.specs.declared.View.{View}
 use Rattle.campaigns.specs.Limits.{max-campaigns, max-views}
-use Rattle.campaigns.specs.Campaign.{priced, column-2, column-3, column-4, campaign-at}
+use Rattle.campaigns.specs.Campaign.{priced, column, campaign-at}
 use Rattle.campaigns.specs.View.{names}
 use Rattle.campaigns.specs.Contracts.{Sized}
 
 -- the counts of campaign c at i
 abbrev pub put : List ℕ → ℕ → Campaign → List ℕ
 put n i c =
-    set (set (set (set n i (c .plays)) (column-2 i) (c .turns)) (column-3 i) (c .age)) (column-4 i) (c .named)
+    set (set (set (set n i (c .plays)) (column 1 i) (c .turns)) (column 2 i) (c .age)) (column 3 i) (c .named)
 
 -- an array of counts that, beside the terms, holds campaigns g
 pub record Counts (g : ℕ → Campaign) (terms counts : List ℕ) : Type 0 where

@@ -17,10 +17,10 @@ in-filling : Cases-of Filling
 unfolding first-failed sound sound-record sum count every table within member weight share whole claim sound-plan
     priced counted uncounted empty sound-campaign times takings certified greatest most failed fits takings-answer
 in-filling = record {
-  all-asked = refl;
+  check-asks = refl;
+  search-asks = refl;
   all-checked = refl;
   searched = refl;
-  refused = refl;
   taken = refl;
   taken-not-sound = refl;
 }
@@ -29,10 +29,10 @@ in-running : Cases-of Running
 unfolding first-failed sound sound-record sum count every table within member weight share whole claim sound-plan
     priced counted uncounted empty sound-campaign times takings certified greatest most failed fits takings-answer
 in-running = record {
-  all-asked = refl;
+  check-asks = refl;
+  search-asks = refl;
   all-checked = refl;
   searched = refl;
-  refused = refl;
   taken = refl;
   taken-not-sound = refl;
 }
@@ -41,17 +41,17 @@ in-closed : Cases-of (Closed 0)
 unfolding first-failed sound sound-record sum count every table within member weight share whole claim sound-plan
     priced counted uncounted empty sound-campaign times takings certified greatest most failed fits takings-answer
 in-closed = record {
-  all-asked = refl;
+  check-asks = refl;
+  search-asks = refl;
   all-checked = refl;
   searched = refl;
-  refused = refl;
   taken = refl;
   taken-not-sound = refl;
 }
 
 pub examples : Examples
 unfolding first-failed sound sound-record sum count every table within member weight share whole claim sound-plan
-    priced counted uncounted empty sound-campaign failed takings-answer
+    priced counted uncounted empty sound-campaign times takings certified failed fits takings-answer
 examples = record {
   filling = in-filling;
   running = in-running;

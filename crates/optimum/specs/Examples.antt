@@ -13,7 +13,7 @@ use Rattle.optimum.specs.declared.Optimum.{Optimum}
 use Rattle.optimum.specs.declared.Optimum.the-variants as optimum
 use Rattle.optimum.specs.declared.Verdict.{Verdict}
 use Rattle.optimum.specs.declared.Verdict.the-variants as verdict
-use Rattle.optimum.specs.Optimum.{failed, search-answer, takings-answer, checked}
+use Rattle.optimum.specs.Optimum.{number, search-answer, takings-answer, verdict-number, checked}
 
 -- the two campaigns, in a phase, with zero counts but the accepted views: 0 is sound, 4,097 is not
 abbrev pub two-campaigns : Phase → (accepted : ℕ) → Day
@@ -21,8 +21,8 @@ two-campaigns p a = state-with
     (record { phase = p; plan = record { depth = 2; width = 2 }; count = 2; accepted = a; paused = 0 })
     (λ i. fresh (getD (record { price = 5; budget = 10 } ∷ record { price = 3; budget = 3 } ∷ []) i no-terms))
 
--- the question that fails first, or 0, where so many entries are lent for an allotment, for campaign figures and for
--- view figures
+-- the question that fails first, or 0, where so many entries, all 0, are lent for an allotment, for campaign figures and
+-- for view figures
 pub record Asking : Type 0 where
   pub accepted : ℕ
   pub views : List ℕ
@@ -41,10 +41,14 @@ asking n views a c v q = record {
   question = q;
 }
 
-abbrev pub failed-in : Phase → Asking → ℕ
-failed-in p x =
-    failed (two-campaigns p (x .accepted)) (x .views) (replicate (x .for-allotment) 0) (replicate (x .for-campaigns) 0)
-    (replicate (x .for-views) 0)
+-- the numbers of the answers of the check and of the search
+abbrev pub check-number : Phase → Asking → ℕ
+check-number p x = verdict-number (checked (two-campaigns p (x .accepted)) (x .views) (replicate (x .for-allotment) 0)
+    (replicate (x .for-campaigns) 0) (replicate (x .for-views) 0))
+
+abbrev pub search-number : Phase → Asking → ℕ
+search-number p x = number (search-answer (two-campaigns p (x .accepted)) (x .views) (replicate (x .for-allotment) 0)
+    (replicate (x .for-campaigns) 0) (replicate (x .for-views) 0))
 
 -- view 3 names both campaigns, view 4 one outside the plan
 abbrev pub askings : List Asking
@@ -97,12 +101,11 @@ checkings =
 
 -- in every phase alike; the search of the four views takes 13, and the takings of an allotment are its prices
 pub record Cases-of (p : Phase) : Type 0 where
-  pub all-asked : map (failed-in p) askings ≡ map (λ x. x .question) askings
+  pub check-asks : map (check-number p) askings ≡ map (λ x. x .question) askings
+  pub search-asks : map (search-number p) askings ≡ map (λ x. x .question) askings
   pub all-checked : map (checked-in p) checkings ≡ map (λ x. x .answer) checkings
   pub searched : search-answer (two-campaigns p 0) four-views (replicate 4 0) (replicate 2 0) (replicate 4 0)
       ≡ optimum.Takings 13
-  pub refused : search-answer (two-campaigns p 0) four-views (replicate 3 0) (replicate 2 0) (replicate 4 0)
-      ≡ optimum.Refused 18
   pub taken : takings-answer (two-campaigns p 0) (0 ∷ nobody ∷ 1 ∷ 0 ∷ []) ≡ optimum.Takings 13
   pub taken-not-sound : takings-answer (two-campaigns p 4_097) (0 ∷ []) ≡ optimum.Refused 1
 
@@ -110,5 +113,5 @@ pub record Examples : Type 0 where
   pub filling : Cases-of Filling
   pub running : Cases-of Running
   pub closed : Cases-of (Closed 0)
-  pub many : map (failed-in Running) askings-of-many ≡ map (λ x. x .question) askings-of-many
+  pub many : map (check-number Running) askings-of-many ≡ map (λ x. x .question) askings-of-many
   pub takings-of-many : takings-answer (two-campaigns Running 0) (replicate 257 0) ≡ optimum.Refused 19
