@@ -105,7 +105,8 @@ pub fn play<'a>(
     requires { ⌜ Weights plan (now weights) ⌝ }
     requires { ⌜ Sized (now terms) (now counts) ⌝ }
     requires { ⌜ In-bounds plan view (campaign-at (now terms) (now counts)) ⌝ }
-    ensures { λ r. ⌜ r ≡ candidate-of plan view (campaign-at (now (terms .entry)) (now (counts .entry))) max-campaigns ⌝ }
+    ensures { λ r. ⌜ r ≡ candidate-of plan view (campaign-at (now (terms .entry)) (now (counts .entry)))
+        max-campaigns ⌝ }
     ensures { λ r. ⌜ Counts (after-view plan view r (campaign-at (now (terms .entry)) (now (counts .entry))))
         (now (terms .entry)) (now (counts .exit)) ⌝ }
 {

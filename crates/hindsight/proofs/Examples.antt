@@ -52,7 +52,8 @@ example {cs} {xs} {s} allotment surplus worth t f starts accepted paid taken sho
       short-is = ap (λ (h : History). given-short h (at allotment)) day ∙ short;
     }
 
-listing-example : Example (calls-made listing) (0 ∷ 0 ∷ 1 ∷ nobody ∷ 1 ∷ []) (5 ∷ 3 ∷ []) (0 ∷ 0 ∷ 0 ∷ 0 ∷ 0 ∷ []) 16 16 0
+listing-example : Example (calls-made listing) (0 ∷ 0 ∷ 1 ∷ nobody ∷ 1 ∷ []) (5 ∷ 3 ∷ []) (0 ∷ 0 ∷ 0 ∷ 0 ∷ 0 ∷ []) 16
+    16 0
 unfolding continued first-failed sound sound-record sum count every table total within size member weight share whole
     claim total-takings total-claim total-budgets sound-plan priced counted uncounted empty sound-campaign times takings
     certified failed fits collect without including marked
@@ -66,7 +67,8 @@ left-two : (question : ℕ) (before after : List ℕ) → question ≡ 0 → len
 left-two question before after q b a = record {
   same-length = a ∙ sym b;
   refused = λ no. absurd (no q);
-  beyond = λ j l. List·getD-eq-default after 0 (omega (arith, a)) ∙ sym (List·getD-eq-default before 0 (omega (arith, b)));
+  beyond = λ j l. List·getD-eq-default after 0 (omega (arith, a))
+      ∙ sym (List·getD-eq-default before 0 (omega (arith, b)));
 }
 
 short-searched : Searched (final blank short-calls) (own-views (recorded-day short-calls)) (0 ∷ 0 ∷ []) (1 ∷ 0 ∷ [])

@@ -55,7 +55,8 @@ pub record Search-worked (allotment surplus worth allotment' surplus' worth' : L
       surplus' worth worth' (Takings 4)
 
 pub record Examples : Type 0 where
-  pub of-listing : Example (calls-made listing) (0 ∷ 0 ∷ 1 ∷ nobody ∷ 1 ∷ []) (5 ∷ 3 ∷ []) (0 ∷ 0 ∷ 0 ∷ 0 ∷ 0 ∷ []) 16 16 0
+  pub of-listing : Example (calls-made listing) (0 ∷ 0 ∷ 1 ∷ nobody ∷ 1 ∷ []) (5 ∷ 3 ∷ []) (0 ∷ 0 ∷ 0 ∷ 0 ∷ 0 ∷ [])
+      16 16 0
   pub short : Example short-calls (1 ∷ 0 ∷ []) (2 ∷ 2 ∷ []) (0 ∷ 0 ∷ []) 2 4 2
   pub not-covered : Covered (recorded-day short-calls) 4 → ⊥
   pub paused : Example paused-listed (1 ∷ 0 ∷ nobody ∷ []) (5 ∷ 0 ∷ []) (3 ∷ 0 ∷ 0 ∷ []) 5 8 3

@@ -21,8 +21,8 @@ two-campaigns p a = state-with
     (record { phase = p; plan = record { depth = 2; width = 2 }; count = 2; accepted = a; paused = 0 })
     (λ i. fresh (getD (record { price = 5; budget = 10 } ∷ record { price = 3; budget = 3 } ∷ []) i no-terms))
 
--- the question that fails first, or 0, where so many entries, all 0, are lent for an allotment, for campaign figures and
--- for view figures
+-- the question that fails first, or 0, where so many entries, each 0, are lent for an allotment, for campaign figures
+-- and for view figures
 pub record Asking : Type 0 where
   pub accepted : ℕ
   pub views : List ℕ
