@@ -43,6 +43,7 @@ extern "C" {
 /* The limits of a plan and its campaigns; money is in cents. */
 #define WEZGHULI_MAX_DEPTH 32
 #define WEZGHULI_MAX_WIDTH 16
+#define WEZGHULI_MAX_POWER 4294967296 /* of width to the power depth */
 #define WEZGHULI_MAX_CAMPAIGNS 64
 #define WEZGHULI_MAX_VIEWS 4096
 #define WEZGHULI_MAX_PRICE 1000000
