@@ -99,19 +99,22 @@ checkings =
     -- a question is asked first
     checking (0 ∷ 1 ∷ 0 ∷ []) (5 ∷ 3 ∷ []) (0 ∷ 0 ∷ 0 ∷ 0 ∷ []) (verdict.Refused 18) ∷ []
 
--- in every phase alike; the search of the four views takes 13, and the takings of an allotment are its prices
-pub record Cases-of (p : Phase) : Type 0 where
-  pub check-asks : map (check-number p) askings ≡ map (λ x. x .question) askings
-  pub search-asks : map (search-number p) askings ≡ map (λ x. x .question) askings
-  pub all-checked : map (checked-in p) checkings ≡ map (λ x. x .answer) checkings
-  pub searched : search-answer (two-campaigns p 0) four-views (replicate 4 0) (replicate 2 0) (replicate 4 0)
-      ≡ optimum.Takings 13
-  pub taken : takings-answer (two-campaigns p 0) (0 ∷ nobody ∷ 1 ∷ 0 ∷ []) ≡ optimum.Takings 13
-  pub taken-not-sound : takings-answer (two-campaigns p 4_097) (0 ∷ []) ≡ optimum.Refused 1
+-- f gives a in every phase
+abbrev pub phases : List Phase
+phases = Filling ∷ Running ∷ Closed 0 ∷ []
 
+abbrev pub In-each-phase : {A : Type 0} → (Phase → A) → A → Type 0
+In-each-phase f a = map f phases ≡ map (λ p. a) phases
+
+-- the search of the four views takes 13, and the takings of an allotment are its prices
 pub record Examples : Type 0 where
-  pub filling : Cases-of Filling
-  pub running : Cases-of Running
-  pub closed : Cases-of (Closed 0)
+  pub check-asks : In-each-phase (λ p. map (check-number p) askings) (map (λ x. x .question) askings)
+  pub search-asks : In-each-phase (λ p. map (search-number p) askings) (map (λ x. x .question) askings)
+  pub all-checked : In-each-phase (λ p. map (checked-in p) checkings) (map (λ x. x .answer) checkings)
+  pub searched : In-each-phase
+      (λ p. search-answer (two-campaigns p 0) four-views (replicate 4 0) (replicate 2 0) (replicate 4 0))
+      (optimum.Takings 13)
+  pub taken : In-each-phase (λ p. takings-answer (two-campaigns p 0) (0 ∷ nobody ∷ 1 ∷ 0 ∷ [])) (optimum.Takings 13)
+  pub taken-not-sound : In-each-phase (λ p. takings-answer (two-campaigns p 4_097) (0 ∷ [])) (optimum.Refused 1)
   pub many : map (check-number Running) askings-of-many ≡ map (λ x. x .question) askings-of-many
   pub takings-of-many : takings-answer (two-campaigns Running 0) (replicate 257 0) ≡ optimum.Refused 19
