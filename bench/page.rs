@@ -12,7 +12,7 @@ extern "C" {
         counts: *const u16,
         out: *mut u8,
         out_len: usize,
-        length: *mut u64,
+        written: *mut u64,
     ) -> u64;
 }
 

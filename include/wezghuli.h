@@ -43,6 +43,7 @@ extern "C" {
 /* The limits of a plan and its campaigns; money is in cents. */
 #define WEZGHULI_MAX_DEPTH 32
 #define WEZGHULI_MAX_WIDTH 16
+#define WEZGHULI_MAX_POWER 4294967296 /* of width to the power depth */
 #define WEZGHULI_MAX_CAMPAIGNS 64
 #define WEZGHULI_MAX_VIEWS 4096
 #define WEZGHULI_MAX_PRICE 1000000
@@ -124,7 +125,7 @@ typedef struct {
  * {{0}, {0}}; it may be copied, stored and sent as a state may. The library writes zero bytes behind those it keeps. */
 typedef struct {
     uint64_t words[3];    /* see WEZGHULI_STREAM_.. */
-    uint8_t pending[201]; /* the first words[WEZGHULI_STREAM_KEPT] of them are kept */
+    uint8_t pending[WEZGHULI_LINE_BUFFER]; /* the first words[WEZGHULI_STREAM_KEPT] of them are kept */
 } wezghuli_stream;
 
 /* The words of a stream. */
@@ -185,8 +186,9 @@ uint64_t wezghuli_resume(uint64_t head[7], uint32_t terms[128], uint16_t counts[
 /* The figures at noon, in any phase; the state stays. figures[WEZGHULI_NOON_FULL] is width^depth x takings,
  * figures[WEZGHULI_NOON_CLAIM] the total claim, and figures[WEZGHULI_NOON_FLOOR] is
  * (width^depth - (width - 1)^depth) x the sum, over campaigns, of price x the smaller of whole plays (budget / price)
- * and named / depth, both rounded down. Of a state that operations made from the blank one, floor <= claim <= full at
- * every moment; of any other sound state only the figures themselves are promised.
+ * and named / depth, both rounded down. Of a state that operations made from the blank one, or from any state by an
+ * accepted wezghuli_open, floor <= claim <= full at every moment; of any other sound state only the figures themselves
+ * are promised.
  * Refused, with the figures as they were: 1 the state is not sound. WEZGHULI_STATUS_NO_HEAD. */
 uint64_t wezghuli_noon(const uint64_t head[7], const uint32_t terms[128], const uint16_t counts[256],
     uint64_t figures[3]);
@@ -195,11 +197,11 @@ uint64_t wezghuli_noon(const uint64_t head[7], const uint32_t terms[128], const 
  * Refused, with the words as they were: 16 the line has more than 200 bytes, 17 it is no form. */
 uint64_t wezghuli_read_line(const uint8_t *line, size_t line_len, uint64_t words[6]);
 
-/* Writes the line of a record with its byte 10 to the front of out, and how many bytes that is to length[0]; later
+/* Writes the line of a record with its byte 10 to the front of out, and how many bytes that is to written[0]; later
  * bytes of out keep their values. Numbers that the form does not have are not looked at.
- * Refused, with out and length as they were: 17 a number is out of its range, 18 the line does not fit out.
+ * Refused, with out and written as they were: 17 a number is out of its range, 18 the line does not fit out.
  * WEZGHULI_STATUS_NO_FORM where words[0] is no form. */
-uint64_t wezghuli_write_line(const uint64_t words[6], uint8_t *out, size_t out_len, uint64_t length[1]);
+uint64_t wezghuli_write_line(const uint64_t words[6], uint8_t *out, size_t out_len, uint64_t written[1]);
 
 /* Feeds a block of input to the stream. Each line that ends in it, at its byte 10, is answered as the program answers
  * it: the answers stand one behind the other at the front of out, each line of them with its byte 10, and later bytes
@@ -211,16 +213,17 @@ uint64_t wezghuli_feed(uint64_t head[7], uint32_t terms[128], uint16_t counts[25
     uint8_t pending[201], uint64_t words[3], const uint8_t *input, size_t input_len, uint8_t *out, size_t out_len);
 
 /* Ends the input: a last line without byte 10 is answered, if it has bytes, and nothing is kept any more.
- * Statuses as wezghuli_feed. */
+ * words[WEZGHULI_STREAM_TAKEN] is 0, and words[WEZGHULI_STREAM_WRITTEN] bytes of out are the answer; later bytes of out
+ * keep their values. Statuses as wezghuli_feed. */
 uint64_t wezghuli_finish(uint64_t head[7], uint32_t terms[128], uint16_t counts[256],
     uint8_t pending[201], uint64_t words[3], uint8_t *out, size_t out_len);
 
-/* Prints the station's page of a state of any phase to the front of out, and how many bytes that is to length[0]: for
+/* Prints the station's page of a state of any phase to the front of out, and how many bytes that is to written[0]: for
  * each campaign in number order WEZGHULI_PAGE_LINE bytes, and as many for the last line. Later bytes of out keep their
  * values; the state stays. docs/MANUAL.md has the columns.
- * Refused, with out and length as they were: 1 the state is not sound, 18 the page does not fit out. */
+ * Refused, with out and written as they were: 1 the state is not sound, 18 the page does not fit out. */
 uint64_t wezghuli_page(const uint64_t head[7], const uint32_t terms[128], const uint16_t counts[256],
-    uint8_t *out, size_t out_len, uint64_t length[1]);
+    uint8_t *out, size_t out_len, uint64_t written[1]);
 
 /* Finds an allotment of the views with the greatest takings that the plan of a state of any phase allows, and figures
  * that show it to be greatest. views are the accepted views in order, each its set of unpaused names. Written are

@@ -66,7 +66,7 @@ mod c {
             words: *const u64,
             out: *mut u8,
             out_len: usize,
-            length: *mut u64,
+            written: *mut u64,
         ) -> u64;
     }
 }

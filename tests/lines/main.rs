@@ -2,7 +2,10 @@
 //! every limit and long ones in every slot, and many generated records and damaged lines.
 mod numerals;
 mod product;
+mod records;
 mod second;
+use program::lines;
+use records::record;
 use second::{Rec, FORMS};
 
 struct Rng(u64);
@@ -76,6 +79,7 @@ impl Tally {
 
     fn read(&mut self, line: &[u8]) {
         self.same(line, product::read(line), second::read(line));
+        self.same(line, product::read(line).map(|r| record(&r)), lines::read(line));
     }
 
     fn expect(&mut self, line: &[u8], want: Result<(u64, &[u64]), u64>) {
@@ -84,14 +88,16 @@ impl Tally {
         self.read(line);
     }
 
-    // both write into a buffer of this length, and every byte of it is compared
+    // all three write into a buffer of this length, and every byte of it is compared
     fn write(&mut self, r: &Rec, len: usize) {
         let before: Vec<u8> = (0..len).map(|i| (i * 7 + 3) as u8).collect();
-        let (mut a, mut b) = (before.clone(), before);
+        let (mut a, mut b, mut c) = (before.clone(), before.clone(), before);
         let got = product::write(r, &mut a);
         let want = second::write(r, &mut b);
         self.same(&a, got, want);
         self.same(&b, &a, &b);
+        self.same(&a, got, lines::write(&record(r), &mut c));
+        self.same(&c, &a, &c);
     }
 }
 

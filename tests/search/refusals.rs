@@ -1,7 +1,7 @@
 //! Questions that fail, alone and at once, and heads that are none.
 
 use crate::inputs::first;
-use crate::product::{self, STATUS_NO_HEAD};
+use crate::product::{self, STATUS_ACCEPTED, STATUS_NO_HEAD};
 use crate::random::Random;
 use crate::seen::{failing, QUESTIONS};
 use crate::sides::Triple;
@@ -79,12 +79,15 @@ pub fn questions(tally: &mut Tally, seed: u64) {
     empty(tally);
 }
 
-/// Every length of each of the three lent slices: none, one too short, as many as needed, one and many more.
+/// Every length of each of the three lent slices: none, one too short, as many as needed, one and many more. The check
+/// is also handed what was found, cut to these lengths or lengthened; the last view names none, so that what is cut off
+/// may be the entry or the figure of a view that goes to nobody.
 pub fn rooms(tally: &mut Tally, seed: u64) {
     let mut random = Random::new(seed);
     for round in 0..4 * 125 {
         let day = states::sturdy(&mut random);
-        let views: Vec<u64> = (0..2 + random.below(5)).map(|_| random.next() & states::planned(&day)).collect();
+        let named = (0..1 + random.below(5)).map(|_| random.next() & states::planned(&day));
+        let views: Vec<u64> = named.chain([0]).collect();
         let (m, n) = (views.len(), day.count as usize);
         let which = [round % 5, round / 5 % 5, round / 25 % 5];
         let lengths = [0, 1, 2].map(|i| {
@@ -97,6 +100,11 @@ pub fn rooms(tally: &mut Tally, seed: u64) {
         let due = if short.is_empty() { None } else { Some(18) };
         if tally.search(&case, &lent).err() != due {
             tally.differ(&case, &lent, &format!("lengths {lengths:?}: the answer is not {due:?}"));
+        }
+        for mut found in tally.taken(&case, &Triple::lent([m, n, m], |i| i)).triples {
+            let Triple { allotment, surplus, worth } = &mut found;
+            [allotment, surplus, worth].into_iter().zip(lengths).for_each(|(entries, n)| entries.resize(n, 64));
+            tally.checked(&case, &found, due.unwrap_or(STATUS_ACCEPTED));
         }
         if let [i] = short[..] {
             tally.seen.see(["allotment alone too short", "surplus alone too short", "worth alone too short"][i]);

@@ -78,6 +78,15 @@ impl Tally {
         self.seen.see(&format!("refused {question}"));
     }
 
+    /// Both checks have this status.
+    pub fn checked(&mut self, case: &Case, triple: &Triple, due: u64) {
+        let found = SIDES.map(|side| case.check(side, triple));
+        if found != [due; 2] {
+            self.differ(case, triple, &format!("checked with {found:?}, not with {due}"));
+        }
+        self.passed += 1;
+    }
+
     /// Both searches of an input that no question refuses.
     pub fn taken(&mut self, case: &Case, lent: &Triple) -> Found {
         match self.search(case, lent) {

@@ -5,11 +5,11 @@ use mathlib.Core.List.{List}
 use Prim.Native.Nat.{ℕ, _≤_, _<_}
 use lib.ListN.{length}
 use Rattle.sets.specs.Set.{within}
-use Rattle.allotments.specs.Allotment.{at}
+use Rattle.allotments.specs.Allotment.{at, nobody}
 
 -- n campaigns, and views that name no other
 pub record Market (n : ℕ) (views : List ℕ) : Type 0 where
-  pub few : n ≤ 64
+  pub few : n ≤ nobody
   pub inside : (j : ℕ) → j < length views → within n (at views j) ≡ true
 
 -- enough entries are lent for the allotment, for the campaign figures and for the view figures

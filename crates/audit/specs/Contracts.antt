@@ -91,7 +91,7 @@ untouched-columns Running n f = true
 untouched-columns (Closed x) n f = true
 
 unfoldable pub empty-from : ℕ → (ℕ → Campaign) → Bool
-empty-from n f = every 64 (λ i. cond (ltb i n) true (empty (f i)))
+empty-from n f = every max-campaigns (λ i. cond (ltb i n) true (empty (f i)))
 
 -- all tests by columns
 abbrev pub columns-hold : Phase → Plan → (accepted n : ℕ) → (ℕ → Campaign) → Bool

@@ -17,7 +17,7 @@ const MAX_BUDGET: u32 = 2_000_000_000;
 
 // The first n campaigns keep these limits.
 fn priced_all<'a>(n: usize, terms: &'a [u32; 128], counts: &'a [u16; 256]) -> bool
-    requires { ⌜ n ≤ 64 ⌝ }
+    requires { ⌜ n ≤ max-campaigns ⌝ }
     ensures { λ r. ⌜ r ≡ priced-columns n (campaign-at (now (terms .entry)) (now (counts .entry))) ⌝ }
 {
     let mut fit = true;
@@ -41,7 +41,7 @@ fn ordered_all<'a>(
     terms: &'a [u32; 128],
     counts: &'a [u16; 256],
 ) -> bool
-    requires { ⌜ n ≤ 64 ⌝ }
+    requires { ⌜ n ≤ max-campaigns ⌝ }
     ensures { λ r. ⌜ r ≡ ordered-columns depth accepted n (campaign-at (now (terms .entry)) (now (counts .entry))) ⌝ }
 {
     let mut fit = true;
@@ -59,8 +59,8 @@ fn ordered_all<'a>(
 
 // The prices and budgets from entry n on are zero: one "or" over each column.
 fn no_terms_from<'a>(n: usize, terms: &'a [u32; 128], counts: &'a [u16; 256]) -> bool
-    requires { ⌜ n ≤ 64 ⌝ }
-    ensures { λ r. ⌜ r ≡ no-terms-from n (campaign-at (now (terms .entry)) (now (counts .entry))) 64 ⌝ }
+    requires { ⌜ n ≤ max-campaigns ⌝ }
+    ensures { λ r. ⌜ r ≡ no-terms-from n (campaign-at (now (terms .entry)) (now (counts .entry))) max-campaigns ⌝ }
 {
     let mut any: u32 = 0;
     for i in n..64 {
@@ -71,7 +71,7 @@ fn no_terms_from<'a>(n: usize, terms: &'a [u32; 128], counts: &'a [u16; 256]) ->
 
 // The counts from entry n on and below entry m are zero.
 fn no_counts_in<'a>(n: usize, m: usize, terms: &'a [u32; 128], counts: &'a [u16; 256]) -> bool
-    requires { ⌜ (n ≤ m) × (m ≤ 64) ⌝ }
+    requires { ⌜ (n ≤ m) × (m ≤ max-campaigns) ⌝ }
     ensures { λ r. ⌜ r ≡ no-counts-in n (campaign-at (now (terms .entry)) (now (counts .entry))) m ⌝ }
 {
     let mut any: u16 = 0;
@@ -83,7 +83,7 @@ fn no_counts_in<'a>(n: usize, m: usize, terms: &'a [u32; 128], counts: &'a [u16;
 
 // In Filling the counts of the first n campaigns are zero.
 fn untouched_all<'a>(phase: Phase, n: usize, terms: &'a [u32; 128], counts: &'a [u16; 256]) -> bool
-    requires { ⌜ n ≤ 64 ⌝ }
+    requires { ⌜ n ≤ max-campaigns ⌝ }
     ensures { λ r. ⌜ r ≡ untouched-columns phase n (campaign-at (now (terms .entry)) (now (counts .entry))) ⌝ }
 {
     match phase {
@@ -95,7 +95,7 @@ fn untouched_all<'a>(phase: Phase, n: usize, terms: &'a [u32; 128], counts: &'a 
 
 // The entries from n on are all zero.
 fn empty_from<'a>(n: usize, terms: &'a [u32; 128], counts: &'a [u16; 256]) -> bool
-    requires { ⌜ n ≤ 64 ⌝ }
+    requires { ⌜ n ≤ max-campaigns ⌝ }
     ensures { λ r. ⌜ r ≡ empty-from n (campaign-at (now (terms .entry)) (now (counts .entry))) ⌝ }
 {
     no_terms_from(n, terms, counts) & no_counts_in(n, 64, terms, counts)

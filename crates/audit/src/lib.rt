@@ -1,4 +1,5 @@
-// Question 1: is the state sound, for any value of the state. No sum or product on the way can overflow.
+// Question 1 in two parts: `limits_hold`, of any head, and `audit_parts`, of any arrays beside a head that passed it.
+// `day::ops::audited` joins them for any state. No sum or product on the way can overflow.
 pub mod columns;
 pub mod sums;
 

@@ -5,6 +5,7 @@ use campaigns::entry::wide32;
 use campaigns::weights::weigh;
 ghost use mathlib.Core.Path.{_≡_};
 ghost use Prim.Native.Nat.{_≤_};
+ghost use Rattle.campaigns.specs.Limits.{max-campaigns};
 ghost use Rattle.campaigns.specs.Campaign.{campaign-at};
 ghost use Rattle.campaigns.specs.Contracts.{Weights};
 ghost use Rattle.audit.specs.Contracts.{spent-of, waited-of, Entries-bounded, no-sums, summed};
@@ -45,7 +46,7 @@ pub struct Spent {
 // The sums that no weight enters, unless a campaign has paid more than its budget. No sum of 64 products of a u32 and a
 // u16 overflows.
 fn spend_all<'a>(n: usize, terms: &'a [u32; 128], counts: &'a [u16; 256]) -> Spent
-    requires { ⌜ n ≤ 64 ⌝ }
+    requires { ⌜ n ≤ max-campaigns ⌝ }
     ensures { λ r. ⌜ r ≡ spent-of n (campaign-at (now (terms .entry)) (now (counts .entry))) ⌝ }
 {
     let mut all: u64 = 0;
@@ -83,7 +84,7 @@ fn wait_all<'a>(
     terms: &'a [u32; 128],
     counts: &'a [u16; 256],
 ) -> u64
-    requires { ⌜ n ≤ 64 ⌝ }
+    requires { ⌜ n ≤ max-campaigns ⌝ }
     requires { ⌜ Weights plan (now weights) ⌝ }
     requires { ⌜ Entries-bounded plan n (campaign-at (now terms) (now counts)) ⌝ }
     ensures { λ r. ⌜ r ≡ waited-of plan n (campaign-at (now (terms .entry)) (now (counts .entry))) ⌝ }
@@ -105,7 +106,7 @@ pub fn sum_all<'a>(
     terms: &'a [u32; 128],
     counts: &'a [u16; 256],
 ) -> Sums
-    requires { ⌜ n ≤ 64 ⌝ }
+    requires { ⌜ n ≤ max-campaigns ⌝ }
     requires { ⌜ Weights plan (now weights) ⌝ }
     requires { ⌜ Entries-bounded plan n (campaign-at (now terms) (now counts)) ⌝ }
     ensures { λ r. ⌜ r ≡ summed plan n (campaign-at (now (terms .entry)) (now (counts .entry))) ⌝ }

@@ -74,7 +74,8 @@ fn first_line_end(s: &[u8], at: usize) -> usize
     line_end(s, from)
 }
 
-// The bytes of s behind those that are kept, as far as a line is held.
+// The bytes of s behind those that are kept, as far as a line is held. What stands in `pending` behind them is free
+// afterwards.
 pub fn keep(pending: &mut [u8], kept: usize, s: &[u8]) -> usize
     requires { ⌜ (kept ≤ line-buffer) × (length (now pending) ≡ line-buffer) ⌝ }
     ensures { λ r. ⌜ (r ≤ line-buffer) × (take r (now (pending .exit))
@@ -116,6 +117,7 @@ fn choose<'a>(first: bool, a: &'a [u8], b: &'a [u8]) -> &'a [u8]
 }
 
 // Line after line, while a line ends in the input and there is room for its answer. The first may have bytes pending.
+// Free afterwards are the bytes of `pending` behind those kept, and the list of weights.
 pub fn run_batch<'a>(
     t: Cursor,
     pending: &mut [u8],

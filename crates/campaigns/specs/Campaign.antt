@@ -12,13 +12,16 @@ use Rattle.campaigns.specs.declared.Phase.{Phase}
 use Rattle.campaigns.specs.declared.Phase.the-variants.{Filling, Running, Closed}
 use Rattle.campaigns.specs.declared.Plan.{Plan}
 use Rattle.campaigns.specs.declared.Terms.{Terms}
-use Rattle.campaigns.specs.Limits.{max-price, max-budget}
+use Rattle.campaigns.specs.Limits.{max-campaigns, max-price, max-budget}
 use Rattle.campaigns.specs.Choice.{Role}
 use Rattle.campaigns.specs.Choice.Role.{absent, spent, chosen, passed}
 
 -- whole plays: budget / price rounded down
+abbrev pub whole-plays : (price budget : ℕ) → ℕ
+whole-plays price budget = budget / price
+
 unfoldable pub whole : Campaign → ℕ
-whole c = c .budget / c .price
+whole c = whole-plays (c .price) (c .budget)
 
 -- can pay: plays < whole plays
 abbrev pub can-pay : Campaign → Bool
@@ -108,13 +111,17 @@ untouched (Closed t) c = true
 unfoldable pub sound-campaign : Phase → Plan → (accepted : ℕ) → Campaign → Bool
 sound-campaign p pl n c = priced c && counted pl n c && untouched p c
 
--- the state holds campaigns by columns in two arrays; campaign i of them
+-- the state holds campaigns by columns in two arrays: where campaign i stands in column c, of which the first is 0
+abbrev pub column : (c i : ℕ) → ℕ
+column c i = i + c * max-campaigns
+
+-- prices and budgets; plays, turns, ages and named
 abbrev pub campaign-at : (terms counts : List ℕ) → ℕ → Campaign
 campaign-at t n i = record {
   price = getD t i 0;
-  budget = getD t (i + 64) 0;
+  budget = getD t (column 1 i) 0;
   plays = getD n i 0;
-  turns = getD n (i + 64) 0;
-  age = getD n (i + 128) 0;
-  named = getD n (i + 192) 0;
+  turns = getD n (column 1 i) 0;
+  age = getD n (column 2 i) 0;
+  named = getD n (column 3 i) 0;
 }

@@ -2,6 +2,7 @@
 use crate::Campaign;
 ghost use mathlib.Core.Path.{_≡_};
 ghost use Prim.Native.Nat.{_<_};
+ghost use Rattle.campaigns.specs.Limits.{max-campaigns};
 ghost use Rattle.campaigns.specs.Campaign.{campaign-at};
 ghost use Rattle.campaigns.specs.Contracts.{Fits-arrays, Sized};
 
@@ -19,7 +20,7 @@ pub fn wide16(x: u16) -> u64
 
 // Campaign i, read out of the six columns: none of its numbers is wider than its column.
 pub fn entry<'a>(i: usize, terms: &'a [u32; 128], counts: &'a [u16; 256]) -> Campaign
-    requires { ⌜ i < 64 ⌝ }
+    requires { ⌜ i < max-campaigns ⌝ }
     ensures { λ r. ⌜ (r ≡ campaign-at (now (terms .entry)) (now (counts .entry)) i) × Fits-arrays r ⌝ }
 {
     let price = wide32(terms[i]);

@@ -6,6 +6,7 @@ ghost use mathlib.Core.Bool.{true};
 ghost use Prim.Native.Nat.{_*_, _<_, _≤_};
 ghost use lib.Dec.{leb, eqb};
 ghost use lib.ListN.{length};
+ghost use Rattle.campaigns.specs.Limits.{max-campaigns};
 ghost use Rattle.finite.specs.Finite.{sum, every};
 ghost use Rattle.sets.specs.Set.{within};
 ghost use Rattle.allotments.specs.Limits.{max-handed-in};
@@ -46,7 +47,7 @@ fn entries_fit(views: &[u64], allotment: &[u64]) -> bool
 
 // Is no campaign given more than its whole plays? Each view that it is given takes one of them.
 fn plays_fit(count: u64, wholes: [u32; 64], n: usize, allotment: &[u64]) -> bool
-    requires { ⌜ (count ≤ 64) × (n ≤ length (now allotment)) ⌝ }
+    requires { ⌜ (count ≤ max-campaigns) × (n ≤ length (now allotment)) ⌝ }
     ensures { λ r. ⌜ r ≡ every count (λ i. leb (times n (at (now (allotment .entry))) i) (at wholes i)) ⌝ }
 {
     let mut left = wholes;
@@ -75,7 +76,7 @@ fn view_covered<'a>(
     view: u64,
     figure: u64,
 ) -> bool
-    requires { ⌜ (count ≤ 64) × (count ≤ length (now surplus)) × (within count view ≡ true) ⌝ }
+    requires { ⌜ (count ≤ max-campaigns) × (count ≤ length (now surplus)) × (within count view ≡ true) ⌝ }
     ensures { λ r. ⌜ r ≡ covered count (at (now (prices .entry))) (at (now (surplus .entry))) view figure ⌝ }
 {
     let mut left = view;
@@ -117,7 +118,7 @@ fn views_covered<'a>(
 
 // The takings of an allotment.
 pub fn takings<'a>(count: u64, prices: &'a [u32; 128], n: usize, allotment: &'a [u64]) -> u64
-    requires { ⌜ (count ≤ 64) × (n ≤ max-handed-in) × (n ≤ length (now allotment)) ⌝ }
+    requires { ⌜ (count ≤ max-campaigns) × (n ≤ max-handed-in) × (n ≤ length (now allotment)) ⌝ }
     ensures { λ r. ⌜ r ≡ takings count (at (now (prices .entry))) n (at (now (allotment .entry))) ⌝ }
 {
     let mut sum = 0;
@@ -136,7 +137,7 @@ pub fn takings<'a>(count: u64, prices: &'a [u32; 128], n: usize, allotment: &'a 
 // What is left of an amount after each campaign's figure times its whole plays. A figure that the rest cannot pay is
 // found by a quotient.
 fn less_campaigns(count: u64, wholes: [u32; 64], surplus: &[u64], amount: u64) -> Rest
-    requires { ⌜ (count ≤ 64) × (count ≤ length (now surplus)) ⌝ }
+    requires { ⌜ (count ≤ max-campaigns) × (count ≤ length (now surplus)) ⌝ }
     ensures { λ r. ⌜ r ≡ rest-left (sum count (λ i. at (now (surplus .entry)) i * at wholes i)) amount ⌝ }
 {
     let mut left = amount;

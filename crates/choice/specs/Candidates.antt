@@ -6,14 +6,15 @@ use lib.Dec.{ltb, eqb}
 use Rattle.campaigns.specs.declared.Campaign.{Campaign}
 use Rattle.campaigns.specs.declared.Plan.{Plan}
 use Rattle.campaigns.specs.declared.View.{View}
+use Rattle.campaigns.specs.Limits.{max-campaigns}
 use Rattle.campaigns.specs.Choice.{Choice, role-of}
 use Rattle.campaigns.specs.Choice.Choice.{nobody, plays}
 use Rattle.campaigns.specs.View.{names, pays, offer, figure, becomes, chosen-of}
 use Rattle.choice.specs.declared.Candidate.{Candidate}
 
--- a choice so far as a candidate
+-- a choice so far as a candidate; nobody's number is no campaign's
 abbrev pub no-candidate : Candidate
-no-candidate = record { found = false; campaign = 64; paid = 0; score = 0 }
+no-candidate = record { found = false; campaign = max-campaigns; paid = 0; score = 0 }
 
 abbrev pub as-candidate : (figure offer : ℕ → ℕ) → Choice → Candidate
 as-candidate x o nobody = no-candidate

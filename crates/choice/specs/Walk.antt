@@ -10,6 +10,7 @@ use Rattle.sets.specs.Walk.{members}
 use Rattle.campaigns.specs.declared.Campaign.{Campaign}
 use Rattle.campaigns.specs.declared.Plan.{Plan}
 use Rattle.campaigns.specs.declared.View.{View}
+use Rattle.campaigns.specs.Limits.{max-campaigns}
 use Rattle.campaigns.specs.Choice.{role-of}
 use Rattle.campaigns.specs.Choice.Role.{chosen}
 use Rattle.campaigns.specs.View.{pays, becomes, viewed}
@@ -51,8 +52,8 @@ with-play pl w f i =
 -- to 4 for each.
 pub record Same-choice (n : ℕ) (pl : Plan) (w : View) (f : ℕ → Campaign) : Type 0 where
   pub same-player : walked pl w f .best ≡ candidate-of pl w f n
-  pub same-counts : (i : ℕ) → i < 64 → with-play pl w f i ≡ viewed n pl w f i
+  pub same-counts : (i : ℕ) → i < max-campaigns → with-play pl w f i ≡ viewed n pl w f i
 
 abbrev pub Same-choices : Type 0
-Same-choices = (n : ℕ) (pl : Plan) (w : View) (f : ℕ → Campaign) → n ≤ 64 → within n (w .set) ≡ true
-    → Same-choice n pl w f
+Same-choices = (n : ℕ) (pl : Plan) (w : View) (f : ℕ → Campaign) → n ≤ max-campaigns
+    → within n (w .set) ≡ true → Same-choice n pl w f

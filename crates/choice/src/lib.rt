@@ -7,6 +7,7 @@ use campaigns::weights::weigh;
 ghost use mathlib.Core.Path.{_≡_};
 ghost use mathlib.Core.Bool.{true};
 ghost use Prim.Native.Nat.{_≤_, _<_};
+ghost use Rattle.campaigns.specs.Limits.{max-campaigns};
 ghost use Rattle.campaigns.specs.Campaign.{priced, campaign-at};
 ghost use Rattle.campaigns.specs.Contracts.{Fits-arrays, Sized, Weights};
 ghost use Rattle.choice.specs.Candidates.{compared, candidate-of, after-view};
@@ -48,7 +49,7 @@ fn compare(best: Candidate, at: u64, c: Campaign, plan: Plan, weights: &[u64; 33
 
 // Campaign i's counts into the array; all others stay.
 fn store(i: usize, c: Campaign, counts: &mut [u16; 256])
-    requires { ⌜ (i < 64) × Fits-arrays c ⌝ }
+    requires { ⌜ (i < max-campaigns) × Fits-arrays c ⌝ }
     ensures { λ _. ⌜ now (counts .exit) ≡ put (now (counts .entry)) i c ⌝ }
 {
     counts[i] = c.plays as u16;
@@ -104,7 +105,8 @@ pub fn play<'a>(
     requires { ⌜ Weights plan (now weights) ⌝ }
     requires { ⌜ Sized (now terms) (now counts) ⌝ }
     requires { ⌜ In-bounds plan view (campaign-at (now terms) (now counts)) ⌝ }
-    ensures { λ r. ⌜ r ≡ candidate-of plan view (campaign-at (now (terms .entry)) (now (counts .entry))) 64 ⌝ }
+    ensures { λ r. ⌜ r ≡ candidate-of plan view (campaign-at (now (terms .entry)) (now (counts .entry)))
+        max-campaigns ⌝ }
     ensures { λ r. ⌜ Counts (after-view plan view r (campaign-at (now (terms .entry)) (now (counts .entry))))
         (now (terms .entry)) (now (counts .exit)) ⌝ }
 {

@@ -19,6 +19,7 @@ use questions::mark_question;
 use questions::plan_question;
 ghost use mathlib.Core.Path.{_≡_};
 ghost use Prim.Native.Nat.{_≤_, _<_};
+ghost use Rattle.campaigns.specs.Limits.{max-campaigns};
 ghost use Rattle.finite.specs.Finite.{sum};
 ghost use Rattle.campaigns.specs.Campaign.{campaign-at};
 ghost use Rattle.campaigns.specs.Contracts.{Sized, Weights, max-column};
@@ -76,7 +77,7 @@ pub fn open_sound<'a>(
 
 // The sum of the budgets.
 fn total_budgets<'a>(n: usize, terms: &'a [u32; 128], counts: &'a [u16; 256]) -> u64
-    requires { ⌜ n ≤ 64 ⌝ }
+    requires { ⌜ n ≤ max-campaigns ⌝ }
     ensures { λ r. ⌜ (r ≡ sum n (λ i. campaign-at (now (terms .entry)) (now (counts .entry)) i .budget))
         × (r ≤ max-column) ⌝ }
 {
@@ -206,7 +207,7 @@ pub fn close_sound<'a>(
 
 // The marks with that of a campaign set or cleared.
 fn marked(set: u64, campaign: u64, paused: bool) -> u64
-    requires { ⌜ campaign < 64 ⌝ }
+    requires { ⌜ campaign < max-campaigns ⌝ }
     ensures { λ r. ⌜ r ≡ marked paused campaign set ⌝ }
 {
     if paused {

@@ -30,12 +30,14 @@ impl Day {
 
     pub const MAX_WIDTH: u64 = Plan::MAX_WIDTH;
 
+    pub const MAX_POWER: u64 = Plan::MAX_POWER;
+
     pub const MAX_PRICE: u64 = Terms::MAX_PRICE;
 
     pub const MAX_BUDGET: u64 = Terms::MAX_BUDGET;
 
     // All of them, in the order above.
-    pub fn limits() -> [u64; 6]
+    pub fn limits() -> [u64; 7]
         ensures { λ r. ⌜ r ≡ day-limits ⌝ }
     {
         [
@@ -43,6 +45,7 @@ impl Day {
             Self::MAX_VIEWS,
             Self::MAX_DEPTH,
             Self::MAX_WIDTH,
+            Self::MAX_POWER,
             Self::MAX_PRICE,
             Self::MAX_BUDGET,
         ]

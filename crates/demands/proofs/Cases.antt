@@ -14,7 +14,7 @@ use Rattle.demands.specs.Transcript.{transcript, final}
 use Rattle.demands.specs.Cases.{calls-made, listing, listing-end, Cases-hold}
 
 infixr 30 _&_
-_&_ : {A B : Type 0} → A → B → A × B
+pub _&_ : {A B : Type 0} → A → B → A × B
 a & b = (a, b)
 
 pub listing-runs : transcript blank (calls-made listing) ≡ listing

@@ -9,5 +9,6 @@ pub mod Marks
 pub mod Sound
 pub mod Refusals
 pub mod Cases
+pub mod Soundness
 pub mod Demands
 pub mod Nobody

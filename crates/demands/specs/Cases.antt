@@ -104,7 +104,7 @@ cases =
     campaign-of 1 1 gives Refused 10 ∷ []) ∷
     -- ★ the second view of the listing: scores 5 and 6, campaign 1 plays
     scored (plan 2 2 ∷ campaign-of 5 10 ∷ campaign-of 3 6 ∷ start-day ∷ view 3 ∷ []) (5 ∷ 6 ∷ []) ∷
-    -- the listing, whose fourth view ★ plays nobody; closing gives the tally of each campaign too
+    -- the listing, whose fourth view ★ plays nobody; the tallies that follow closing are asked for one by one
     answered listing ∷ ended (calls-made listing) listing-end ∷
     -- ★ two fresh campaigns at price 4 with equal budgets: campaign 0 plays
     answered (plan 2 2 gives Done ∷ campaign-of 4 8 gives Done ∷ campaign-of 4 8 gives Done ∷ start-day gives Done ∷

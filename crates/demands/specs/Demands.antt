@@ -8,7 +8,7 @@ use Prim.Native.Nat.{ℕ, _<_}
 use Rattle.sets.specs.Set.{within}
 use Rattle.campaigns.specs.declared.Phase.the-variants.{Running}
 use Rattle.campaigns.specs.declared.View.{View}
-use Rattle.campaigns.specs.Limits.{max-views}
+use Rattle.campaigns.specs.Limits.{max-campaigns, max-views}
 use Rattle.campaigns.specs.Choice.{Choice}
 use Rattle.campaigns.specs.Choice.Choice.{nobody, plays}
 use Rattle.campaigns.specs.View.{able, figure, full}
@@ -66,7 +66,7 @@ Only-right = (s : Day) (w : View) (ch : Choice) → Plays-right s w ch → ch �
 pub record Counts-alone (s : Day) (w : View) : Type 0 where
   pub answer-is : call s (show-view w) .answer ≡ Nobody
   pub head-is : head-of (call s (show-view w) .day) ≡ head-shown s
-  pub campaigns-stay : (i : ℕ) → i < 64 → campaign (call s (show-view w) .day) i ≡ campaign s i
+  pub campaigns-stay : (i : ℕ) → i < max-campaigns → campaign (call s (show-view w) .day) i ≡ campaign s i
 
 abbrev pub Nobody-found : Type 0
 Nobody-found =

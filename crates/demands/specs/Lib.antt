@@ -1,4 +1,5 @@
 pub mod Choice
 pub mod Transcript
 pub mod Cases
+pub mod Soundness
 pub mod Demands

@@ -3,8 +3,9 @@ use mathlib.Core.Path.{_≡_}
 use mathlib.Core.List.{List, [], _∷_, _++_}
 use Prim.Native.Nat.{ℕ, zero, suc}
 use Rattle.lines.specs.declared.Record.the-variants as lines
-use Rattle.lines.specs.Form.{bytes, text}
+use Rattle.lines.specs.Form.{bytes}
 use Rattle.lines.specs.Numeral.{numeral}
+use Rattle.writer.specs.Writing.{line}
 use Rattle.campaigns.specs.Limits.{max-campaigns}
 use Rattle.day.specs.declared.Day.{Day}
 use Rattle.day.specs.Day.{total-takings}
@@ -54,9 +55,6 @@ figures-text t g =
     (numeral (ratio-of t g .numerator) ++ (bytes "/" ++ (numeral (ratio-of t g .denominator) ++ bytes ")\n")))))))
 
 -- that of a refusal is document 01's
-unfoldable pub refusal-text : (question : ℕ) → List ℕ
-refusal-text q = text (lines.Refused q) ++ (10 ∷ [])
-
 abbrev pub earnings-text : Earnings → List ℕ
-earnings-text (Refused q) = refusal-text q
+earnings-text (Refused q) = line (lines.Refused q)
 earnings-text (Figures t g) = figures-text t g

@@ -13,8 +13,10 @@ ghost use mathlib.Core.Path.{_≡_};
 ghost use Prim.Native.Nat.{_≤_};
 ghost use lib.ListN.{length};
 ghost use Rattle.buffer.specs.Buffer.{Put};
+ghost use Rattle.lines.specs.declared.Record.the-variants.{Refused};
+ghost use Rattle.writer.specs.Writing.{line};
 ghost use Rattle.day.specs.Day.{state-of};
-ghost use Rattle.earnings.specs.Earnings.{earned, report-room, figures-text, refusal-text, earnings-text};
+ghost use Rattle.earnings.specs.Earnings.{earned, report-room, figures-text, earnings-text};
 
 // The number of the question that failed, or the takings and the greatest takings.
 pub enum Earnings {
@@ -78,7 +80,7 @@ fn put_figures(out: &mut [u8], takings: u64, greatest: u64) -> usize
 // The line of a refusal.
 fn put_refusal(out: &mut [u8], question: u64) -> usize
     requires { ⌜ report-room ≤ length (now out) ⌝ }
-    ensures { λ r. ⌜ Put (now (out .entry)) (now (out .exit)) r report-room (refusal-text question) ⌝ }
+    ensures { λ r. ⌜ Put (now (out .entry)) (now (out .exit)) r report-room (line (Refused question)) ⌝ }
 {
     let to = put(out, ROOM, b")\n");
     put_field(out, to, b"(refused ", b'R', question)

@@ -18,7 +18,8 @@ use Rattle.sets.proofs.Algebra.{including-same, including-keeps, including-othe
 use Rattle.allotments.specs.Allotment.{at, times}
 use Rattle.allotments.proofs.Cases.{same-or-not, true-or-not, one-same, one-other}
 use Rattle.exchange.specs.Chain.Chain.{given, moved}
-use Rattle.exchange.specs.Contracts.{holds, free, None-free, first-free, Seekable, Changed, Gained, Held, Failed}
+use Rattle.exchange.specs.Contracts.{holds, free, first-open, None-free, first-free, Seekable}
+use Rattle.exchange.specs.Contracts.{Changed, Gained, Held, Failed}
 use Rattle.exchange.proofs.Entries.{at-same, at-other, times-set, holds-some}
 
 -- how many of the 64 campaigns are not in the set
@@ -64,6 +65,27 @@ taken-kept views to to' first l h t j k e = ⊎-elim (λ q. t j k (sym q ∙ e))
 pub taken-more : (to : List ℕ) (first : ℕ) → None-free to first → (at to first ≡ 64 → ⊥) → None-free to (first + 1)
 taken-more to first t ne j l e = ⊎-elim (λ q. ne (ap (at to) (sym q) ∙ e)) (λ k. t j (omega arith) e)
     (same-or-not j first)
+
+-- the first view that is given to nobody
+module _ (n : ℕ) (to : List ℕ) where
+  open-least : Least n (λ j. eqb (at to j) 64) (first-open n to)
+  unfolding first-open
+  open-least = least-is n (λ j. eqb (at to j) 64)
+
+  -- a place below which every view is given, and which is open itself or n, is the first
+  pub open-here : (r : ℕ) → r ≤ n → None-free to r → (r < n → at to r ≡ 64) → r ≡ first-open n to
+  open-here r l t e = least-unique n (λ j. eqb (at to j) 64) r (first-open n to) (record {
+    most = l;
+    none = λ j k. ne-eqb (at to j) 64 (t j k);
+    found = λ k. eq-eqb (at to r) 64 (e k);
+  }) open-least
+
+  -- all below it are given
+  pub open-is : {r : ℕ} → r ≡ first-open n to → (r ≤ n) × None-free to r
+  open-is {r} q = (
+    omega (arith, q, open-least .most),
+    λ j l e. never (eqb (at to j) 64) (open-least .none j (omega (arith, q))) (eq-eqb (at to j) 64 e),
+  )
 
 -- the first free view, and that there is none
 module _ (views to : List ℕ) (c : ℕ) where

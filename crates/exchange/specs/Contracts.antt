@@ -23,6 +23,10 @@ free views to c j = eqb (at to j) nobody && member (at views j) c
 unfoldable pub first-free : List ℕ → List ℕ → ℕ → ℕ
 first-free views to c = least (length views) (free views to c)
 
+-- the first of n views that is given to nobody, or n
+unfoldable pub first-open : ℕ → List ℕ → ℕ
+first-open n to = least n (λ j. eqb (at to j) nobody)
+
 -- no view below the place is free
 abbrev pub None-free : List ℕ → ℕ → Type 0
 None-free to first = (j : ℕ) → j < first → at to j ≡ nobody → ⊥

@@ -2,7 +2,7 @@
 ghost use mathlib.Core.Path.{_≡_};
 ghost use Prim.Native.Nat.{_<_, _≤_};
 ghost use lib.ListN.{length};
-ghost use Rattle.exchange.specs.Contracts.{None-free, first-free, Bare, Seekable, Sought-is};
+ghost use Rattle.exchange.specs.Contracts.{None-free, first-open, first-free, Bare, Seekable, Sought-is};
 
 // What a search ends with: whether a view was found, the set of campaigns visited, and that of campaigns that are bare:
 // no free view names them. A view that was once given is never free again, so that a bare campaign stays so.
@@ -12,12 +12,12 @@ pub struct Sought {
     pub bare: u64,
 }
 
-// The first view from `from` on that is given to nobody, or the number of views. A search starts to look where the last
-// one ended.
+// The first view that is given to nobody, or the number of views. Those below `from` are given: a search starts to look
+// where the last one ended.
 pub fn first_open(n: usize, allotment: &[u64], from: usize) -> usize
     requires { ⌜ (n ≤ length (now allotment)) × (from ≤ n) ⌝ }
     requires { ⌜ None-free (now allotment) from ⌝ }
-    ensures { λ r. ⌜ (r ≤ n) × None-free (now (allotment .entry)) r ⌝ }
+    ensures { λ r. ⌜ r ≡ first-open n (now (allotment .entry)) ⌝ }
 {
     let mut j = from;
     while j < n {

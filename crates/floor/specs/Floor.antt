@@ -23,8 +23,8 @@ use Rattle.floor.specs.History.{History, day-takings, Starts, history}
 abbrev pub terms-of : History → ℕ → Terms
 terms-of h i = getD (h .terms) i no-terms
 
--- what was handed in about campaign i: its price and budget, and how many of the day's views named it, also after it is
--- spent
+-- what was handed in about campaign i: its price and budget, and how many of the day's views named it while it was not
+-- paused, also after it is spent
 pub record Trace : Type 0 where
   pub terms : Terms
   pub named : ℕ

@@ -1,6 +1,6 @@
 -- Three days that meet the hypotheses, computed: document 01's listing, which took all that it could; the day on which
 -- the floor fails unless what goes to campaigns that fall short is taken off; and a day with a pause, where only what
--- the views found counts.
+-- the views found counts. Of the second one also a result of the search.
 use mathlib.Core.Path.{_≡_}
 use mathlib.Core.List.{List, [], _∷_}
 use Prim.Native.Nat.{ℕ}
@@ -9,14 +9,15 @@ use Rattle.day.specs.Calls.{Call}
 use Rattle.day.specs.Calls.Call.{start-day, close-day}
 use Rattle.demands.specs.Cases.{calls-made, plan, campaign-of, view, pause, listing}
 use Rattle.demands.specs.Transcript.{transcript, final}
-use Rattle.allotments.specs.Allotment.{at}
+use Rattle.allotments.specs.Allotment.{at, nobody}
 use Rattle.floor.specs.History.{Starts, History, day-takings, history}
 use Rattle.floor.specs.Floor.{Covered}
 use Rattle.floor.specs.Short.{short-calls}
+use Rattle.optimum.specs.declared.Optimum.the-variants.{Takings}
 use Rattle.optimum.specs.declared.Verdict.the-variants.{Accepted, Rejected}
-use Rattle.optimum.specs.Optimum.{most-of, checked}
+use Rattle.optimum.specs.Optimum.{most-of, Searched, checked}
 use Rattle.floor.specs.History.{own-views}
-use Rattle.hindsight.specs.Hindsight.{given-short}
+use Rattle.hindsight.specs.Hindsight.{given-short, Room, Search-covered}
 
 abbrev pub recorded-day : List Call → History
 recorded-day cs = history (transcript blank cs)
@@ -44,10 +45,21 @@ pub record Paused (found handed-in allotment surplus worth : List ℕ) : Type 0 
   pub rejected : checked (final blank paused-listed) (own-views (recorded-day paused-listed)) allotment surplus worth
       ≡ Rejected
 
+-- the search of the day of `short-calls`: campaign 0 is served first, by view 0; campaign 1 gets view 0 by a chain of
+-- exchanges, after 0 was given view 1 (`matching/specs/Examples`)
+pub record Search-worked (allotment surplus worth allotment' surplus' worth' : List ℕ) : Type 0 where
+  pub room : Room (recorded-day short-calls) (final blank short-calls) allotment surplus worth
+  pub searched : Searched (final blank short-calls) (own-views (recorded-day short-calls)) allotment allotment' surplus
+      surplus' worth worth' (Takings 4)
+  pub covered : Search-covered (recorded-day short-calls) (final blank short-calls) allotment allotment' surplus
+      surplus' worth worth' (Takings 4)
+
 pub record Examples : Type 0 where
-  pub of-listing : Example (calls-made listing) (0 ∷ 0 ∷ 1 ∷ 64 ∷ 1 ∷ []) (5 ∷ 3 ∷ []) (0 ∷ 0 ∷ 0 ∷ 0 ∷ 0 ∷ []) 16 16 0
+  pub of-listing : Example (calls-made listing) (0 ∷ 0 ∷ 1 ∷ nobody ∷ 1 ∷ []) (5 ∷ 3 ∷ []) (0 ∷ 0 ∷ 0 ∷ 0 ∷ 0 ∷ [])
+      16 16 0
   pub short : Example short-calls (1 ∷ 0 ∷ []) (2 ∷ 2 ∷ []) (0 ∷ 0 ∷ []) 2 4 2
   pub not-covered : Covered (recorded-day short-calls) 4 → ⊥
-  pub paused : Example paused-listed (1 ∷ 0 ∷ 64 ∷ []) (5 ∷ 0 ∷ []) (3 ∷ 0 ∷ 0 ∷ []) 5 8 3
+  pub paused : Example paused-listed (1 ∷ 0 ∷ nobody ∷ []) (5 ∷ 0 ∷ []) (3 ∷ 0 ∷ 0 ∷ []) 5 8 3
   pub paused-not-covered : Covered (recorded-day paused-listed) 8 → ⊥
+  pub search : Search-worked (0 ∷ 0 ∷ []) (0 ∷ 0 ∷ []) (0 ∷ 0 ∷ []) (1 ∷ 0 ∷ []) (2 ∷ 2 ∷ []) (0 ∷ 0 ∷ [])
   pub found-alone : Paused (3 ∷ 1 ∷ 1 ∷ []) (3 ∷ 3 ∷ 3 ∷ []) (0 ∷ 1 ∷ 1 ∷ []) (2 ∷ 0 ∷ []) (3 ∷ 3 ∷ 3 ∷ [])

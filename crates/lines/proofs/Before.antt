@@ -1,19 +1,21 @@
--- What request 5 leaves as it was. A text does not depend on the letter of a slot, and document 01's ranges lie within
--- those of today, so that `text-reads` and `read-text` say it all; forms are compared one by one, by computing.
+-- What request 5 leaves as it was, and a line that it lets in. A text does not depend on the letter of a slot, and
+-- document 01's ranges lie within those of today, so that `text-reads` and `read-text` say it all; forms are compared
+-- one by one, by computing.
 use mathlib.Core.Path.{_≡_, refl, sym, ap, _∙_}
-use mathlib.Core.Bool.{true, _&&_}
+use mathlib.Core.Bool.{true, false, _&&_}
 use mathlib.Core.List.{List}
 use Prim.Native.Nat.{ℕ}
 use native.Mathlib.Omega.{arith}
 use lib.Dec.{leb}
 use borrow.Author.Tests.{leb-true, le-leb}
-use Rattle.finite.proofs.Tests.{both-left, both-right}
+use Rattle.finite.proofs.Tests.{never, both-left, both-right}
 use Rattle.lines.specs.Limits.{max-input}
 use Rattle.lines.specs.Form.{template, numbers, is-output, in-slot, piece, slot-text, numbers-after, filled}
 use Rattle.lines.specs.Form.{in-slots, text, in-range}
-use Rattle.lines.specs.Reading.{reading}
+use Rattle.lines.specs.Reading.{reading, first-of, forms, held-or, ended-or, made, numbers-of, rest-of, step}
+use Rattle.lines.specs.Reading.{strip, slot-at, numeral-at, digits, is-digit}
 use Rattle.lines.specs.Before.{old-template, in-old-slot, in-old-slots, in-old-range, old-text, Was, As-before}
-use Rattle.lines.specs.Before.{has-form}
+use Rattle.lines.specs.Before.{has-form, longer-budget, Longer-budget}
 use Rattle.lines.specs.declared.Record.{Record}
 use Rattle.lines.specs.declared.Record.the-variants.{Plan, Campaign, Start, View, Close, Done, Play, Nobody}
 use Rattle.lines.specs.declared.Record.the-variants.{Refused, Closed, Tally, Pause, Resume}
@@ -74,4 +76,24 @@ as-before = record {
   same-text = λ r. kept r .0;
   same-range = λ r. kept r .1;
   only-longer = only-longer;
+}
+
+-- The line.
+
+read-now : reading longer-budget ≡ Got (Campaign 5 4294967296)
+unfolding template in-slot reading first-of forms held-or ended-or made numbers-of rest-of step strip slot-at
+    numeral-at digits is-digit
+read-now = refl
+
+out-of-range : in-old-range (Campaign 5 4294967296) ≡ false
+unfolding in-old-range in-old-slots in-old-slot old-template numbers numbers-after
+out-of-range = refl
+
+pub longer-budget-read : Longer-budget
+longer-budget-read = record {
+  refused-before = λ r w.
+      let e : Got r ≡ Got (Campaign 5 4294967296) = sym (same-record longer-budget r w) ∙ read-now in
+      let same : r ≡ Campaign 5 4294967296 = cc in
+      never false refl (sym out-of-range ∙ sym (ap in-old-range same) ∙ w .0);
+  read-now = read-now;
 }

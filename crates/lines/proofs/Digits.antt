@@ -8,8 +8,8 @@ use native.Mathlib.Omega.{arith}
 use lib.Dec.{leb, eqb}
 use borrow.Author.Tests.{leb-true, leb-false, le-leb, lt-leb, eqb-true, eqb-false, ne-eqb}
 use Rattle.finite.proofs.Tests.{both-left, both-right}
-use Rattle.lines.specs.Limits.{max-input, max-output, max-campaign, max-question, max-u64}
-use Rattle.lines.specs.Form.{input-slot, output-slot, campaign-slot, refusal-slot, slot-max, in-slot}
+use Rattle.lines.specs.Limits.{max-input, max-output, max-campaign, max-question, max-money, max-u64}
+use Rattle.lines.specs.Form.{input-slot, output-slot, campaign-slot, refusal-slot, money-slot, slot-max, in-slot}
 use Rattle.lines.specs.Reading.{Seen, seen, unseen, value, is-digit, digits, ranged}
 
 pub clash : {A : Type 0} → _≡_ {A = ℕ} 0 1 → A
@@ -56,16 +56,20 @@ digits-least (b ∷ l) a = go (is-digit b) (digits-least l (a * 10 + (b - 48)))
 
 -- every slot has room for a digit, and stays within 64 bits
 pub max-range : (slot : ℕ) → (9 ≤ slot-max slot) × (slot-max slot < 2 ^ 64)
-max-range slot = go (eqb slot input-slot) (eqb slot output-slot) (eqb slot campaign-slot) (eqb slot refusal-slot)
+max-range slot =
+    go (eqb slot input-slot) (eqb slot output-slot) (eqb slot campaign-slot) (eqb slot refusal-slot)
+    (eqb slot money-slot)
   where
-    go : (i n c r : Bool)
-        → let m : ℕ = cond i max-input (cond n max-output (cond c max-campaign (cond r max-question max-u64))) in
-        (9 ≤ m) × (m < 2 ^ 64)
-    go true n c r = (omega arith, omega arith)
-    go false true c r = (omega arith, omega arith)
-    go false false true r = (omega arith, omega arith)
-    go false false false true = (omega arith, omega arith)
-    go false false false false = (omega arith, omega arith)
+    go : (i n c r m : Bool)
+        → let most : ℕ = cond i max-input (cond n max-output (cond c max-campaign (cond r max-question
+        (cond m max-money max-u64)))) in
+        (9 ≤ most) × (most < 2 ^ 64)
+    go true n c r m = (omega arith, omega arith)
+    go false true c r m = (omega arith, omega arith)
+    go false false true r m = (omega arith, omega arith)
+    go false false false true m = (omega arith, omega arith)
+    go false false false false true = (omega arith, omega arith)
+    go false false false false false = (omega arith, omega arith)
 
 pub slot-most : (slot n : ℕ) → in-slot slot n ≡ true → n ≤ slot-max slot
 unfolding in-slot

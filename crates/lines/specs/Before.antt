@@ -82,3 +82,12 @@ pub record As-before : Type 0 where
   pub same-range : (r : Record) → is-output r ≡ true → in-range r ≡ in-old-range r
   -- a line that is read now and was not before has a new form, or a number that is out of document 01's range
   pub only-longer : (l : List ℕ) (r : Record) → reading l ≡ Got r → in-old-range r ≡ true → Was l r
+
+-- a line with such a number: document 01 reads it as no record ("A budget of 4294967296 in a line gives 17"), and now
+-- it is read
+abbrev pub longer-budget : List ℕ
+longer-budget = bytes "(campaign (price 5) (budget 4294967296))"
+
+pub record Longer-budget : Type 0 where
+  pub refused-before : (r : Record) → Was longer-budget r → ⊥
+  pub read-now : reading longer-budget ≡ Got (Campaign 5 4294967296)

@@ -1,4 +1,4 @@
--- The forms of document 01's bracket lines, the ranges of their numbers, and the text of a record.
+-- The forms of bracket lines (documents 01 and 02), the ranges of their numbers, and the text of a record.
 use Prim.Native.Nat.{ℕ, zero, suc}
 use Prim.Native.Char.{code}
 use Prim.Native.String.{String, [] as []ˢ, _∷_ as _∷ˢ_}
@@ -7,13 +7,13 @@ use mathlib.Core.List.{List, [], _∷_, _++_}
 use lib.Dec.{leb, eqb}
 use lib.ListN.{getD, drop}
 use Rattle.sets.specs.Set.{member}
-use Rattle.lines.specs.Limits.{max-input, max-output, max-campaign, set-bits, max-question, max-u64}
+use Rattle.lines.specs.Limits.{max-input, max-output, max-campaign, set-bits, max-question, max-money, max-u64}
 use Rattle.lines.specs.Numeral.{numeral}
 use Rattle.lines.specs.declared.Record.{Record}
 use Rattle.lines.specs.declared.Record.the-variants.{Plan, Campaign, Start, View, Close, Done, Play, Nobody}
 use Rattle.lines.specs.declared.Record.the-variants.{Refused, Closed, Tally, Pause, Resume}
 
--- A slot of a form is an upper-case letter. M (takings, claim or full) has no range of its own.
+-- A slot of a form is an upper-case letter.
 
 -- I: a number of an input line
 abbrev pub input-slot : ℕ
@@ -30,6 +30,10 @@ campaign-slot = 67
 -- R: a refusal number
 abbrev pub refusal-slot : ℕ
 refusal-slot = 82
+
+-- M: takings, claim or full
+abbrev pub money-slot : ℕ
+money-slot = 77
 
 -- S: the names of a view
 abbrev pub names-slot : ℕ
@@ -90,14 +94,15 @@ is-output (Tally _ _ _ _ _) = true
 is-output (Pause _) = false
 is-output (Resume _) = false
 
--- the greatest number in each slot; the others, M and S, have all of 64 bits
+-- the greatest number in each slot; S has all of 64 bits
 abbrev pub slot-max : ℕ → ℕ
 slot-max slot =
     cond (eqb slot input-slot) max-input
     (cond (eqb slot output-slot) max-output
     (cond (eqb slot campaign-slot) max-campaign
     (cond (eqb slot refusal-slot) max-question
-    max-u64)))
+    (cond (eqb slot money-slot) max-money
+    max-u64))))
 
 -- the range of each slot: up to its greatest number, and R from 1
 unfoldable pub in-slot : ℕ → ℕ → Bool

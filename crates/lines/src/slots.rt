@@ -23,7 +23,10 @@ pub const SET_BITS: u64 = MAX_CAMPAIGN + 1;
 // The highest refusal number.
 pub const MAX_QUESTION: u64 = 19;
 
-// Takings, claim and full, and the set of a view: all of 64 bits.
+// What takings, claim and full run up to.
+pub const MAX_MONEY: u64 = 18_446_744_073_709_551_615;
+
+// The set of a view: all of 64 bits.
 pub const MAX_U64: u64 = 18_446_744_073_709_551_615;
 
 // How long a buffer for the longest line and its byte 10 is.
@@ -42,6 +45,7 @@ pub fn slot_max(slot: u8) -> u64
         b'N' => MAX_OUTPUT,
         b'C' => MAX_CAMPAIGN,
         b'R' => MAX_QUESTION,
+        b'M' => MAX_MONEY,
         _ => MAX_U64,
     }
 }

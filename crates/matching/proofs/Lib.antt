@@ -7,3 +7,4 @@ pub mod Standing
 pub mod Method
 pub mod Matching
 pub mod Best
+pub mod Examples

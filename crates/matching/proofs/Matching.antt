@@ -9,12 +9,12 @@ use Rattle.finite.proofs.Tests.{never}
 use Rattle.sets.specs.Set.{member, size, including, without}
 use Rattle.sets.proofs.Algebra.{empty-member}
 use Rattle.allotments.specs.Allotment.{at}
-use Rattle.exchange.specs.Contracts.{None-free, Bare, Seekable}
+use Rattle.exchange.specs.Contracts.{None-free, first-open, Bare, Seekable}
 use Rattle.allotments.specs.Contracts.{Market}
 use Rattle.matching.specs.Method.{Everyone, Dearest, without-one, By-falling-price}
 use Rattle.matching.specs.Method.By-falling-price.{start, serve}
 use Rattle.matching.specs.Contracts.{Served-is, Frozen, Unserved, Standing, Matched}
-use Rattle.exchange.proofs.Search.{taken-kept}
+use Rattle.exchange.proofs.Search.{taken-kept, open-is}
 use Rattle.matching.proofs.Choosing.{one-fewer}
 use Rattle.matching.proofs.Standing.{standing-first, standing-next}
 use Rattle.matching.proofs.Method.{served}
@@ -50,15 +50,15 @@ underway-start n prices wholes views to level unserved un all = record {
 module _ {n : ℕ} {prices wholes views to₀ to level : List ℕ} {first closed bare unserved c : ℕ}
     (u : Underway n prices wholes views to₀ to level first closed bare unserved)
     (ch : Dearest (at prices) unserved c) where
-  pub ready-chosen : {first' : ℕ} → (first' ≤ length views) × None-free to first'
+  pub ready-chosen : {first' : ℕ} → first' ≡ first-open (length views) to
       → Seekable views to c closed first' bare
-  ready-chosen h = record {
+  ready-chosen e = record {
     room = u .room;
-    entries = λ j k. ⊎-elim (λ e. omega arith) (λ h. omega (arith, u .market .few, h .0)) (u .standing .entries j k);
+    entries = λ j k. ⊎-elim (λ q. omega arith) (λ h. omega (arith, u .market .few, h .0)) (u .standing .entries j k);
     campaign = ch .inside;
     fresh = u .standing .waiting c (ch .inside) (ch .waiting);
-    inside = h .0;
-    taken = h .1;
+    inside = open-is (length views) to e .0;
+    taken = open-is (length views) to e .1;
     none-free = u .none-free;
   }
 
@@ -68,11 +68,12 @@ module _ {n : ℕ} {prices wholes views to₀ to level : List ℕ} {first closed
       (one-fewer unserved c (ch .inside) (ch .waiting))
 
   pub underway-turn : {to' level' : List ℕ} {first' closed' bare' one unserved' plays price who : ℕ}
-      → (first' ≤ length views) × None-free to first' → plays ≡ at wholes c → price ≡ at prices c
+      → first' ≡ first-open (length views) to → plays ≡ at wholes c → price ≡ at prices c
       → who ≡ without closed' closed → one ≡ including 0 c → unserved' ≡ without unserved one
       → length to' ≡ length to → Served-is views to to' c closed plays closed' bare' → Frozen level level' who price
       → Underway n prices wholes views to₀ to' level' first' closed' bare' unserved'
-  underway-turn {to'} {level'} {first'} {closed'} {bare'} {who = who} h ep eq ew eo es len sv fz =
+  underway-turn {to'} {level'} {first'} {closed'} {bare'} {who = who} e ep eq ew eo es len sv fz =
+      let h = open-is (length views) to e in
       let sv' : Served-is views to to' c closed (at wholes c) closed' bare' = subst (λ (x : ℕ). Served-is views to to' c
       closed x closed' bare') ep sv in
       let fz' : Frozen level level' (without closed' closed) (at prices c) = subst (λ (x : ℕ). Frozen level level' x

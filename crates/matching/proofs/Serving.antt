@@ -3,16 +3,16 @@ use mathlib.Core.Path.{_≡_, refl, _∙_, subst⁻¹}
 use mathlib.Core.Logic.{inl, inr, ⊎-elim}
 use mathlib.Core.Bool.{true}
 use mathlib.Core.List.{List}
-use Prim.Native.Nat.{ℕ, _+_, _≤_, _<_}
+use Prim.Native.Nat.{ℕ, _+_, _<_}
 use native.Mathlib.Omega.{arith}
 use lib.ListN.{length}
 use Rattle.sets.specs.Set.{member, including}
 use Rattle.sets.proofs.Algebra.{including-keeps}
 use Rattle.allotments.specs.Allotment.{at}
-use Rattle.exchange.specs.Contracts.{None-free, Bare, Seekable, Gained}
+use Rattle.exchange.specs.Contracts.{first-open, Bare, Seekable, Gained}
 use Rattle.matching.specs.Method.Found.{none, one-more}
 use Rattle.matching.specs.Contracts.{Gains}
-use Rattle.exchange.proofs.Search.{taken-kept}
+use Rattle.exchange.proofs.Search.{taken-kept, open-is}
 
 -- at first nothing is gained
 pub gains-none : (views to : List ℕ) (c closed : ℕ) → Gains views to to c closed 0
@@ -44,14 +44,14 @@ gains-one views to to' to'' c closed k g h = record {
 
 -- a search may follow from a later place
 pub ready-from : (views to : List ℕ) (c closed first bare first' : ℕ) → Seekable views to c closed first bare
-    → (first' ≤ length views) × None-free to first' → Seekable views to c closed first' bare
-ready-from views to c closed first bare first' r h = record {
+    → first' ≡ first-open (length views) to → Seekable views to c closed first' bare
+ready-from views to c closed first bare first' r e = record {
   room = r .room;
   entries = r .entries;
   campaign = r .campaign;
   fresh = r .fresh;
-  inside = h .0;
-  taken = h .1;
+  inside = open-is (length views) to e .0;
+  taken = open-is (length views) to e .1;
   none-free = r .none-free;
 }
 

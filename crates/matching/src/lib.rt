@@ -4,6 +4,7 @@ use campaigns::entry::wide32;
 ghost use mathlib.Core.Path.{_≡_};
 ghost use Prim.Native.Nat.{ℕ, _<_, _≤_};
 ghost use lib.ListN.{length};
+ghost use Rattle.campaigns.specs.Limits.{max-campaigns};
 ghost use Rattle.allotments.specs.Allotment.{at, nobody};
 ghost use Rattle.allotments.specs.Contracts.{Enough-lent};
 ghost use Rattle.exchange.specs.Contracts.{Seekable};
@@ -55,7 +56,7 @@ fn serve(
 
 // The campaigns of the plan, as a set.
 fn everyone(count: u64) -> u64
-    requires { ⌜ count ≤ 64 ⌝ }
+    requires { ⌜ count ≤ max-campaigns ⌝ }
     ensures { λ r. ⌜ Everyone count r ⌝ }
 {
     if count == 64 {
@@ -151,7 +152,7 @@ fn write_campaign_figures<'a>(
     level: &'a [u64; 64],
     surplus: &'a mut [u64],
 )
-    requires { ⌜ (count ≤ 64) × (count ≤ length (now surplus)) ⌝ }
+    requires { ⌜ (count ≤ max-campaigns) × (count ≤ length (now surplus)) ⌝ }
     requires { ⌜ ((d : ℕ) → d < count → at (now level) d ≤ at (now prices) d) ⌝ }
     ensures { λ _. ⌜ Filled (now (surplus .entry)) (now (surplus .exit)) count (campaign-figure (now (prices .entry))
         (now (level .entry))) ⌝ }

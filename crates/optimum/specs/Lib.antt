@@ -1,2 +1,3 @@
 pub mod Optimum
 pub mod Contracts
+pub mod Examples

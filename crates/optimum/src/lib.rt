@@ -5,6 +5,7 @@ use day::ops::audited;
 ghost use mathlib.Core.Path.{_≡_};
 ghost use Prim.Native.Nat.{ℕ, _<_, _≤_};
 ghost use lib.ListN.{length};
+ghost use Rattle.campaigns.specs.Limits.{max-campaigns};
 ghost use Rattle.finite.specs.Finite.{every};
 ghost use Rattle.sets.specs.Set.{within};
 ghost use Rattle.day.specs.Day.{state-of};
@@ -13,7 +14,7 @@ ghost use Rattle.allotments.specs.Allotment.{at};
 ghost use Rattle.optimum.specs.Optimum.{questions, Searched, takings-answer, checked};
 ghost use Rattle.optimum.specs.Contracts.{Divided};
 
-// Question 19: the contracts have it as `max-handed-in`.
+// Question 19's limit: what `first_failed` and `takings` answer by it is proved against `max-handed-in`.
 const MAX_HANDED_IN: usize = 256;
 
 // The number of the question that failed, or takings: of the search, the greatest.
@@ -75,7 +76,7 @@ fn first_failed<'a>(
 
 // The whole plays of the first campaigns, divided out once.
 fn whole_plays(count: u64, terms: &[u32; 128]) -> [u32; 64]
-    requires { ⌜ (count ≤ 64) × ((i : ℕ) → i < count → 0 < at (now terms) i) ⌝ }
+    requires { ⌜ (count ≤ max-campaigns) × ((i : ℕ) → i < count → 0 < at (now terms) i) ⌝ }
     ensures { λ r. ⌜ Divided count (now (terms .entry)) r ⌝ }
 {
     let n = count as usize;

@@ -3,12 +3,13 @@ pub mod table;
 
 ghost use mathlib.Core.Path.{_≡_};
 ghost use Prim.Native.Nat.{_≤_};
+ghost use Rattle.powers.specs.Limits.{max-depth, max-width};
 ghost use Rattle.powers.specs.Power.{Deepest, listed};
 
 // The greatest exponent up to 32 whose power of the width is at most 4,294,967,296: what the table says of question 5,
 // without writing the table to the stack. Above width 16, where question 4 fails, which exponent it is stays free.
 pub fn deepest(width: u64) -> u64
-    ensures { λ r. ⌜ (width ≤ 16 → Deepest width r) × (r ≤ 32) ⌝ }
+    ensures { λ r. ⌜ (width ≤ max-width → Deepest width r) × (r ≤ max-depth) ⌝ }
 {
     match width {
         0 => 32,

@@ -1,4 +1,7 @@
 // The table: a power, or 0 where it is above 4,294,967,296.
+ghost use mathlib.Core.Path.{_≡_};
+ghost use Rattle.powers.specs.Power.{grid};
+
 const POWERS_OF_1: [u64; 33] = [
     1,
     1,
@@ -594,3 +597,11 @@ pub const POWERS: [[u64; 33]; 16] = [
     POWERS_OF_15,
     POWERS_OF_16,
 ];
+
+// The rule over the whole table: each of its 528 entries is the power, or 0 where the power is above 4,294,967,296.
+// `power` reads one entry of `POWERS` without this call, which would write the table to the stack twice.
+pub fn all_powers() -> [[u64; 33]; 16]
+    ensures { λ r. ⌜ r ≡ grid ⌝ }
+{
+    POWERS
+}

@@ -1,6 +1,6 @@
 -- Any blocks can be handed to a new stream: what it hands back is written out from the definitions, with room for every
--- answer, and the theorem for any chunking says what was written. Of the day in two blocks the answers are computed
--- line by line, and of the block of which a part is taken the bytes.
+-- answer, and the theorem for any chunking says what was written. The answers to the lines of each day are computed;
+-- so are the bytes of the block of which a part is taken.
 use mathlib.Core.Path.{_≡_, refl, sym, ap, ap₂, _∙_, subst, subst⁻¹}
 use mathlib.Core.Bool.{Bool, cond}
 use mathlib.Core.List.{List, [], _∷_, _++_}
@@ -25,7 +25,7 @@ use Rattle.audit.specs.Sound.{sound-record}
 use Rattle.day.specs.Day.{blank, total-takings, total-claim, total-budgets, sound}
 use Rattle.questions.specs.Questions.{first-failed, width-holds}
 use Rattle.day.specs.Calls.{call}
-use Rattle.reply.specs.Reply.{reply, reply-text, next, outcome, tallies}
+use Rattle.reply.specs.Reply.{reply, reply-records, record-lines, tally-records, next, outcome}
 use Rattle.reply.specs.Session.{Session, reply-room, after-byte, fed, consumed-count, upto}
 use Rattle.reply.proofs.Sessions.{fed-append}
 use Rattle.stream.specs.declared.feed.Stream.{Stream}
@@ -34,11 +34,36 @@ use Rattle.stream.specs.Stream.{finished, new-stream, session-of, silent, strea
 use Rattle.stream.specs.Stream.{consumed-bytes, Comes-to, Feeds, Finishes}
 use Rattle.stream.specs.Chunking.{joined, Plain, All-plain, after-lines, replies, last-reply, Split}
 use Rattle.stream.specs.Chunking.{Feeding, In-blocks, stream-after}
-use Rattle.stream.proofs.Chunking.{fed-said, fed-lines, any-chunking}
+use Rattle.stream.proofs.Chunking.{fed-said, fed-lines, any-input, any-chunking}
 use Rattle.programs.specs.Examples.{in-one, blocks-of, Any-blocks}
-use Rattle.stream.specs.Listing.{lines-of}
+use Rattle.stream.specs.Listing.{lines-of, listing-lines, listing-answers}
 use Rattle.programs.specs.Examples.{Handed, first-block, second-block, answers, Day-in-two-blocks, two-lines}
-use Rattle.programs.specs.Examples.{In-part}
+use Rattle.programs.specs.Examples.{In-part, Input-answered, Listing-answered, odd-lines, odd-answers}
+use Rattle.programs.specs.Examples.{Listing-closes, Odd-lines-answered}
+
+-- What is computed: the answers to lines and a rest.
+
+abbrev answers-to : List (List ℕ) → (rest : List ℕ) → List ℕ
+answers-to ls rest = replies blank ls ++ last-reply (after-lines blank ls) rest
+
+abbrev day-lines : List (List ℕ)
+day-lines =
+    lines-of ("(plan (depth 2) (width 2))" ∷ "(campaign (price 5) (budget 5))" ∷ "(start)" ∷ "(view 0)" ∷ [])
+
+record Computed : Type 0 where
+  day : answers-to day-lines (bytes "(close)") ≡ answers
+  listing : answers-to listing-lines [] ≡ joined listing-answers []
+  odd : answers-to odd-lines (bytes "(view 0)") ≡ joined odd-answers []
+  close : Listing-closes
+
+computed : Computed
+unfolding replies after-lines joined reply reply-records record-lines tally-records next outcome
+    reading first-of forms held-or ended-or made numbers-of rest-of step strip slot-at set-at numeral-at digits
+    is-digit template in-slot in-range line text filled slot-text names-text piece numbers numeral numeral-in
+    numbers-after call first-failed sound sound-record blank sum count every table within size member
+    width-holds weight share whole claim total-takings total-claim total-budgets sound-plan priced counted uncounted
+    empty sound-campaign best choice collect without upto
+computed = record { day = refl; listing = refl; odd = refl; close = refl }
 
 -- What is handed back.
 
@@ -152,10 +177,6 @@ any-blocks bs i d room =
 
 -- The day.
 
-abbrev day-lines : List (List ℕ)
-day-lines =
-    lines-of ("(plan (depth 2) (width 2))" ∷ "(campaign (price 5) (budget 5))" ∷ "(start)" ∷ "(view 0)" ∷ [])
-
 day-plain : All-plain day-lines × Plain (bytes "(close)")
 unfolding upto
 day-plain = ((refl, (refl, (refl, (refl, tt)))), refl)
@@ -173,14 +194,6 @@ day-split = record {
   whole = day-joined;
 }
 
-day-answers : replies blank day-lines ++ last-reply (after-lines blank day-lines) (bytes "(close)") ≡ answers
-unfolding replies after-lines joined reply reply-text next outcome tallies reading first-of forms held-or ended-or
-    made numbers-of rest-of step strip slot-at set-at numeral-at digits is-digit template in-slot in-range line text
-    filled slot-text names-text piece numbers numeral numeral-in numbers-after call first-failed sound sound-record
-    blank sum count every table within size member width-holds weight share whole claim total-takings total-claim
-    total-budgets sound-plan priced counted uncounted empty sound-campaign best choice collect without
-day-answers = refl
-
 answers-length : length answers ≡ 123
 unfolding joined
 answers-length = refl
@@ -189,8 +202,9 @@ pub day-in-two-blocks : Day-in-two-blocks
 day-in-two-blocks d h =
     let last = last-reply (after-lines blank day-lines) (bytes "(close)") in
     let n : length (replies blank day-lines) + length last ≡ 123 =
-    sym (length-append (replies blank day-lines) last) ∙ ap (λ (w : List ℕ). length w) day-answers ∙ answers-length in
-    subst (λ (w : List ℕ). Handed (first-block ∷ second-block ∷ []) d w) day-answers
+    sym (length-append (replies blank day-lines) last) ∙ ap (λ (w : List ℕ). length w) (computed .day)
+    ∙ answers-length in
+    subst (λ (w : List ℕ). Handed (first-block ∷ second-block ∷ []) d w) (computed .day)
     (any-blocks (first-block ∷ second-block ∷ []) day-split d (omega (arith, n, h)))
 
 -- A block in part.
@@ -210,11 +224,35 @@ taken room n w d e r count said same f =
     )
 
 pub in-part : In-part
-unfolding fed after-byte consumed-count joined reply reply-text next outcome reading first-of forms held-or ended-or
-    made numbers-of rest-of step strip slot-at set-at numeral-at digits is-digit template in-slot line text filled
-    slot-text piece numbers numeral numeral-in numbers-after
+unfolding fed after-byte consumed-count joined reply reply-records record-lines next outcome
+    reading first-of forms held-or ended-or made numbers-of rest-of step strip slot-at set-at numeral-at digits
+    is-digit template in-slot line text filled slot-text piece numbers numeral numeral-in numbers-after
 in-part = record {
   first-alone = λ d e r. taken reply-room 11 _ d e r refl refl;
   one-byte-short = λ d e r. taken (reply-room + 12) 11 _ d e r refl refl;
   both = λ d e r. taken (reply-room + 13) 22 _ d e r refl refl;
 }
+
+-- Whole inputs.
+
+-- the answers to its lines and its rest are those to the input
+answered : (ls : List (List ℕ)) (rest : List ℕ) (told : List (List ℕ)) → All-plain ls × Plain rest
+    → answers-to ls rest ≡ joined told [] → Input-answered ls rest told
+answered ls rest told p e = any-input (joined ls rest) ls rest (p .0) (p .1) refl ∙ e
+
+listing-plain : All-plain listing-lines × Plain []
+unfolding upto
+listing-plain = ((refl, (refl, (refl, (refl, (refl, (refl, (refl, (refl, (refl, (refl, (refl, tt))))))))))), refl)
+
+pub listing-answered : Listing-answered
+listing-answered = answered listing-lines [] listing-answers listing-plain (computed .listing)
+
+pub listing-closes : Listing-closes
+listing-closes = computed .close
+
+odd-plain : All-plain odd-lines × Plain (bytes "(view 0)")
+unfolding upto
+odd-plain = ((refl, (refl, (refl, (refl, (refl, (refl, (refl, (refl, tt)))))))), refl)
+
+pub odd-lines-answered : Odd-lines-answered
+odd-lines-answered = answered odd-lines (bytes "(view 0)") odd-answers odd-plain (computed .odd)

@@ -6,9 +6,7 @@ use mathlib.Core.Bool.{Bool, true, false, cond, _&&_}
 use mathlib.Core.List.{List, [], _∷_, _++_, append-assoc, append-nil}
 use Prim.Native.Nat.{ℕ, suc, _+_, _≤_, _<_}
 use native.Mathlib.Omega.{arith}
-use lib.Dec.{eqb}
-use lib.ListN.{getD, take}
-use borrow.Author.Tests.{eqb-true, ne-eqb}
+use borrow.Author.Tests.{ne-eqb}
 use Rattle.finite.specs.Finite.{total}
 use Rattle.finite.proofs.Tables.{total-snoc}
 use Rattle.lines.specs.declared.Record.{Record}
@@ -16,10 +14,7 @@ use Rattle.lines.specs.declared.Record.the-variants.{Plan, Campaign, Start, Vie
 use Rattle.lines.specs.declared.Record.the-variants.{Closed, Tally, Pause, Resume}
 use Rattle.lines.specs.declared.Reading.{Reading}
 use Rattle.lines.specs.declared.Reading.the-variants.{Got, Refusal}
-use Rattle.lines.specs.Form.{text, in-range}
 use Rattle.lines.specs.Reading.{reading}
-use Rattle.lines.proofs.Inverse.{one-text}
-use Rattle.writer.specs.Writing.{line}
 use Rattle.campaigns.specs.declared.Terms.{Terms}
 use Rattle.campaigns.specs.declared.View.{View as Lift}
 use Rattle.campaigns.specs.View.{full}
@@ -45,36 +40,18 @@ use Rattle.floor.proofs.Noon.{noon-at-end}
 use Rattle.refinement.specs.Correspondence.{Buys-alike}
 use Rattle.refinement.specs.Days.{Day-agrees}
 use Rattle.refinement.proofs.Days.{days-as-algorithm-4}
-use Rattle.reply.specs.Reply.{Request, request, request-of, executed, outcome, tallies, answer-line, is-closing}
-use Rattle.reply.specs.Reply.{reply-text, reply, next}
+use Rattle.reply.specs.Reply.{Request, request, request-of, executed, outcome, tally-records, answer-records}
+use Rattle.reply.specs.Reply.{is-closing, reply-records, reply, next}
 use Rattle.reply.specs.Reply.Request.{makes, fails}
-use Rattle.reply.specs.Contracts.{answer-in-range}
-use Rattle.reply.proofs.Replies.{Said, line-said}
-use Rattle.reply.proofs.Ranges.{said-range}
-use Rattle.reply.specs.Session.{upto}
+use Rattle.reply.specs.Session.{first-line}
+use Rattle.reply.specs.Answered.{Output-lines}
+use Rattle.reply.proofs.Replies.{Said, line-said, answers-each}
 use Rattle.stream.specs.Chunking.{after-lines, replies}
-use Rattle.programs.specs.Lines.{with-request, calls-of, with-exchange, exchanges, first-line, is-plan, is-ok}
+use Rattle.programs.specs.Lines.{with-request, calls-of, with-exchange, exchanges, is-plan, is-ok}
 use Rattle.programs.specs.Lines.{price-in, of-reading, sum-after, sum-over, sum-paid, day-of}
 use Rattle.programs.specs.Lines.{Lines-keep-the-demands, Rest-is-a-line}
 
--- The first line of an answer.
-
-first-is : (t w : List ℕ) → ((i : ℕ) → getD t i 0 ≡ 10 → ⊥) → first-line (t ++ (10 ∷ w)) ≡ t
-unfolding upto
-first-is [] w p = refl
-first-is (b ∷ t) w p = go (eqb b 10) refl (first-is t w (λ i. p (suc i)))
-  where
-    go : (x : Bool) → eqb b 10 ≡ x → first-line (t ++ (10 ∷ w)) ≡ t
-        → take (cond x 0 (suc (upto (t ++ (10 ∷ w))))) (b ∷ (t ++ (10 ∷ w))) ≡ b ∷ t
-    go true e q = absurd (p 0 (eqb-true b 10 e))
-    go false e q = ap (λ (m : List ℕ). b ∷ m) q
-
-line-reads : (r : Record) (w : List ℕ) → in-range r ≡ true → reading (first-line (line r ++ w)) ≡ Got r
-unfolding line
-line-reads r w h =
-    ap (λ (m : List ℕ). reading (first-line m)) (append-assoc (text r) (10 ∷ []) w)
-    ∙ ap reading (first-is (text r) w (one-text .plain r))
-    ∙ one-text .reads r h
+-- The first line of an answer reads as its record.
 
 -- the record of an answer; no line asks for one tally
 abbrev record-of : Answer → Record
@@ -85,21 +62,21 @@ record-of no-one = Nobody
 record-of (tallied p t a n) = Tally 0 p t a n
 record-of (closing t c f) = Closed t c f
 
-answer-line-reads : (a : Answer) → Said a → answer-in-range a ≡ true → (w : List ℕ)
-    → reading (first-line (answer-line a ++ w)) ≡ Got (record-of a)
-answer-line-reads (refusing q) h r w = line-reads (Refused q) w r
-answer-line-reads done h r w = line-reads Done w r
-answer-line-reads (played i p) h r w = line-reads (Play i p) w r
-answer-line-reads no-one h r w = line-reads Nobody w r
-answer-line-reads (tallied p t a n) h r w = absurd h
-answer-line-reads (closing t c f) h r w = line-reads (Closed t c f) w r
+first-reads : (a : Answer) → Said a → (w : List ℕ) (rs : List Record) → Output-lines w (answer-records a ++ rs)
+    → reading (first-line w) ≡ Got (record-of a)
+first-reads (refusing q) h w rs o = o .0 .reads
+first-reads done h w rs o = o .0 .reads
+first-reads (played i p) h w rs o = o .0 .reads
+first-reads no-one h w rs o = o .0 .reads
+first-reads (tallied p t a n) h w rs o = absurd h
+first-reads (closing t c f) h w rs o = o .0 .reads
 
 said-is : (s : Day) (l : List ℕ) → reading (first-line (reply s l)) ≡ Got (record-of (outcome s l .answer))
-unfolding reply reply-text
+unfolding reply-records
 said-is s l =
     let o = outcome s l in
-    answer-line-reads (o .answer) (line-said s l) (said-range s l)
-    (cond (is-closing (o .answer)) (tallies (campaign (o .day)) (o .day .count)) [])
+    first-reads (o .answer) (line-said s l) (reply s l)
+    (cond (is-closing (o .answer)) (tally-records (campaign (o .day)) (o .day .count)) []) (answers-each s l .lines-are)
 
 -- The calls.
 
@@ -287,18 +264,24 @@ noon-is ls =
     (subst⁻¹ (λ (xs : List Exchange). Noon-floor (history xs) (final blank (calls-of ls))) (exchanges-are blank ls)
     (noon-at-end blank (calls-of ls) (from-blank (calls-of ls))))
 
-closing-figures : (ls : List (List ℕ)) (t c f : ℕ) → Closed t c f ≡ closed-by (after-lines blank ls)
-    → (floor-figure (after-lines blank ls) ≤ c) × (c ≤ f) × (f ≡ full (day-of ls .plan) t)
-closing-figures ls t c f e =
-    let s = after-lines blank ls in
-    let n = noon-is ls in
-    let same-t : t ≡ total-takings s = closed-takings t c f _ _ _ e in
-    let same-c : c ≡ total-claim s = closed-claim t c f _ _ _ e in
-    let same-f : f ≡ full (s .plan) (total-takings s) = closed-full t c f _ _ _ e in (
-      subst⁻¹ (λ (x : ℕ). floor-figure s ≤ x) same-c (n .claim-above),
-      subst⁻¹ (λ (x : ℕ). x ≤ f) same-c (subst⁻¹ (λ (x : ℕ). total-claim s ≤ x) same-f (n .claim-below)),
-      same-f ∙ ap₂ full (n .plan-is) (sym same-t),
-    )
+module _ (ls : List (List ℕ)) (t c f : ℕ) (e : Closed t c f ≡ closed-by (after-lines blank ls)) where
+  closing-takings : t ≡ total-takings (after-lines blank ls)
+  closing-takings = closed-takings t c f _ _ _ e
+
+  closing-claim : c ≡ total-claim (after-lines blank ls)
+  closing-claim = closed-claim t c f _ _ _ e
+
+  closing-full : f ≡ full (day-of ls .plan) t
+  closing-full = closed-full t c f _ _ _ e ∙ ap₂ full (noon-is ls .plan-is) (sym closing-takings)
+
+  closing-figures : (floor-figure (after-lines blank ls) ≤ c) × (c ≤ f)
+  closing-figures =
+      let s = after-lines blank ls in
+      let n = noon-is ls in (
+        subst⁻¹ (λ (x : ℕ). floor-figure s ≤ x) closing-claim (n .claim-above),
+        subst⁻¹ (λ (x : ℕ). x ≤ f) closing-claim
+            (subst⁻¹ (λ (x : ℕ). total-claim s ≤ x) (closed-full t c f _ _ _ e) (n .claim-below)),
+      )
 
 agrees-is : (ls : List (List ℕ)) (B : Terms → ℕ) → Buys-alike B → 1 < day-of ls .plan .width
     → Day-agrees B (day-of ls) (after-lines blank ls)
@@ -320,7 +303,11 @@ lines-keep-the-demands ls =
       floor = floor-is ls;
       noon = noon-is ls;
       closing-is = λ l t c f e.
-          closed-takings t c f _ _ _ (line-closes (after-lines blank ls) t c f l e) ∙ floor-is ls .takings-is ∙ p;
+          let k = line-closes (after-lines blank ls) t c f l e in (
+            closing-takings ls t c f k ∙ floor-is ls .takings-is ∙ p,
+            closing-claim ls t c f k,
+            closing-full ls t c f k,
+          );
       closing-noon = λ l t c f e. closing-figures ls t c f (line-closes (after-lines blank ls) t c f l e);
       agrees = agrees-is ls;
     }

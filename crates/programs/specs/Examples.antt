@@ -1,18 +1,24 @@
 -- That the theorem for any chunking has something to speak of: every list of blocks can be handed to a new stream, and
--- a day in two blocks, with the answers that it gets; a block of which a part is taken for want of room.
+-- a day in two blocks, with the answers that it gets; a block of which a part is taken for want of room. Document 01's
+-- listing, and a day with lines that are refused, each as a whole input and what answers it; and the listing's close,
+-- of which `Of-lines.closing-is` and `Of-lines.closing-noon` speak.
 use mathlib.Core.Path.{_≡_}
 use mathlib.Core.List.{List, [], _∷_, _++_}
 use Prim.Native.Nat.{ℕ, _+_, _≤_}
 use Prim.Native.String.{String}
-use lib.ListN.{length, take}
+use lib.ListN.{length, take, replicate}
+use Rattle.lines.specs.declared.Record.the-variants.{Closed}
+use Rattle.lines.specs.declared.Reading.the-variants.{Got}
 use Rattle.lines.specs.Form.{bytes}
+use Rattle.lines.specs.Reading.{reading}
 use Rattle.day.specs.Day.{blank}
-use Rattle.reply.specs.Session.{reply-room}
+use Rattle.reply.specs.Reply.{reply}
+use Rattle.reply.specs.Session.{reply-room, first-line}
 use Rattle.stream.specs.declared.feed.Fed.{Fed}
-use Rattle.stream.specs.Stream.{new-stream, Feeds, Finishes}
-use Rattle.stream.specs.Listing.{lines-of}
+use Rattle.stream.specs.Stream.{new-stream, session-of, Feeds, Finishes}
+use Rattle.stream.specs.Listing.{lines-of, listing-lines, listing-answers}
 use Rattle.stream.specs.Chunking.{joined, after-lines, replies, last-reply, Split}
-use Rattle.stream.specs.Chunking.{Feeding, In-blocks, stream-after, all-written}
+use Rattle.stream.specs.Chunking.{Feeding, In-blocks, stream-after, all-written, all-output}
 
 -- the blocks as one input
 abbrev pub in-one : List (List ℕ) → List ℕ
@@ -73,3 +79,32 @@ pub record In-part : Type 0 where
   pub first-alone : Takes reply-room 11 ("(refused 17)" ∷ [])
   pub one-byte-short : Takes (reply-room + 12) 11 ("(refused 17)" ∷ [])
   pub both : Takes (reply-room + 13) 22 ("(refused 17)" ∷ "(refused 17)" ∷ [])
+
+-- a new stream answers the input of these lines and a rest by these lines, and nothing else
+abbrev pub Input-answered : (lines : List (List ℕ)) → (rest : List ℕ) → (answers : List (List ℕ)) → Type 0
+Input-answered ls rest told = all-output (session-of new-stream) (joined ls rest) ≡ joined told []
+
+-- document 01's listing
+abbrev pub Listing-answered : Type 0
+Listing-answered = Input-answered listing-lines [] listing-answers
+
+-- behind its other lines the last, (close), is answered (closed (takings 16) (claim 48) (full 64))
+abbrev pub Listing-closes : Type 0
+Listing-closes =
+    reading (first-line (reply (after-lines blank (take 10 listing-lines)) (bytes "(close)"))) ≡ Got (Closed 16 48 64)
+
+-- a running day with an empty line, an output form, a line of 200 bytes that is no form, one of 201 bytes and one of
+-- 402, and a last line without byte 10
+abbrev pub odd-lines : List (List ℕ)
+odd-lines =
+    lines-of ("(plan (depth 2) (width 2))" ∷ "(campaign (price 5) (budget 5))" ∷ "(start)" ∷ "" ∷ "(ok)" ∷ [])
+    ++ (replicate 200 40 ∷ replicate 201 40 ∷ replicate 402 40 ∷ [])
+
+abbrev pub odd-answers : List (List ℕ)
+odd-answers =
+    lines-of
+    ("(ok)" ∷ "(ok)" ∷ "(ok)" ∷ "(refused 17)" ∷ "(refused 17)" ∷ "(refused 17)" ∷ "(refused 16)" ∷ "(refused 16)" ∷
+    "(play 0 (paid 5))" ∷ [])
+
+abbrev pub Odd-lines-answered : Type 0
+Odd-lines-answered = Input-answered odd-lines (bytes "(view 0)") odd-answers

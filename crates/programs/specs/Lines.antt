@@ -4,7 +4,6 @@ use mathlib.Core.Path.{_≡_}
 use mathlib.Core.Bool.{Bool, true, false, cond, _&&_}
 use mathlib.Core.List.{List, [], _∷_, _++_}
 use Prim.Native.Nat.{ℕ, _+_, _≤_, _<_}
-use lib.ListN.{take}
 use Rattle.lines.specs.declared.Record.{Record}
 use Rattle.lines.specs.declared.Record.the-variants.{Plan, Campaign, Start, View, Close, Done, Play, Nobody, Refused}
 use Rattle.lines.specs.declared.Record.the-variants.{Closed, Tally, Pause, Resume}
@@ -15,7 +14,7 @@ use Rattle.campaigns.specs.declared.Terms.{Terms}
 use Rattle.campaigns.specs.View.{full}
 use Rattle.day.specs.declared.Answer.{Answer}
 use Rattle.day.specs.declared.Day.{Day}
-use Rattle.day.specs.Day.{blank}
+use Rattle.day.specs.Day.{blank, total-claim}
 use Rattle.day.specs.Calls.{Call}
 use Rattle.noon.specs.Noon.{floor-figure}
 use Rattle.demands.specs.Transcript.{Exchange, transcript, final}
@@ -26,7 +25,7 @@ use Rattle.refinement.specs.Correspondence.{Buys-alike}
 use Rattle.refinement.specs.Days.{Day-agrees}
 use Rattle.reply.specs.Reply.{Request, request-of, outcome, reply, next}
 use Rattle.reply.specs.Reply.Request.{makes, fails}
-use Rattle.reply.specs.Session.{upto}
+use Rattle.reply.specs.Session.{first-line}
 use Rattle.stream.specs.Chunking.{after-lines, replies, last-reply, with-rest}
 
 -- The calls.
@@ -50,10 +49,6 @@ exchanges s [] = []
 exchanges s (l ∷ ls) = with-exchange (request-of (reading l)) (outcome s l .answer) (exchanges (next s l) ls)
 
 -- What was paid, told by the text alone.
-
--- what the first line of an answer says
-abbrev pub first-line : List ℕ → List ℕ
-first-line w = take (upto w) w
 
 abbrev pub is-plan : Record → Bool
 is-plan (Plan k d) = true
@@ -132,13 +127,14 @@ pub record Of-lines (ls : List (List ℕ)) : Type 0 where
   pub floor : Floor (day-of ls) (after-lines blank ls)
   -- the floor at noon, of any lines: so after every line of an input
   pub noon : Noon-floor (day-of ls) (after-lines blank ls)
-  -- a line more that is answered (closed (takings T) ..): T is that sum
+  -- a line more that is answered (closed (takings T) (claim C) (full F)): T is that sum, C the total claim of the
+  -- state, and F is full, d^k × T
   pub closing-is : (l : List ℕ) (t c f : ℕ) → reading (first-line (reply (after-lines blank ls) l)) ≡ Got (Closed t c f)
-      → t ≡ sum-paid ls
-  -- and its claim and full are the figures at noon, between which and the floor's figure the claim lies
+      → (t ≡ sum-paid ls) × (c ≡ total-claim (after-lines blank ls)) × (f ≡ full (day-of ls .plan) t)
+  -- and C lies between the floor's figure and F
   pub closing-noon : (l : List ℕ) (t c f : ℕ)
       → reading (first-line (reply (after-lines blank ls) l)) ≡ Got (Closed t c f)
-      → (floor-figure (after-lines blank ls) ≤ c) × (c ≤ f) × (f ≡ full (day-of ls .plan) t)
+      → (floor-figure (after-lines blank ls) ≤ c) × (c ≤ f)
   -- at widths above 1 the views got Algorithm 4's answers
   pub agrees : (B : Terms → ℕ) → Buys-alike B → 1 < day-of ls .plan .width
       → Day-agrees B (day-of ls) (after-lines blank ls)

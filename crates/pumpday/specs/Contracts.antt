@@ -5,9 +5,9 @@ use mathlib.Core.List.{List}
 use Prim.Native.Nat.{ℕ, _+_, _≤_}
 use lib.ListN.{length, take, drop}
 use Rattle.reply.specs.Session.{Session, fed, consumed-count}
-use Rattle.stream.specs.Stream.{session-of, silent, consumed-bytes}
+use Rattle.stream.specs.Stream.{session-of, consumed-bytes}
 use Rattle.wire.specs.declared.Wire.{Wire}
-use Rattle.wire.specs.Wires.{Reads, Writes}
+use Rattle.wire.specs.Wires.{Reads}
 use Rattle.pumpday.specs.declared.teller.Turn.{Turn}
 use Rattle.pumpday.specs.declared.teller.Teller.{Teller}
 use Rattle.pumpday.specs.Telling.{Told}
@@ -31,12 +31,13 @@ pub record Whole (w : Teller) (l : List ℕ) (r : Turn) : Type 0 where
   pub tells : Told w (by w (take (r .from) l)) (r .teller)
   pub all : r .teller .wire .sent ≡ true → r .from ≡ length l
 
--- one read, which gave the first n bytes of l: they were taken and their answers told, unless a write failed
+-- One read that gave n bytes, at the front of the block l: the first `taken` of them were taken and their answers told,
+-- and that is all of them unless a write failed.
 pub record Taken (w : Teller) (l : List ℕ) (r : Teller) : Type 0 where
   pub n : ℕ
   pub read : Wire
   pub reads : Reads (w .wire) l n read
-  pub told : List ℕ
-  pub writes : Writes read told (r .wire)
-  pub stream-is : r .wire .sent ≡ true → held r ≡ silent (by w (take n l))
-  pub told-is : r .wire .sent ≡ true → told ≡ by w (take n l) .output
+  pub taken : ℕ
+  pub inside : taken ≤ n
+  pub tells : Told (record { stream = w .stream; wire = read }) (by w (take taken l)) r
+  pub all : r .wire .sent ≡ true → taken ≡ n

@@ -2,7 +2,7 @@
 // for. A read or a write that fails is told on standard error.
 mod teller;
 
-ghost use Prim.Native.Nat.{_≤_};
+ghost use Prim.Native.Nat.{_≤_, _<_};
 ghost use lib.ListN.{length};
 ghost use Rattle.reply.specs.Session.{reply-room};
 ghost use Rattle.pumpday.specs.Pump.{Runs};
@@ -11,7 +11,7 @@ use teller::Teller;
 // Block after block, until a read gives nothing or a write fails. A proved loop has to end: this one counts down from a
 // number that no run uses up.
 fn run(block: &mut [u8], out: &mut [u8]) -> Teller
-    requires { ⌜ reply-room ≤ length (now out) ⌝ }
+    requires { ⌜ (0 < length (now block)) × (reply-room ≤ length (now out)) ⌝ }
     ensures { λ r. ⌜ Runs r ⌝ }
 {
     let mut teller = Teller::new();
@@ -30,6 +30,7 @@ fn run(block: &mut [u8], out: &mut [u8]) -> Teller
     teller
 }
 
+// It promises nothing: what a run promises, `run` does, and behind it only standard error is written.
 fn main() {
     let mut block = io::large_buffer();
     let mut out = io::large_buffer();

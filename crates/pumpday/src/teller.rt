@@ -1,7 +1,7 @@
 // What is told: the answers to lines. A teller has the program's wire and the stream that its input is fed to; its
 // fields are private, so that no other code makes one, writes over its wire or changes the stream.
 ghost use mathlib.Core.Path.{_≡_};
-ghost use Prim.Native.Nat.{_≤_};
+ghost use Prim.Native.Nat.{_≤_, _<_};
 ghost use lib.ListN.{length};
 ghost use Rattle.reply.specs.Session.{reply-room};
 ghost use Rattle.stream.specs.Stream.{finished, session-of, silent};
@@ -85,25 +85,27 @@ impl Teller {
         t
     }
 
-    // One read, and the answers to what it gave.
+    // One read, and the answers to what it gave, which is borrowed until they are told, so that nothing writes over it.
+    // What is left in `out` is free.
     pub fn turn(self, block: &mut [u8], out: &mut [u8]) -> Self
-        requires { ⌜ reply-room ≤ length (now out) ⌝ }
+        requires { ⌜ (0 < length (now block)) × (reply-room ≤ length (now out)) ⌝ }
         ensures { λ r. ⌜ Taken self (now (block .exit)) r ⌝ }
     {
         let wire = self.wire;
         let got = wire.read(block);
+        let n = got.n;
+        let given = &block[..n];
         let stream = self.stream;
         let next = got.wire;
         let teller = Teller {
             stream: stream,
             wire: next,
         };
-        let n = got.n;
-        let t = teller.answer_block(&block[..n], out);
+        let t = teller.answer_block(given, out);
         t.teller
     }
 
-    // The end of input: the answer to a last line without byte 10.
+    // The end of input: the answer to a last line without byte 10. What is left in `out` is free.
     pub fn finish(self, out: &mut [u8]) -> Self
         requires { ⌜ reply-room ≤ length (now out) ⌝ }
         ensures { λ r. ⌜ Told self (finished (session-of (self .stream))) r ⌝ }
@@ -129,6 +131,7 @@ impl Teller {
         wire.sent()
     }
 
+    // Standard error is free, as of `Wire::complain`.
     pub fn complain(self) {
         let wire = self.wire;
         wire.complain(b"pumpday");

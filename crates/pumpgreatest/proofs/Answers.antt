@@ -4,7 +4,7 @@
 use mathlib.Core.Path.{_≡_, refl, sym, ap, ap₂, _∙_, subst⁻¹}
 use mathlib.Core.Bool.{Bool, true, false, cond}
 use mathlib.Core.List.{List, [], _∷_, _++_, map}
-use Prim.Native.Nat.{ℕ, zero, suc, _-_, _≤_, _<_}
+use Prim.Native.Nat.{ℕ, zero, suc, _+_, _-_, _≤_, _<_}
 use native.Mathlib.Omega.{arith}
 use lib.Dec.{leb}
 use lib.ListN.{length, take, drop, getD, length-take, length-drop, length-map}
@@ -34,7 +34,7 @@ use Rattle.programs.proofs.Lines.{lines-keep-the-demands}
 use Rattle.floor.specs.History.{own-views}
 use Rattle.earnings.specs.declared.Earnings.the-variants.{Refused, Figures}
 use Rattle.earnings.specs.Earnings.{question-of, earned}
-use Rattle.pumpgreatest.specs.Prints.{answer, day-earnings}
+use Rattle.pumpgreatest.specs.Prints.{answer, day-earnings, Day-earned}
 
 -- the bytes that were put, as they stand in the buffer
 pub put-stands : {d e : List ℕ} {at to : ℕ} {w : List ℕ} → Put d e at to w → to ≤ length d
@@ -104,3 +104,9 @@ module _ (s : Day) (h : History) (r : Reached s h) where
 pub lines-answered : (ls : List (List ℕ)) (n : ℕ) → max-handed-in < n
     → earned (after-lines blank ls) (take n (own-views (day-of ls))) ≡ day-earnings ls
 lines-answered ls n l = answered (after-lines blank ls) (day-of ls) (reached-lines ls) n l
+
+pub day-earned : Day-earned
+day-earned ls =
+    let v = own-views (day-of ls) in
+    let n = suc (max-handed-in + length v) in
+    ap (earned (after-lines blank ls)) (sym (take-all n v (omega arith))) ∙ lines-answered ls n (omega arith)

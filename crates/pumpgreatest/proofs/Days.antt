@@ -3,7 +3,7 @@
 use mathlib.Core.Path.{_≡_, ap, ap₂, _∙_, subst, subst⁻¹}
 use mathlib.Core.Bool.{true, false}
 use mathlib.Core.List.{List, [], _++_}
-use Prim.Native.Nat.{ℕ, suc, _-_, _^_, _≤_, _<_}
+use Prim.Native.Nat.{ℕ, suc, _≤_, _<_}
 use lib.ListN.{length, take}
 use Rattle.day.specs.declared.Day.{Day}
 use Rattle.day.specs.Day.{blank}
@@ -17,7 +17,7 @@ use Rattle.recording.specs.Recording.{noted, last-views}
 use Rattle.recording.specs.Contracts.{Took}
 use Rattle.recording.proofs.Bytes.{took-none, took-more}
 use Rattle.recording.proofs.Views.{any-recording}
-use Rattle.wire.specs.Wires.{counted-on, input-of}
+use Rattle.wire.specs.Wires.{counted-on, max-reads, input-of}
 use Rattle.wire.proofs.Blocks.{no-more}
 use Rattle.wire.proofs.Heard.{Heard, Ended, heard-none, heard-more, untold, ended-failed, ended-told, ended-spent}
 use Rattle.earnings.specs.declared.Earnings.{Earnings}
@@ -46,7 +46,7 @@ abbrev pub Reached : (v : List ℕ) → Stream → List ℕ → Teller → ℕ �
 Reached v k u w turns = Heard (λ i. Took new-stream v i k u) (w .wire) turns
 
 pub reached-none : (v : List ℕ) {k : Stream} {w : Teller} → k ≡ new-stream → w ≡ new-teller
-    → Reached v k v w (2 ^ 64 - 1)
+    → Reached v k v w max-reads
 reached-none v e f =
     heard-none (ap (λ (w : Teller). w .wire) f)
     (subst⁻¹ (λ (k : Stream). Took new-stream v [] k v) e (took-none new-stream v))
@@ -67,6 +67,7 @@ prints-of e = record {
   earnings-is = λ f h. e .holds f h .0;
   told-is = λ f h. e .holds f h .1;
   none-told = e .none-told;
+  none-told-yet = e .none-told-yet;
 }
 
 module _ {v : List ℕ} {k : Stream} {u : List ℕ} {w : Teller} {turns : ℕ} (a : Reached v k u w turns) {l : List ℕ}

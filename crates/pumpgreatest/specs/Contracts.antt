@@ -13,7 +13,7 @@ use Rattle.wire.specs.Wires.{Reads}
 use Rattle.pumpgreatest.specs.declared.Read.{Read}
 use Rattle.pumpgreatest.specs.declared.teller.Teller.{Teller}
 
--- one read, which gave the first n bytes of l: they were taken, and the entries v for views became u
+-- one read that gave n bytes, at the front of the block l: they were taken, and the entries v for views became u
 pub record Taken (w : Teller) (k : Stream) (v l : List ℕ) (r : Read) (u : List ℕ) : Type 0 where
   pub n : ℕ
   pub reads : Reads (w .wire) l n (r .teller .wire)

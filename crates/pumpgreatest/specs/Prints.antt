@@ -1,8 +1,8 @@
--- A whole run of the program: the input that reads gave, and what was told.
+-- A whole run of the program: its input, and what was told.
 use mathlib.Core.Path.{_≡_}
 use mathlib.Core.Bool.{true, false, cond}
 use mathlib.Core.List.{List}
-use Prim.Native.Nat.{ℕ, _-_, _^_, _<_}
+use Prim.Native.Nat.{ℕ, _<_}
 use lib.Dec.{leb}
 use lib.ListN.{length}
 use Rattle.day.specs.declared.Day.{Day}
@@ -14,12 +14,12 @@ use Rattle.programs.specs.Lines.{day-of}
 use Rattle.floor.specs.History.{own-views}
 use Rattle.earnings.specs.declared.Earnings.{Earnings}
 use Rattle.earnings.specs.declared.Earnings.the-variants.{Refused, Figures}
-use Rattle.earnings.specs.Earnings.{earnings-text}
-use Rattle.wire.specs.Wires.{counted-on, input-of, None-empty}
+use Rattle.earnings.specs.Earnings.{earned, earnings-text}
+use Rattle.wire.specs.Wires.{counted-on, max-reads, input-of, None-empty}
 use Rattle.pumpgreatest.specs.declared.teller.Teller.{Teller}
 
--- a state and the views of its day: what it took and the most that these views could have earned, or 19 for more than
--- 256 of them; on a day that lines record no other question of `earned` fails
+-- a state and the views of its day: what it took and the most that these views could have earned; or, for more views
+-- than are handed in, 19, the number of request 4's question that fails then (`questions` of `optimum/specs/Optimum`)
 abbrev pub answer : Day → (views : List ℕ) → Earnings
 answer s views = cond (leb (length views) max-handed-in) (Figures (total-takings s) (most-of s views)) (Refused 19)
 
@@ -27,18 +27,25 @@ answer s views = cond (leb (length views) max-handed-in) (Figures (total-takings
 abbrev pub day-earnings : List (List ℕ) → Earnings
 day-earnings ls = answer (after-lines blank ls) (own-views (day-of ls))
 
--- A whole run: reads gave blocks, which are lines and a rest; a rest that has bytes is a last line. Unless a read
--- failed or 2^64 − 1 reads were made, the last read gave nothing, the earnings that were told are those of the day that
--- the lines record, and as many bytes were told as their line has; that they are its bytes is what `tell` requires.
--- After a read that failed nothing is told.
+-- the search itself answers so: on a day that lines record no other question of `earned` fails
+abbrev pub Day-earned : Type 0
+Day-earned = (ls : List (List ℕ)) → earned (after-lines blank ls) (own-views (day-of ls)) ≡ day-earnings ls
+
+-- A whole run. There are blocks, none empty, of as many bytes as the reads gave; which bytes these are no contract can
+-- say, and that each block is handed on as it was read is read in the source. As one input they are lines and a rest; a
+-- rest that has bytes is a last line. Unless a read failed or `max-reads` reads were made, the last read gave nothing.
+-- Where it gave nothing and did not fail, the earnings that were told are those of the day that the lines record, and
+-- as many bytes were told as their line has; else nothing was told. `tell` requires of its caller that the bytes are
+-- that line; that it writes these bytes is one line, read in the source.
 pub record Prints (r : Teller) : Type 0 where
   pub blocks : List (List ℕ)
-  pub none-empty : r .wire .failed ≡ false → None-empty blocks
+  pub none-empty : None-empty blocks
   pub input : Split (input-of blocks)
   pub got-is : r .wire .got ≡ counted-on 0 (input-of blocks)
-  pub ended-is : r .wire .failed ≡ false → r .wire .reads < 2 ^ 64 - 1 → r .wire .ended ≡ true
-  pub earnings-is : r .wire .failed ≡ false → r .wire .reads < 2 ^ 64 - 1
+  pub ended-is : r .wire .failed ≡ false → r .wire .reads < max-reads → r .wire .ended ≡ true
+  pub earnings-is : r .wire .failed ≡ false → r .wire .ended ≡ true
       → r .earnings ≡ day-earnings (all-lines input)
-  pub told-is : r .wire .failed ≡ false → r .wire .reads < 2 ^ 64 - 1
+  pub told-is : r .wire .failed ≡ false → r .wire .ended ≡ true
       → r .wire .told ≡ counted-on 0 (earnings-text (day-earnings (all-lines input)))
   pub none-told : r .wire .failed ≡ true → r .wire .told ≡ 0
+  pub none-told-yet : r .wire .ended ≡ false → r .wire .told ≡ 0

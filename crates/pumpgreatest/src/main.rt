@@ -19,7 +19,7 @@ use recording::take_end;
 use stream::feed::Stream;
 use teller::Teller;
 
-// One entry more than the search takes, so that a day of more views is refused there.
+// `max-handed-in` and one more, as `run` requires: the search takes no more views, so that it refuses a longer day.
 const ENTRIES: usize = 257;
 
 // The stream, and the teller after a read.
@@ -28,7 +28,8 @@ struct Read {
     teller: Teller,
 }
 
-// One read, and what it gave.
+// One read, and what it gave, which is borrowed until it is taken, so that nothing writes over it. What is left in
+// `out` is free.
 fn read_block(
     teller: Teller,
     stream: Stream,
@@ -36,13 +37,14 @@ fn read_block(
     views: &mut [u64],
     out: &mut [u8],
 ) -> Read
-    requires { ⌜ reply-room ≤ length (now out) ⌝ }
+    requires { ⌜ (0 < length (now block)) × (reply-room ≤ length (now out)) ⌝ }
     ensures { λ r. ⌜ Taken teller stream (now (views .entry)) (now (block .exit)) r (now (views .exit)) ⌝ }
 {
     let r = teller.read(block);
-    let w = r.teller;
     let n = r.n;
-    let next = take_block(stream, &block[..n], views, out);
+    let given = &block[..n];
+    let w = r.teller;
+    let next = take_block(stream, given, views, out);
     Read {
         stream: next,
         teller: w,
@@ -59,7 +61,7 @@ fn at_most(n: u64, most: usize) -> usize
     wide
 }
 
-// A last line without byte 10, and the day's line.
+// A last line without byte 10, and the day's line. What is left in `views` and `out` is free.
 fn finish(teller: Teller, stream: Stream, views: &mut [u64], out: &mut [u8]) -> Teller
     requires { ⌜ reply-room ≤ length (now out) ⌝ }
     ensures { λ r. ⌜ Told teller (earned-at-end stream (now (views .entry))) r ⌝ }
@@ -75,7 +77,7 @@ fn finish(teller: Teller, stream: Stream, views: &mut [u64], out: &mut [u8]) -> 
 // Block after block, until a read gives nothing or fails. A proved loop has to end: this one counts down from a number
 // that no run uses up.
 fn run(block: &mut [u8], views: &mut [u64], out: &mut [u8]) -> Teller
-    requires { ⌜ (reply-room ≤ length (now out)) × (max-handed-in < length (now views)) ⌝ }
+    requires { ⌜ (0 < length (now block)) × (reply-room ≤ length (now out)) × (max-handed-in < length (now views)) ⌝ }
     ensures { λ r. ⌜ Prints r ⌝ }
 {
     let mut stream = Stream::new();
@@ -98,6 +100,7 @@ fn run(block: &mut [u8], views: &mut [u64], out: &mut [u8]) -> Teller
     teller
 }
 
+// It promises nothing: what a run promises, `run` does, and behind it only standard error is written.
 fn main() {
     let mut block = io::large_buffer();
     let mut out = io::large_buffer();

@@ -1,6 +1,8 @@
 // What is told: the line of a day's earnings. A teller has the program's wire and the earnings that were told; its
 // fields are private, so that no other code makes one, writes over its wire or sets those earnings.
 ghost use mathlib.Core.Path.{_≡_};
+ghost use Prim.Native.Nat.{_<_};
+ghost use lib.ListN.{length};
 ghost use Rattle.earnings.specs.Earnings.{earnings-text};
 ghost use Rattle.wire.specs.Wires.{Reads};
 ghost use Rattle.pumpgreatest.specs.Telling.{new-teller, Told};
@@ -31,6 +33,7 @@ impl Teller {
     }
 
     pub fn read(self, block: &mut [u8]) -> Got
+        requires { ⌜ 0 < length (now block) ⌝ }
         ensures { λ r. ⌜ Reads (self .wire) (now (block .exit)) (r .n) (r .teller .wire) ⌝ }
     {
         let wire = self.wire;
@@ -73,6 +76,7 @@ impl Teller {
         wire.failed()
     }
 
+    // Standard error is free, as of `Wire::complain`.
     pub fn complain(self) {
         let wire = self.wire;
         wire.complain(b"pumpgreatest");

@@ -4,7 +4,7 @@
 use mathlib.Core.Path.{_≡_, refl, sym, ap, ap₂, _∙_, subst, subst⁻¹}
 use mathlib.Core.Bool.{true, false}
 use mathlib.Core.List.{List, [], _∷_, _++_}
-use Prim.Native.Nat.{ℕ, suc, _+_, _-_, _^_, _≤_, _<_}
+use Prim.Native.Nat.{ℕ, suc, _+_, _-_, _≤_, _<_}
 use native.Mathlib.Omega.{arith}
 use lib.ListN.{length, take, drop, length-append}
 use lib.Seq.{take-append-seam}
@@ -20,7 +20,7 @@ use Rattle.stream.specs.Stream.{ended-if, finished, new-stream, session, sessio
 use Rattle.stream.specs.Chunking.{after-lines, Split}
 use Rattle.stream.proofs.Chunking.{session-next, fed-lines, split, state-at-end}
 use Rattle.stream.proofs.Parts.{stream-more, part-fed, part-upto, part-inside, part-further, taken-further, last-comes}
-use Rattle.wire.specs.Wires.{counted-on, input-of}
+use Rattle.wire.specs.Wires.{counted-on, max-reads, input-of}
 use Rattle.wire.proofs.Blocks.{no-more}
 use Rattle.wire.proofs.Heard.{Heard, Ended, heard-none, heard-more, untold, ended-failed, ended-told, ended-spent}
 use Rattle.page.specs.declared.Printing.{Printing}
@@ -123,7 +123,7 @@ fed-sound i =
 abbrev pub Reached : Stream → Teller → ℕ → Type 0
 Reached k w turns = Heard (λ i. Took new-stream i k) (w .wire) turns
 
-pub reached-none : {k : Stream} {w : Teller} → k ≡ new-stream → w ≡ new-teller → Reached k w (2 ^ 64 - 1)
+pub reached-none : {k : Stream} {w : Teller} → k ≡ new-stream → w ≡ new-teller → Reached k w max-reads
 reached-none e f =
     heard-none (ap (λ (w : Teller). w .wire) f) (subst⁻¹ (Took new-stream []) e (took-none new-stream))
 
@@ -141,6 +141,7 @@ prints-of e = record {
   day-is = λ f h. e .holds f h .0;
   told-is = λ f h. e .holds f h .1;
   none-told = e .none-told;
+  none-told-yet = e .none-told-yet;
 }
 
 module _ {k : Stream} {w : Teller} {turns : ℕ} (a : Reached k w turns) {l : List ℕ} {t : Read} (r : Taken w k l t) where

@@ -21,7 +21,7 @@ pub record Part (k : Stream) (l d : List ℕ) (from : ℕ) (r : Turn) : Type 0 w
   pub inside : r .from ≤ length l
   pub took : Took k (consumed-bytes (session-of k) (drop from l) d) (r .stream)
 
--- one read, which gave the first n bytes of l: they were taken
+-- one read that gave n bytes, at the front of the block l: they were taken
 pub record Taken (w : Teller) (k : Stream) (l : List ℕ) (r : Read) : Type 0 where
   pub n : ℕ
   pub reads : Reads (w .wire) l n (r .teller .wire)

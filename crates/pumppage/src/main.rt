@@ -4,7 +4,7 @@ mod teller;
 
 ghost use mathlib.Core.Path.{_≡_};
 ghost use mathlib.Core.Bool.{true};
-ghost use Prim.Native.Nat.{_≤_};
+ghost use Prim.Native.Nat.{_≤_, _<_};
 ghost use lib.ListN.{length};
 ghost use Rattle.day.specs.Day.{sound};
 ghost use Rattle.reply.specs.Session.{reply-room, fed};
@@ -58,22 +58,24 @@ fn take_block(stream: Stream, block: &[u8], out: &mut [u8]) -> Stream
     t.stream
 }
 
-// One read, and what it gave.
+// One read, and what it gave, which is borrowed until it is taken, so that nothing writes over it. What is left in
+// `out` is free.
 fn read_block(teller: Teller, stream: Stream, block: &mut [u8], out: &mut [u8]) -> Read
-    requires { ⌜ reply-room ≤ length (now out) ⌝ }
+    requires { ⌜ (0 < length (now block)) × (reply-room ≤ length (now out)) ⌝ }
     ensures { λ r. ⌜ Taken teller stream (now (block .exit)) r ⌝ }
 {
     let r = teller.read(block);
-    let w = r.teller;
     let n = r.n;
-    let next = take_block(stream, &block[..n], out);
+    let given = &block[..n];
+    let w = r.teller;
+    let next = take_block(stream, given, out);
     Read {
         stream: next,
         teller: w,
     }
 }
 
-// A last line without byte 10, and the page.
+// A last line without byte 10, and the page. What is left in `out` is free.
 fn finish(teller: Teller, stream: Stream, out: &mut [u8]) -> Teller
     requires { ⌜ (reply-room ≤ length (now out)) × (sound (stream .day) ≡ true) ⌝ }
     ensures { λ r. ⌜ Told teller (finished (session-of stream) .day) r ⌝ }
@@ -90,7 +92,7 @@ fn finish(teller: Teller, stream: Stream, out: &mut [u8]) -> Teller
 // Block after block, until a read gives nothing or fails. A proved loop has to end: this one counts down from a number
 // that no run uses up.
 fn run(block: &mut [u8], out: &mut [u8]) -> Teller
-    requires { ⌜ reply-room ≤ length (now out) ⌝ }
+    requires { ⌜ (0 < length (now block)) × (reply-room ≤ length (now out)) ⌝ }
     ensures { λ r. ⌜ Prints r ⌝ }
 {
     let mut stream = Stream::new();
@@ -113,6 +115,7 @@ fn run(block: &mut [u8], out: &mut [u8]) -> Teller
     teller
 }
 
+// It promises nothing: what a run promises, `run` does, and behind it only standard error is written.
 fn main() {
     let mut block = io::large_buffer();
     let mut out = io::large_buffer();

@@ -1,6 +1,8 @@
 // What is told: the page of a state. A teller has the program's wire and the state whose page was told; its fields are
 // private, so that no other code makes one, writes over its wire or sets that state.
 ghost use mathlib.Core.Path.{_≡_};
+ghost use Prim.Native.Nat.{_<_};
+ghost use lib.ListN.{length};
 ghost use Rattle.page.specs.Printing.{page-of};
 ghost use Rattle.wire.specs.Wires.{Reads};
 ghost use Rattle.pumppage.specs.Telling.{new-teller, Told};
@@ -32,6 +34,7 @@ impl Teller {
     }
 
     pub fn read(self, block: &mut [u8]) -> Got
+        requires { ⌜ 0 < length (now block) ⌝ }
         ensures { λ r. ⌜ Reads (self .wire) (now (block .exit)) (r .n) (r .teller .wire) ⌝ }
     {
         let wire = self.wire;
@@ -74,6 +77,7 @@ impl Teller {
         wire.failed()
     }
 
+    // Standard error is free, as of `Wire::complain`.
     pub fn complain(self) {
         let wire = self.wire;
         wire.complain(b"pumppage");

@@ -1,4 +1,5 @@
-// Questions 3 to 15 at the door, each list in its order: the number of the first "no", or 0.
+// Questions at the door that need no more of a state than its head, each list in its order: 3 to 5 of a plan, 6 to 10
+// of a campaign, 11 to 14 of a view, 11 and 15 of a mark. The answer is the number of the first "no", or 0.
 use campaigns::Head;
 use campaigns::Plan;
 use campaigns::Terms;

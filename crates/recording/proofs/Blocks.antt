@@ -8,12 +8,18 @@ use native.Mathlib.Omega.{arith}
 use lib.Dec.{eqb}
 use lib.ListN.{length, take, drop, length-drop, take-append-drop}
 use lib.Seq.{take-add, take-all}
-use Rattle.reply.specs.Session.{reply-room, upto}
+use Rattle.reply.specs.Session.{Session, reply-room, fed, upto}
 use Rattle.stream.specs.declared.feed.Stream.{Stream}
 use Rattle.stream.specs.declared.feed.Fed.{Fed}
-use Rattle.stream.specs.Stream.{session-of, Feeds}
+use Rattle.stream.specs.Stream.{session-of, stream-of, Comes-to, Feeds}
+use Rattle.stream.proofs.Chunking.{session-next}
 use Rattle.recording.specs.Contracts.{Took}
 use Rattle.recording.proofs.Bytes.{took-none, took-more, took-plain, ended-short, line-is}
+
+-- a stream that was fed is that of its session: zero bytes stand behind those kept
+stream-fed : {y : Session} {n : ℕ} {d e : List ℕ} {r : Fed} → Comes-to y n d e r
+    → r .stream ≡ stream-of (session-of (r .stream))
+stream-fed f = ap (λ (b : Fed). b .stream) (f .back-is) ∙ sym (ap stream-of (session-next f))
 
 -- the bytes before the first byte 10 have none
 plain-take : (l : List ℕ) → upto (take (upto l) l) ≡ length (take (upto l) l)
@@ -70,11 +76,13 @@ module _ {k : Stream} {v b : List ℕ} {s : Stream} {w : List ℕ} {from end : �
       }
 
   pub going-ends : length b ≤ end → (d e : List ℕ) (r : Fed) → reply-room ≤ length d
-      → Feeds s (take (length b - from) (drop from b)) d e r → Took k v b (r .stream) w
+      → Feeds s (take (length b - from) (drop from b)) d e r
+      → Took k v b (r .stream) w × (r .stream ≡ stream-of (fed (session-of k) b))
   going-ends h d e r room f =
       let m = drop from b in
       let whole : take (length b - from) m ≡ m =
       take-all (length b - from) m (omega (arith, length-drop from b)) in
       let plain : upto m ≡ length m = omega (arith, g .end-is, g .end-inside, length-drop from b) in
       let p = took-plain s w d e r (g .short) room m plain (subst (λ (a : List ℕ). Feeds s a d e r) whole f) in
-      subst (λ (a : List ℕ). Took k v a (r .stream) w) (take-append-drop from b) (took-more (g .took) p)
+      let t = subst (λ (a : List ℕ). Took k v a (r .stream) w) (take-append-drop from b) (took-more (g .took) p) in
+      (t, stream-fed f ∙ ap stream-of (t .session-is))

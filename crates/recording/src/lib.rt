@@ -12,7 +12,7 @@ ghost use Prim.Native.Nat.{_≤_};
 ghost use lib.ListN.{length};
 ghost use Rattle.lines.specs.Reading.{reading};
 ghost use Rattle.reply.specs.Reply.{request, request-of};
-ghost use Rattle.reply.specs.Session.{reply-room, upto};
+ghost use Rattle.reply.specs.Session.{reply-room, fed, upto};
 ghost use Rattle.stream.specs.Stream.{finished, session-of, stream-of};
 ghost use Rattle.recording.specs.Recording.{shown-in, noted};
 ghost use Rattle.recording.specs.Contracts.{Took};
@@ -97,7 +97,8 @@ fn take_line(stream: Stream, line: &[u8], views: &mut [u64], out: &mut [u8]) -> 
 // afterwards is free, here and at the end.
 pub fn take_block(stream: Stream, block: &[u8], views: &mut [u64], out: &mut [u8]) -> Stream
     requires { ⌜ reply-room ≤ length (now out) ⌝ }
-    ensures { λ r. ⌜ Took stream (now (views .entry)) (now (block .entry)) r (now (views .exit)) ⌝ }
+    ensures { λ r. ⌜ Took stream (now (views .entry)) (now (block .entry)) r (now (views .exit))
+        × (r ≡ stream-of (fed (session-of stream) (now (block .entry)))) ⌝ }
 {
     let mut s = stream;
     let mut from = 0;

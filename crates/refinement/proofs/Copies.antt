@@ -259,10 +259,11 @@ module _ (I : Instance) (deep : 0 < I .k) (wide : 1 < I .d) where
       ≡ I .b i * weight (I .k) (I .d) a * (C I .denominator * (I .d - 1) ^ a * e)
   compared-scaled i a e l = omega (arith, ap (λ x. I .b i * C I .denominator * e * x) (weight-split I deep wide a l))
 
-  pub scores-order : Scores-order I
-  scores-order m i a a′ l l′ =
-      let s : ℕ = C I .denominator * (I .d - 1) ^ a * (I .d - 1) ^ a′ in
-      ap₂ ltb (compared-scaled m a ((I .d - 1) ^ a′) l) (compared-scaled i a′ ((I .d - 1) ^ a) l′ ∙ omega arith)
-      ∙ ltb-scale s (I .b m * weight (I .k) (I .d) a) (I .b i * weight (I .k) (I .d) a′)
-      (mul-pos (mul-pos (C-positive I deep wide) (one-le-pow a (I .d - 1) (omega arith)))
-      (one-le-pow a′ (I .d - 1) (omega arith)))
+pub scores-order : Scores-order
+scores-order I deep wide m i a a′ l l′ =
+    let s : ℕ = C I .denominator * (I .d - 1) ^ a * (I .d - 1) ^ a′ in
+    ap₂ ltb (compared-scaled I deep wide m a ((I .d - 1) ^ a′) l)
+    (compared-scaled I deep wide i a′ ((I .d - 1) ^ a) l′ ∙ omega arith)
+    ∙ ltb-scale s (I .b m * weight (I .k) (I .d) a) (I .b i * weight (I .k) (I .d) a′)
+    (mul-pos (mul-pos (C-positive I deep wide) (one-le-pow a (I .d - 1) (omega arith)))
+    (one-le-pow a′ (I .d - 1) (omega arith)))

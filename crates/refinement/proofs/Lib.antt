@@ -4,5 +4,6 @@ pub mod Slots
 pub mod Simulation
 pub mod Budgets
 pub mod Slot
+pub mod WidthOne
 pub mod Days
 pub mod Listing

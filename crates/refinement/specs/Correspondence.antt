@@ -3,7 +3,7 @@
 use mathlib.Core.Path.{_≡_}
 use mathlib.Core.Bool.{true, false}
 use mathlib.Core.List.{List, [], _∷_, map}
-use Prim.Native.Nat.{ℕ, _-_, _*_, _/_, _≤_, _<_}
+use Prim.Native.Nat.{ℕ, _-_, _*_, _≤_, _<_}
 use lib.Dec.{ltb}
 use lib.ListN.{length}
 use Rattle.finite.specs.Finite.{sum}
@@ -14,7 +14,7 @@ use Rattle.campaigns.specs.declared.Terms.{Terms}
 use Rattle.campaigns.specs.declared.View.{View}
 use Rattle.campaigns.specs.Choice.{Choice}
 use Rattle.campaigns.specs.Choice.Choice.{nobody, plays}
-use Rattle.campaigns.specs.Campaign.{fresh}
+use Rattle.campaigns.specs.Campaign.{whole-plays, fresh}
 use Rattle.campaigns.specs.View.{names, chosen-of, viewed}
 use Rattle.refinement.specs.Fraction.{Fraction, _÷_, integer, _⊖_, _⊗_, power, less, _≈_}
 use Rattle.refinement.specs.Algorithm4.{Instance, Neighbors, Variables, C, part, feasible-neighbor, quantity}
@@ -24,11 +24,11 @@ use Rattle.refinement.specs.Algorithm4.{line-9, algorithm-4, matches}
 -- B_i: "Without loss of generality, B_i/b_i is integral". The budget that was handed in, the budget without the cents
 -- left over, and any other amount that buys as many whole plays will do.
 abbrev pub Buys-alike : (Terms → ℕ) → Type 0
-Buys-alike B = (t : Terms) → B t / t .price ≡ t .budget / t .price
+Buys-alike B = (t : Terms) → whole-plays (t .price) (B t) ≡ whole-plays (t .price) (t .budget)
 
 -- the budget without the cents left over: price × whole plays
 abbrev pub spendable : Terms → ℕ
-spendable t = t .price * (t .budget / t .price)
+spendable t = t .price * whole-plays (t .price) (t .budget)
 
 -- k is the depth, d the width, the advertisers are n campaigns, and b_i is the price of campaign i
 abbrev pub instance : (Terms → ℕ) → Plan → (n : ℕ) → (ℕ → Terms) → Instance
@@ -48,9 +48,10 @@ abbrev pub compared-quantity : Instance → ℕ → (age : ℕ) → Fraction
 compared-quantity I i age = C I ⊗ integer (I .b i) ⊗ power (I .d ÷ (I .d - 1)) age
 
 -- document 01's score, price × W(age), orders campaigns of any prices and ages as that quantity does
-abbrev pub Scores-order : Instance → Type 0
-Scores-order I =
-    (m i a a′ : ℕ) → a ≤ I .k → a′ ≤ I .k → less (compared-quantity I m a) (compared-quantity I i a′)
+abbrev pub Scores-order : Type 0
+Scores-order =
+    (I : Instance) → 0 < I .k → 1 < I .d → (m i a a′ : ℕ) → a ≤ I .k → a′ ≤ I .k
+    → less (compared-quantity I m a) (compared-quantity I i a′)
     ≡ ltb (I .b m * weight (I .k) (I .d) a) (I .b i * weight (I .k) (I .d) a′)
 
 -- a campaign's counts stand for the variables of advertiser i before slot j: its age is the degree of the current copy;

@@ -3,4 +3,5 @@ pub mod Algorithm4
 pub mod Correspondence
 pub mod Days
 pub mod Slot
+pub mod WidthOne
 pub mod Examples

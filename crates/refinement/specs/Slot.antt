@@ -3,7 +3,7 @@
 use mathlib.Core.Path.{_≡_}
 use mathlib.Core.Bool.{true}
 use mathlib.Core.List.{[], _∷_}
-use Prim.Native.Nat.{ℕ, suc, _/_, _≤_, _<_}
+use Prim.Native.Nat.{ℕ, suc, _≤_, _<_}
 use lib.Dec.{ltb}
 use lib.ListN.{getD}
 use Rattle.finite.specs.Finite.{one-if}
@@ -11,7 +11,7 @@ use Rattle.campaigns.specs.declared.Phase.the-variants.{Running}
 use Rattle.campaigns.specs.declared.Terms.{Terms}
 use Rattle.campaigns.specs.declared.View.{View}
 use Rattle.campaigns.specs.Choice.Choice.{plays}
-use Rattle.campaigns.specs.Campaign.{whole, fresh}
+use Rattle.campaigns.specs.Campaign.{whole-plays, whole, fresh}
 use Rattle.campaigns.specs.View.{names}
 use Rattle.day.specs.declared.Answer.the-variants.{Played}
 use Rattle.day.specs.declared.Day.{Day}
@@ -31,7 +31,7 @@ pub record Represents-state (I : Instance) (j : ℕ) (v : Variables) (s : Day) :
   pub width-is : I .d ≡ s .plan .width
   pub count-is : I .n ≡ s .count
   pub bid-is : (i : ℕ) → i < s .count → I .b i ≡ campaign s i .price
-  pub copies-are : (i : ℕ) → i < s .count → I .B i / I .b i ≡ whole (campaign s i)
+  pub copies-are : (i : ℕ) → i < s .count → whole-plays (I .b i) (I .B i) ≡ whole (campaign s i)
   pub counts-are : (i : ℕ) → i < s .count → Represents I j v i (campaign s i)
   pub unmatched : (i j′ : ℕ) → i < s .count → j ≤ j′ → v .x i j′ ≡ 0
 

@@ -12,7 +12,7 @@ use Rattle.lines.specs.declared.Reading.{Reading}
 use Rattle.lines.specs.declared.Reading.the-variants.{Refusal}
 use Rattle.lines.specs.Reading.{reading}
 use Rattle.day.specs.declared.Day.{Day}
-use Rattle.reply.specs.Reply.{request-of, executed, outcome, reply-text, reply, next}
+use Rattle.reply.specs.Reply.{request-of, executed, outcome, reply-records, record-lines, reply, next}
 use Rattle.reply.specs.Session.{Session, longer, ended, after-byte, fed, consumed-count, upto}
 
 -- A line cut at 201 bytes reads as the whole line does.
@@ -32,7 +32,7 @@ cut-reading l = go (leb (length l) 201) refl
 
 pub cut-reply : (s : Day) (l : List ℕ) → reply s (take 201 l) ≡ reply s l
 unfolding reply outcome
-cut-reply s l = ap (λ (r : Reading). reply-text (executed s (request-of r))) (cut-reading l)
+cut-reply s l = ap (λ (r : Reading). record-lines (reply-records (executed s (request-of r)))) (cut-reading l)
 
 pub cut-next : (s : Day) (l : List ℕ) → next s (take 201 l) ≡ next s l
 unfolding next outcome

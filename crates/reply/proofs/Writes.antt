@@ -1,7 +1,7 @@
--- Writing a record that is in its ranges, where there is room for the longest answer.
-use mathlib.Core.Path.{_≡_, sym}
+-- Writing a record that is in its ranges, where there is room for the longest answer; and the lines of records.
+use mathlib.Core.Path.{_≡_, refl, sym, ap, _∙_}
 use mathlib.Core.Bool.{true}
-use mathlib.Core.List.{List, [], _∷_}
+use mathlib.Core.List.{List, [], _∷_, _++_, append-assoc, append-nil}
 use Prim.Native.Nat.{ℕ, _≤_}
 use native.Mathlib.Omega.{arith}
 use lib.ListN.{length, length-append}
@@ -14,6 +14,7 @@ use Rattle.writer.specs.declared.Writing.the-variants.{Length}
 use Rattle.writer.specs.Writing.{line, write-question, writing, written}
 use Rattle.buffer.specs.Buffer.{over}
 use Rattle.buffer.proofs.Over.{over-front}
+use Rattle.reply.specs.Reply.{record-lines}
 
 pub line-most : (r : Record) → length (line r) ≤ answer-room
 unfolding line
@@ -32,3 +33,19 @@ module _ (r : Record) (d : List ℕ) (h : in-range r ≡ true) (k : answer-room 
   pub written-is : written r d ≡ over d 0 (line r)
   unfolding written
   written-is = rw no-question (sym (over-front d (line r) (omega (arith, line-most r))))
+
+-- the lines of records
+
+pub no-lines : record-lines [] ≡ []
+unfolding record-lines
+no-lines = refl
+
+pub one-line : (r : Record) → record-lines (r ∷ []) ≡ line r
+unfolding record-lines
+one-line r = append-nil (line r)
+
+pub lines-append : (a b : List Record) → record-lines (a ++ b) ≡ record-lines a ++ record-lines b
+unfolding record-lines
+lines-append [] b = refl
+lines-append (r ∷ a) b =
+    ap (λ (w : List ℕ). line r ++ w) (lines-append a b) ∙ sym (append-assoc (line r) (record-lines a) (record-lines b))

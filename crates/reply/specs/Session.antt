@@ -46,3 +46,7 @@ consumed-count n x (b ∷ l) = cond (leb (length (x .output) + reply-room) n) (s
 unfoldable pub upto : List ℕ → ℕ
 upto [] = 0
 upto (b ∷ l) = cond (eqb b 10) 0 (suc (upto l))
+
+-- the first line of w, without its byte 10
+abbrev pub first-line : List ℕ → List ℕ
+first-line w = take (upto w) w

@@ -13,7 +13,7 @@ ghost use Rattle.writer.specs.Writing.{line};
 ghost use Rattle.buffer.specs.Buffer.{Put};
 ghost use Rattle.campaigns.specs.Limits.{max-campaigns};
 ghost use Rattle.campaigns.specs.Campaign.{campaign-at};
-ghost use Rattle.reply.specs.Reply.{tally-record, tallies, answer-line, is-closing};
+ghost use Rattle.reply.specs.Reply.{tally-record, tally-records, answer-records, is-closing, record-lines};
 ghost use Rattle.reply.specs.Contracts.{answer-in-range, tallies-room};
 
 // The line of a record that is in its ranges, at the place at.
@@ -30,7 +30,8 @@ fn write_record(r: Record, out: &mut [u8], at: usize) -> usize
 // The answer's first line, or none for a tally, which no line asks for.
 pub fn write_answer(answer: Answer, out: &mut [u8], at: usize) -> usize
     requires { ⌜ (answer-in-range answer ≡ true) × (at + answer-room ≤ length (now out)) ⌝ }
-    ensures { λ r. ⌜ Put (now (out .entry)) (now (out .exit)) at r (answer-line answer) × (r ≤ at + answer-room) ⌝ }
+    ensures { λ r. ⌜ Put (now (out .entry)) (now (out .exit)) at r (record-lines (answer-records answer))
+        × (r ≤ at + answer-room) ⌝ }
 {
     match answer {
         Answer::Refused(question) => write_record(Record::Refused(question), out, at),
@@ -112,7 +113,8 @@ pub fn write_tallies<'a>(
 ) -> usize
     requires { ⌜ (n ≤ max-campaigns) × (at + tallies-room ≤ length (now out)) ⌝ }
     ensures { λ to. ⌜ Put (now (out .entry)) (now (out .exit)) at to
-        (tallies (campaign-at (now (terms .entry)) (now (counts .entry))) n) × (to ≤ at + tallies-room) ⌝ }
+        (record-lines (tally-records (campaign-at (now (terms .entry)) (now (counts .entry))) n))
+        × (to ≤ at + tallies-room) ⌝ }
 {
     let mut i: u64 = 0;
     let mut to = at;

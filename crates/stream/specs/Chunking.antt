@@ -89,8 +89,8 @@ Any-input =
     (input : List ℕ) (lines : List (List ℕ)) (rest : List ℕ) → All-plain lines → Plain rest → joined lines rest ≡ input
     → all-output (session-of new-stream) input ≡ replies blank lines ++ last-reply (after-lines blank lines) rest
 
--- a new stream that is handed an input in any blocks, with any room, and then its end, writes the answers to the lines
--- of the input and to its rest, from the blank state on, and nothing else
+-- a new stream that is handed an input in any blocks, each with any room, and then its end, with room for the longest
+-- answer, writes the answers to the lines of the input and to its rest, from the blank state on, and nothing else
 abbrev pub Any-chunking : Type 0
 Any-chunking =
     (input : List ℕ) (fs : List Feeding) → In-blocks new-stream input fs

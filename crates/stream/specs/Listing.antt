@@ -1,4 +1,4 @@
--- Document 01's listing as text.
+-- Document 01's listing as text: its input and its whole output.
 use mathlib.Core.List.{List, [], _∷_}
 use Prim.Native.Nat.{ℕ}
 use Prim.Native.String.{String}
@@ -22,3 +22,19 @@ listing-lines = lines-of (
     "(view 1)" ∷
     "(view 2)" ∷
     "(close)" ∷ [])
+
+abbrev pub listing-answers : List (List ℕ)
+listing-answers = lines-of (
+    "(ok)" ∷
+    "(ok)" ∷
+    "(ok)" ∷
+    "(ok)" ∷
+    "(play 0 (paid 5))" ∷
+    "(play 1 (paid 3))" ∷
+    "(play 0 (paid 5))" ∷
+    "(nobody)" ∷
+    "(play 1 (paid 3))" ∷
+    "(refused 13)" ∷
+    "(closed (takings 16) (claim 48) (full 64))" ∷
+    "(tally 0 (plays 2) (turns 2) (age 0) (named 4))" ∷
+    "(tally 1 (plays 2) (turns 2) (age 0) (named 4))" ∷ [])

@@ -41,7 +41,7 @@ use Rattle.encoding.proofs.Faithful.{faithful}
 use Rattle.wezghuli.specs.Library.{Memory, memory, state, outcome, stored, status, memory-after, noon-status}
 use Rattle.wezghuli.specs.Library.{write-status}
 use Rattle.wezghuli.specs.Library.{Lent, stream-in, status-in, come-to, feed-after, finish-after}
-use Rattle.wezghuli.specs.Library.{Page-lent, day-in, page-status}
+use Rattle.wezghuli.specs.Library.{lent-state, page-status}
 use Rattle.wezghuli.specs.Promises.{Promises, left-by, statuses, blank-lent, handed-in}
 use Rattle.wezghuli.proofs.Streamed.{has-room}
 use Rattle.wezghuli.proofs.Low.{small, Low, low-small}
@@ -230,8 +230,8 @@ page-small s d =
     subst (λ (q : ℕ). q < 100) (sym (pages.promises .tells s d .number-is))
     (small (sound s) (cond fits 0 18) 1 (small fits 0 18 (omega arith) (omega arith)) (omega arith))
 
-page-refusal : (m : Page-lent) (d : List ℕ) → is-head (m .head) ≡ true → page-status m d < 100
-page-refusal m d e = rw e (page-small (day-in m) d)
+page-refusal : (h t n d : List ℕ) → is-head h ≡ true → page-status h t n d < 100
+page-refusal h t n d e = rw e (page-small (lent-state h t n) d)
 
 pub promises : Promises
 promises = record {

@@ -110,7 +110,7 @@ abbrev pub length-told : Writing → List ℕ → List ℕ
 length-told (writing.Length n) l = n ∷ []
 length-told (writing.Refusal q) l = l
 
-abbrev pub length-after : (words out length : List ℕ) → List ℕ
+abbrev pub length-after : (words out written : List ℕ) → List ℕ
 length-after w d l = cond (is-form w) (length-told (writer.writing (record-of w) d) l) l
 
 -- what is lent to a stream: its state, the first bytes of an unfinished line, its words, and the buffer for answers
@@ -152,28 +152,16 @@ feed-after l m =
 unfoldable pub finish-after : Lent → Lent
 finish-after m = cond (eqb (status-in m) 0) (come-to (finished (session-of (stream-in m))) 0 (m .out)) m
 
--- what is lent to printing a page besides its buffer, and the state in it
-pub record Page-lent : Type 0 where
-  pub head : List ℕ
-  pub terms : List ℕ
-  pub counts : List ℕ
-
-abbrev pub page-lent : (head terms counts : List ℕ) → Page-lent
-page-lent h t n = record { head = h; terms = t; counts = n }
-
-abbrev pub day-in : Page-lent → Day
-day-in m = lent-state (m .head) (m .terms) (m .counts)
-
 -- printing a page: 0, the number of the question that failed, or 100 with everything as it was
-abbrev pub page-status : Page-lent → (out : List ℕ) → ℕ
-page-status m d = cond (is-head (m .head)) (page.number (page.printing (day-in m) d)) no-head
+abbrev pub page-status : (head terms counts out : List ℕ) → ℕ
+page-status h t n d = cond (is-head h) (page.number (page.printing (lent-state h t n) d)) no-head
 
-abbrev pub page-after : Page-lent → (out : List ℕ) → List ℕ
-page-after m d = cond (is-head (m .head)) (page.printed (day-in m) d) d
+abbrev pub page-after : (head terms counts out : List ℕ) → List ℕ
+page-after h t n d = cond (is-head h) (page.printed (lent-state h t n) d) d
 
 abbrev pub page-length-told : Printing → List ℕ → List ℕ
 page-length-told (printing.Length n) l = n ∷ []
 page-length-told (printing.Refusal q) l = l
 
-abbrev pub page-length-after : Page-lent → (out length : List ℕ) → List ℕ
-page-length-after m d l = cond (is-head (m .head)) (page-length-told (page.printing (day-in m) d) l) l
+abbrev pub page-length-after : (head terms counts out written : List ℕ) → List ℕ
+page-length-after h t n d l = cond (is-head h) (page-length-told (page.printing (lent-state h t n) d) l) l

@@ -19,7 +19,7 @@ use Rattle.encoding.specs.Encoding.{no-head, no-fit, is-head, head-words, is-fo
 use Rattle.encoding.specs.Faithful.{seven}
 use Rattle.wezghuli.specs.Library.{Memory, memory, state, status, memory-after, noon-status, read-status}
 use Rattle.wezghuli.specs.Library.{write-status, Lent, lent, stream-in, status-in, feed-after, finish-after}
-use Rattle.wezghuli.specs.Library.{lent-state, Page-lent, page-status}
+use Rattle.wezghuli.specs.Library.{lent-state, page-status}
 use Rattle.wezghuli.specs.Search.{search-status, Search-leaves, check-status, takings-status}
 use Rattle.wezghuli.specs.Search.{takings-after}
 
@@ -87,7 +87,8 @@ pub record Promises : Type 0 where
   pub noon-refusal : (head terms counts : List ℕ) → is-head head ≡ true → noon-status head terms counts < no-head
   pub read-refusal : (line : List ℕ) → read-status line < no-head
   pub write-refusal : (words out : List ℕ) → is-form words ≡ true → write-status words out < no-head
-  pub page-refusal : (m : Page-lent) (out : List ℕ) → is-head (m .head) ≡ true → page-status m out < no-head
+  pub page-refusal : (head terms counts out : List ℕ) → is-head head ≡ true
+      → page-status head terms counts out < no-head
   pub search-refusal : (head terms counts views a u v : List ℕ) → is-head head ≡ true
       → search-status head terms counts views a u v < no-head
   pub check-refusal : (head terms counts views a u v : List ℕ) → is-head head ≡ true

@@ -24,23 +24,24 @@ pub extern "C" fn wezghuli_read_line<'a>(line: &'a [u8], words: &'a mut [u64; 6]
     }
 }
 
-// Writes a record's line, with its byte 10, at the front of out, and its length; a refusal leaves both as they were.
+// Writes a record's line, with its byte 10, at the front of out, and how many bytes it has to written; a refusal leaves
+// both as they were.
 #[no_mangle]
 pub extern "C" fn wezghuli_write_line<'a>(
     words: &'a [u64; 6],
     out: &'a mut [u8],
-    length: &'a mut [u64; 1],
+    written: &'a mut [u64; 1],
 ) -> u64
     ensures { λ r. ⌜ (r ≡ write-status (now (words .entry)) (now (out .entry)))
         × (now (out .exit) ≡ line-after (now (words .entry)) (now (out .entry)))
-        × (now (length .exit) ≡ length-after (now (words .entry)) (now (out .entry)) (now (length .entry))) ⌝ }
+        × (now (written .exit) ≡ length-after (now (words .entry)) (now (out .entry)) (now (written .entry))) ⌝ }
 {
     if !is_form(words) {
         return STATUS_NO_FORM;
     }
     match writer::write_line(record_of(words), out) {
         Writing::Length(n) => {
-            *length = [n as u64];
+            *written = [n as u64];
             STATUS_ACCEPTED
         }
         Writing::Refusal(question) => question,

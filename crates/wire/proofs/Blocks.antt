@@ -2,14 +2,14 @@
 use mathlib.Core.Path.{_≡_, refl, sym, ap, _∙_, subst}
 use mathlib.Core.Bool.{true, false}
 use mathlib.Core.List.{List, [], _∷_, _++_, append-nil}
-use Prim.Native.Nat.{ℕ, suc, _+_, _-_, _%_, _^_, _<_}
+use Prim.Native.Nat.{ℕ, suc, _+_, _%_, _^_, _<_}
 use native.Mathlib.Nat.{mod-add-mod, mod-eq-of-lt}
 use native.Mathlib.Omega.{arith}
 use lib.ListN.{length, take, length-append}
 use lib.Seq.{length-take-le}
 use borrow.Author.Tests.{eqb-true, eqb-false}
 use Rattle.wire.specs.declared.Wire.{Wire}
-use Rattle.wire.specs.Wires.{counted-on, new-wire, Reads, Writes, input-of, None-empty}
+use Rattle.wire.specs.Wires.{counted-on, new-wire, max-reads, Reads, Writes, input-of, None-empty}
 
 pub counted-more : (n : ℕ) (a b : List ℕ) → counted-on (counted-on n a) b ≡ counted-on n (a ++ b)
 counted-more n a b =
@@ -52,10 +52,10 @@ writes-more {w} {v} {u} a b t s = record {
 -- The wire w, after reads that gave these blocks, with so many left.
 pub record Reached (w : Wire) (blocks : List (List ℕ)) (turns : ℕ) : Type 0 where
   pub none-empty : None-empty blocks
-  pub left : w .reads + turns ≡ 2 ^ 64 - 1
+  pub left : w .reads + turns ≡ max-reads
   pub got-is : w .got ≡ counted-on 0 (input-of blocks)
 
-pub reached-none : Reached new-wire [] (2 ^ 64 - 1)
+pub reached-none : Reached new-wire [] max-reads
 reached-none = record { none-empty = tt; left = omega arith; got-is = refl }
 
 -- writes change nothing of it
@@ -87,3 +87,16 @@ module _ {w : Wire} {bs : List (List ℕ)} {turns : ℕ} (a : Reached w bs turns
   -- it gave nothing
   pub no-more : v .ended ≡ true → input-of bs ++ take n l ≡ input-of bs
   no-more e = ap (λ (i : ℕ). input-of bs ++ take i l) (eqb-true n 0 (sym (r .ended-is) ∙ e)) ∙ append-nil (input-of bs)
+
+-- blocks, and a further one where it has bytes
+abbrev pub with-block : List ℕ → List (List ℕ) → List (List ℕ)
+with-block [] bs = bs
+with-block (b ∷ l) bs = (b ∷ l) ∷ bs
+
+pub with-block-input : (l : List ℕ) (bs : List (List ℕ)) → input-of (with-block l bs) ≡ input-of bs ++ l
+with-block-input [] bs = sym (append-nil (input-of bs))
+with-block-input (b ∷ l) bs = refl
+
+pub with-block-none-empty : (l : List ℕ) (bs : List (List ℕ)) → None-empty bs → None-empty (with-block l bs)
+with-block-none-empty [] bs h = h
+with-block-none-empty (b ∷ l) bs h = (omega arith, h)

@@ -4,7 +4,7 @@
 use mathlib.Core.Path.{_≡_}
 use mathlib.Core.Bool.{true, false}
 use mathlib.Core.List.{List, [], _∷_, _++_}
-use Prim.Native.Nat.{ℕ, _+_, _%_, _^_, _≤_, _<_}
+use Prim.Native.Nat.{ℕ, _+_, _-_, _%_, _^_, _≤_, _<_}
 use lib.Dec.{eqb}
 use lib.ListN.{length, take}
 use Rattle.wire.specs.declared.Wire.{Wire}
@@ -16,8 +16,12 @@ counted-on n l = (n + length l) % 2 ^ 64
 abbrev pub new-wire : Wire
 new-wire = record { reads = 0; got = 0; told = 0; ended = false; failed = false; sent = true }
 
--- One read, after which the first n bytes of the block l are what it gave, and the wire is v. Whether it failed is what
--- C answered, and free, but that a read that failed gave nothing.
+-- the reads that a program can make: its loop counts them, and no run comes near
+abbrev pub max-reads : ℕ
+max-reads = 2 ^ 64 - 1
+
+-- One read that gave n bytes, after which the block is l, with them at its front, and the wire is v. Free are the bytes
+-- of l, and whether the read failed, being what C answered, but that a read that failed gave nothing.
 pub record Reads (w : Wire) (l : List ℕ) (n : ℕ) (v : Wire) : Type 0 where
   pub inside : n ≤ length l
   pub reads-is : v .reads ≡ (w .reads + 1) % 2 ^ 64
@@ -36,7 +40,7 @@ pub record Writes (w : Wire) (b : List ℕ) (v : Wire) : Type 0 where
   pub failed-is : v .failed ≡ w .failed
   pub sent-before : v .sent ≡ true → w .sent ≡ true
 
--- what reads gave, the latest first, and as one input
+-- blocks, the latest first, as one input
 abbrev pub input-of : List (List ℕ) → List ℕ
 input-of [] = []
 input-of (b ∷ bs) = input-of bs ++ b

@@ -5,6 +5,8 @@ use libc::STDIN_FILENO;
 use libc::STDOUT_FILENO;
 use std::num::wrapping_add_u64;
 ghost use mathlib.Core.Path.{_≡_};
+ghost use Prim.Native.Nat.{_<_};
+ghost use lib.ListN.{length};
 ghost use Rattle.wire.specs.Wires.{new-wire, Reads, Writes};
 
 // How many reads were made, how many bytes they gave and how many were told, each modulo 2^64; whether the last read
@@ -38,8 +40,11 @@ impl Wire {
         }
     }
 
-    // One read. One that fails, whatever the reason, gives nothing, as at the end of input.
+    // One read, into a block of one byte at least: into an empty one nothing could be read, and that would be taken for
+    // the end of input. One that fails, whatever the reason, gives nothing, as at the end. Free are the first n bytes,
+    // since no contract can say what C put there, and the block behind them.
     pub fn read(self, block: &mut [u8]) -> Got
+        requires { ⌜ 0 < length (now block) ⌝ }
         ensures { λ r. ⌜ Reads self (now (block .exit)) (r .n) (r .wire) ⌝ }
     {
         let answer = libc::read(STDIN_FILENO, block);
@@ -93,7 +98,9 @@ impl Wire {
         self.sent
     }
 
-    // One line on standard error for a read that failed, and one for a write, each opened by the program's name.
+    // One line on standard error for a read that failed, and one for a write, each opened by the program's name. It
+    // promises nothing: no contract can say what is written, and nothing counts what goes to standard error. The wire
+    // is handed over and not given back, so that no count can change.
     pub fn complain(self, name: &[u8]) {
         if self.failed {
             io::write_all(STDERR_FILENO, name);

@@ -5,10 +5,12 @@ use Prim.Native.Nat.{ℕ}
 use native.Mathlib.Omega.{arith}
 use Rattle.buffer.proofs.Puts.{put-before}
 use Rattle.buffer.specs.Buffer.{Put}
+use Rattle.lines.specs.declared.Record.the-variants.{Refused}
 use Rattle.lines.specs.Numeral.{numeral}
 use Rattle.lines.specs.Form.{bytes, template, numbers, slot-text, piece, numbers-after, filled, text}
 use Rattle.lines.proofs.Numerals.{numeral-most}
-use Rattle.earnings.specs.Earnings.{report-room, refusal-text}
+use Rattle.writer.specs.Writing.{line}
+use Rattle.earnings.specs.Earnings.{report-room}
 use Rattle.earnings.proofs.put_refusal.Statement.{statement}
 use Rattle.earnings.proofs.put_refusal.Tie as tie
 
@@ -21,8 +23,8 @@ put-field-requires c κs =
     (omega (arith, p .next, numeral-most (s .args .question)), omega (arith, p .next, p .same, s .pre))
 
 -- the bytes put are the line's
-spelled : (q : ℕ) → bytes "(refused " ++ (numeral q ++ bytes ")\n") ≡ refusal-text q
-unfolding refusal-text text template numbers filled piece slot-text numbers-after
+spelled : (q : ℕ) → bytes "(refused " ++ (numeral q ++ bytes ")\n") ≡ line (Refused q)
+unfolding line text template numbers filled piece slot-text numbers-after
 spelled q = ap (λ (l : List ℕ). bytes "(refused " ++ l) (sym (append-assoc (numeral q) (41 ∷ []) (10 ∷ [])))
 
 returns : tie.Need-returns

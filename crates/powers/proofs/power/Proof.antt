@@ -1,5 +1,5 @@
--- The constant table is the grid of power or 0: all 528 entries are compared in one computation, and an entry inside
--- is read off it. Outside the code and the definition give 0.
+-- An entry inside is read off the table, which is the grid of power or 0 (by the computation of `all_powers`). Outside
+-- the code and the definition give 0.
 use mathlib.Core.Path.{_≡_, sym, _∙_}
 use mathlib.Core.Bool.{true, cond, _&&_}
 use Prim.Native.Nat.{ℕ, _≤_}
@@ -37,7 +37,6 @@ index-1-result c = let h = inside-is (c .before .args .width) (c .before .args .
 index-2-result : tie.Need-index-2-result
 index-2-result c = let h = inside-is (c .before .args .width) (c .before .args .exponent) (c .if1 .taken) in omega arith
 
--- the table is the grid: one computed comparison of all its entries
 returns : tie.Need-returns
 unfolding grid row-of table entry listed
 returns c =

@@ -1,10 +1,10 @@
 -- A run, block after block. The loop's invariant: the teller stands where the blocks that reads gave have led
 -- (`Reached`). A turn leaves it for a write that failed, for a read that gave nothing, or with one block more.
 use mathlib.Core.Path.{_≡_, refl, sym, _∙_, subst}
-use Prim.Native.Nat.{_-_, _^_}
 use native.Mathlib.Omega.{arith}
 use lib.ListN.{length}
 use borrow.Author.Tests.{not-true, not-false}
+use Rattle.wire.specs.Wires.{max-reads}
 use Rattle.pumpday.specs.declared.teller.Teller.{Teller}
 use Rattle.pumpday.proofs.Pumps.{Reached, reached-none, reached-more, ran-unsent, ran-spent, ran-through}
 use Rattle.pumpday.proofs.run.Statement.{statement}
@@ -19,7 +19,7 @@ abbrev μ-loop : tie.MeasureT-loop
 
 loop-holds : tie.Need-loop-holds Inv-loop μ-loop
 loop-holds c =
-    (refl, refl, subst (λ (w : Teller). Reached w (2 ^ 64 - 1)) (sym (c .new .ensures)) reached-none)
+    (refl, refl, subst (λ (w : Teller). Reached w max-reads) (sym (c .new .ensures)) reached-none)
 
 -- the head of the loop, of a turn that has read
 abbrev at-loop : tie.After-turn Inv-loop μ-loop → tie.At-loop Inv-loop μ-loop
@@ -71,11 +71,12 @@ loop-again c =
     let more = sym (c .before .ended .ensures) ∙ c .if2 .left in
     (same-block r, same-out r, reached-more (reached r) (r .turn .ensures) sent more (omega arith))
 
--- room for the longest answer, before a read and at the end of input
+-- a block with room for a byte, and room for the longest answer; the latter also at the end of input
 turn-room : tie.Need-turn-requires Inv-loop μ-loop
 turn-room c κs =
     let at-head = c .before .before .before in
-    omega (arith, at-head .loop .inv .1, at-start at-head .pre)
+    let room = at-start at-head .pre in
+    (omega (arith, at-head .loop .inv .0, room .0), omega (arith, at-head .loop .inv .1, room .1))
 
 -- the turn that has read, of a run at the end of input
 abbrev at-end : tie.After-finish Inv-loop μ-loop → tie.After-turn Inv-loop μ-loop
@@ -87,7 +88,7 @@ finish-room : tie.Need-finish-requires Inv-loop μ-loop
 finish-room c κs =
     let ending = c .before in
     let r = after-turn (ending .before .before .before) in
-    omega (arith, same-out r, at-start (at-loop r) .pre)
+    omega (arith, same-out r, at-start (at-loop r) .pre .1)
 
 same-length-3 : tie.Need-same-length-3 Inv-loop μ-loop
 same-length-3 c = same-block (at-end (c .before .before))

@@ -5,14 +5,14 @@ use Rattle.pumpgreatest.proofs.read_block.Statement.{statement}
 use Rattle.pumpgreatest.proofs.read_block.Tie as tie
 
 -- the read, of the place where the block is cut
-abbrev after-read : tie.After-take-block-arg → tie.After-read
-after-read c = c .before .before .before .before
+abbrev after-read : tie.After-given → tie.After-read
+after-read c = c .before .before .before
 
 returns : tie.Need-returns
 returns c =
     let t = c .before .before .before .before in
-    let r = after-read (t .before .before .before) .read in
-    record { n = r .result .n; reads = r .ensures; took = t .take-block .ensures }
+    let r = after-read (t .before .before .before .before) .read in
+    record { n = r .result .n; reads = r .ensures; took = t .take-block .ensures .0 }
 
 pub read-block-spec : {M : Type 1} → statement M
 read-block-spec =

@@ -72,7 +72,7 @@ returns-2 c =
     ran-through (reached-before r) (r .read-block .ensures)
     (sym (going .before .failed .ensures) ∙ going .if1 .left)
     (sym (ending .before .ended .ensures) ∙ ending .if2 .taken)
-    (at-start (at-loop r) .pre .1)
+    (at-start (at-loop r) .pre .2)
     (after-finish c .finish .ensures)
 
 loop-again : tie.Need-loop-again Inv-loop μ-loop
@@ -85,17 +85,18 @@ loop-again c =
       reached-more (reached-before r) (r .read-block .ensures) more (omega arith),
     )
 
--- room for the longest answer, before a read and at the end of input
+-- a block with room for a byte, and room for the longest answer; the latter also at the end of input
 read-room : tie.Need-read-block-requires Inv-loop μ-loop
 read-room c κs =
     let at-head = c .before .before .before .before in
-    omega (arith, at-head .loop .inv .2, at-start at-head .pre .0)
+    let room = at-start at-head .pre in
+    (omega (arith, at-head .loop .inv .0, room .0), omega (arith, at-head .loop .inv .2, room .1))
 
 finish-room : tie.Need-finish-requires Inv-loop μ-loop
 finish-room c κs =
     let ending = c .before .before in
     let r = after-read (ending .before .before .before) in
-    omega (arith, same-out r, at-start (at-loop r) .pre .0)
+    omega (arith, same-out r, at-start (at-loop r) .pre .1)
 
 -- the turn that has read, of a run at the end of input
 abbrev at-end : tie.After-finish Inv-loop μ-loop → tie.After-read-block Inv-loop μ-loop

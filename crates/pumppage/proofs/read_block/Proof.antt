@@ -5,13 +5,13 @@ use Rattle.pumppage.proofs.read_block.Statement.{statement}
 use Rattle.pumppage.proofs.read_block.Tie as tie
 
 -- the read, of the place where the block is cut
-abbrev after-read : tie.After-take-block-arg → tie.After-read
-after-read c = c .before .before .before .before
+abbrev after-read : tie.After-given → tie.After-read
+after-read c = c .before .before .before
 
 returns : tie.Need-returns
 returns c =
     let t = c .before .before in
-    let r = after-read (t .before .before) in
+    let r = after-read (t .before .before .before) in
     record { n = r .read .result .n; reads = r .read .ensures; took = t .take-block .ensures }
 
 pub read-block-spec : {M : Type 1} → statement M

@@ -66,17 +66,18 @@ loop-again c =
       reached-more (at-loop r .loop .inv .2) (r .read-block .ensures) more (omega arith),
     )
 
--- room for the longest answer, before a read and at the end of input
+-- a block with room for a byte, and room for the longest answer; the latter also at the end of input
 read-room : tie.Need-read-block-requires Inv-loop μ-loop
 read-room c κs =
     let at-head = c .before .before .before in
-    omega (arith, at-head .loop .inv .1, at-start at-head .pre)
+    let room = at-start at-head .pre in
+    (omega (arith, at-head .loop .inv .0, room .0), omega (arith, at-head .loop .inv .1, room .1))
 
 finish-room : tie.Need-finish-requires Inv-loop μ-loop
 finish-room c κs =
     let ending = c .before in
     let r = after-read (ending .before .before .before) in (
-      omega (arith, same-out r, at-start (at-loop r) .pre),
+      omega (arith, same-out r, at-start (at-loop r) .pre .1),
       now-sound (at-loop r .loop .inv .2) (r .read-block .ensures),
     )
 

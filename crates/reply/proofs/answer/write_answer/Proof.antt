@@ -1,20 +1,18 @@
 -- Each answer's arm writes the record of its line, at most 201 bytes; a tally writes nothing.
-use mathlib.Core.Path.{_≡_, sym, ap, _∙_, subst}
+use mathlib.Core.Path.{_≡_, refl, sym, ap, _∙_, subst}
 use mathlib.Core.Bool.{true}
-use mathlib.Core.List.{List}
+use mathlib.Core.List.{List, [], _∷_}
 use Prim.Native.Nat.{ℕ, _+_, _≤_}
 use native.Mathlib.Omega.{arith}
 use borrow.Author.Needs.{needs}
-use lib.ListN.{length}
-use Rattle.lines.specs.declared.Record.the-variants.{Done, Play, Nobody, Refused, Closed}
+use Rattle.lines.specs.declared.Record.{Record}
+use Rattle.writer.specs.Writing.{line}
 use Rattle.buffer.specs.Buffer.{Put}
 use Rattle.day.specs.declared.Answer.{Answer}
-use Rattle.day.specs.declared.Answer.the-variants.{Refused as refusing, Done as done, Played as played}
-use Rattle.day.specs.declared.Answer.the-variants.{Nobody as no-one, Tallied as tallied, Closing as closing}
-use Rattle.reply.specs.Reply.{answer-line}
+use Rattle.reply.specs.Reply.{answer-records, record-lines}
 use Rattle.reply.specs.Contracts.{answer-in-range}
 use Rattle.buffer.proofs.Puts.{put-none}
-use Rattle.reply.proofs.Writes.{line-most}
+use Rattle.reply.proofs.Writes.{line-most, no-lines, one-line}
 use Rattle.reply.proofs.answer.write_answer.Statement.{statement}
 use Rattle.reply.proofs.answer.write_answer.Tie as tie
 
@@ -22,20 +20,20 @@ use Rattle.reply.proofs.answer.write_answer.Tie as tie
 ranged : {a b : Answer} {m n : ℕ} → a ≡ b → (answer-in-range a ≡ true) × (m ≤ n) → (answer-in-range b ≡ true) × (m ≤ n)
 ranged {a} {b} e p = (sym (ap answer-in-range e) ∙ p .0, p .1)
 
-answer-line-most : (a : Answer) → length (answer-line a) ≤ 201
-answer-line-most (refusing q) = line-most (Refused q)
-answer-line-most done = line-most Done
-answer-line-most (played i p) = line-most (Play i p)
-answer-line-most no-one = line-most Nobody
-answer-line-most (tallied p t a n) = omega arith
-answer-line-most (closing t c f) = line-most (Closed t c f)
+said : {a b : Answer} {r : Record} {d e : List ℕ} {at to : ℕ} → a ≡ b → answer-records b ≡ r ∷ []
+    → Put d e at to (line r) → Put d e at to (record-lines (answer-records a)) × (to ≤ at + 201)
+said {a} {b} {r} {d} {e} {at} {to} q h p = (
+  subst (Put d e at to) (sym (ap (λ (x : Answer). record-lines (answer-records x)) q ∙ ap record-lines h ∙ one-line r))
+      p,
+  omega (arith, p .next, line-most r),
+)
 
-said : {a b : Answer} {d e : List ℕ} {at to : ℕ} → a ≡ b → Put d e at to (answer-line b)
-    → Put d e at to (answer-line a) × (to ≤ at + 201)
-said {a} {b} {d} {e} {at} {to} q p = (
-  subst (λ (x : Answer). Put d e at to (answer-line x)) (sym q) p,
-  omega
-      (arith, p .next, answer-line-most b),
+none-said : {a b : Answer} (d : List ℕ) (at : ℕ) → a ≡ b → answer-records b ≡ []
+    → Put d d at at (record-lines (answer-records a)) × (at ≤ at + 201)
+none-said {a} {b} d at q h = (
+  subst (Put d d at at) (sym (ap (λ (x : Answer). record-lines (answer-records x)) q ∙ ap record-lines h ∙ no-lines))
+      (put-none d at),
+  omega arith,
 )
 
 -- what the records ask, and what their lines are: the answer is that of its arm
@@ -48,7 +46,7 @@ returns : tie.Need-returns
 returns c =
     let sent = c .before .before in
     let arm = sent .before .before .before in
-    said (arm .answer .given .1) (sent .write-record .ensures)
+    said (arm .answer .given .1) refl (sent .write-record .ensures)
 
 write-record-requires-2 : tie.Need-write-record-requires-2
 write-record-requires-2 c κs =
@@ -59,7 +57,7 @@ returns-2 : tie.Need-returns-2
 returns-2 c =
     let sent = c .before .before in
     let arm = sent .before .before in
-    said (arm .enum-told .given .1) (sent .write-record2 .ensures)
+    said (arm .enum-told .given .1) refl (sent .write-record2 .ensures)
 
 write-record-requires-3 : tie.Need-write-record-requires-3
 write-record-requires-3 c κs =
@@ -70,7 +68,7 @@ returns-3 : tie.Need-returns-3
 returns-3 c =
     let sent = c .before .before in
     let arm = sent .before .before .before in
-    said (arm .answer2 .given .1) (sent .write-record3 .ensures)
+    said (arm .answer2 .given .1) refl (sent .write-record3 .ensures)
 
 write-record-requires-4 : tie.Need-write-record-requires-4
 write-record-requires-4 c κs =
@@ -81,7 +79,7 @@ returns-4 : tie.Need-returns-4
 returns-4 c =
     let sent = c .before .before in
     let arm = sent .before .before in
-    said (arm .enum-told2 .given .1) (sent .write-record4 .ensures)
+    said (arm .enum-told2 .given .1) refl (sent .write-record4 .ensures)
 
 write-record-requires-5 : tie.Need-write-record-requires-5
 write-record-requires-5 c κs =
@@ -92,7 +90,7 @@ returns-6 : tie.Need-returns-6
 returns-6 c =
     let sent = c .before .before in
     let arm = sent .before .before .before in
-    said (arm .answer3 .given .1) (sent .write-record5 .ensures)
+    said (arm .answer3 .given .1) refl (sent .write-record5 .ensures)
 
 pub write-answer-spec : {M : Type 1} → statement M
 write-answer-spec =
@@ -113,11 +111,6 @@ write-answer-spec =
     returns-3
     (λ c. search needs)
     returns-4
-    (λ c. let a = c .before .before .before .args in (
-      subst
-          (λ (x : Answer). Put (a .out .now) (a .out .now) (a .at) (a .at) (answer-line x))
-          (sym (c .enum-told3 .given .1)) (put-none (a .out .now) (a .at)),
-      omega arith,
-    ))
+    (λ c. let a = c .before .before .before .args in none-said (a .out .now) (a .at) (c .enum-told3 .given .1) refl)
     (λ c. search needs)
     returns-6)

@@ -1,6 +1,6 @@
 -- The loop keeps: the tallies of the first i campaigns stand from `at` to `to`, at most 201 bytes each.
 use mathlib.Core.Path.{_≡_, sym, ap, _∙_, subst}
-use mathlib.Core.List.{List, _++_}
+use mathlib.Core.List.{List, [], _∷_, _++_}
 use Prim.Native.Nat.{ℕ, _+_, _-_, _*_, _≤_}
 use native.Mathlib.Omega.{arith}
 use native.Mathlib.Numerals.{add-one}
@@ -9,26 +9,30 @@ use Rattle.writer.specs.Writing.{line}
 use Rattle.buffer.specs.Buffer.{Put}
 use Rattle.campaigns.specs.declared.Campaign.{Campaign}
 use Rattle.campaigns.specs.Campaign.{campaign-at}
-use Rattle.reply.specs.Reply.{tally-record, tallies}
+use Rattle.reply.specs.Reply.{tally-record, tally-records, record-lines}
 use Rattle.buffer.proofs.Puts.{put-none, put-then}
-use Rattle.reply.proofs.Writes.{line-most}
+use Rattle.reply.proofs.Writes.{line-most, one-line, lines-append}
 use Rattle.reply.proofs.answer.write_tallies.Statement.{statement}
 use Rattle.reply.proofs.answer.write_tallies.Tie as tie
 
 abbrev Inv-loop : tie.InvT-loop
 Inv-loop n terms counts out₀ at i₀ to₀ out i to = (i ≤ n) × (to ≤ at + 201 * i)
-    × Put out₀ out at to (tallies (campaign-at terms counts) i)
+    × Put out₀ out at to (record-lines (tally-records (campaign-at terms counts) i))
 
 abbrev μ-loop : tie.MeasureT-loop
 μ-loop n terms counts out₀ at i₀ to₀ out i to = n - i
 
-tallies-next : (f : ℕ → Campaign) (i : ℕ) (r : Record) → r ≡ tally-record i (f i) → tallies f i ++ line r
-    ≡ tallies f (i + 1)
-unfolding tallies
-tallies-next f i r e = ap (λ (x : Record). tallies f i ++ line x) e ∙ ap (tallies f) (sym (add-one i))
+tallies-next : (f : ℕ → Campaign) (i : ℕ) (r : Record) → r ≡ tally-record i (f i)
+    → record-lines (tally-records f i) ++ line r ≡ record-lines (tally-records f (i + 1))
+unfolding tally-records
+tallies-next f i r e =
+    ap (λ (x : Record). record-lines (tally-records f i) ++ line x) e
+    ∙ ap (λ (w : List ℕ). record-lines (tally-records f i) ++ w) (sym (one-line (tally-record i (f i))))
+    ∙ sym (lines-append (tally-records f i) (tally-record i (f i) ∷ []))
+    ∙ ap (λ (n : ℕ). record-lines (tally-records f n)) (sym (add-one i))
 
-none : (f : ℕ → Campaign) (o : List ℕ) (at : ℕ) → Put o o at at (tallies f 0)
-unfolding tallies
+none : (f : ℕ → Campaign) (o : List ℕ) (at : ℕ) → Put o o at at (record-lines (tally-records f 0))
+unfolding tally-records record-lines
 none f o at = put-none o at
 
 loop-holds : tie.Need-loop-holds Inv-loop μ-loop
@@ -66,7 +70,7 @@ returns c =
     let o = c .before .loop in
     let e : o .i ≡ a .n = omega arith in (
       subst (λ (k : ℕ). Put (a .out .now) (o .out) (a .at) (o .to)
-          (tallies (campaign-at (a .terms .now) (a .counts .now)) k)) e (o .inv .2),
+          (record-lines (tally-records (campaign-at (a .terms .now) (a .counts .now)) k))) e (o .inv .2),
       omega arith,
     )
 

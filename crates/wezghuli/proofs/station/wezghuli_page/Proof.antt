@@ -4,7 +4,7 @@ use borrow.Author.Needs.{needs}
 use borrow.Author.Tests.{not-true, not-false}
 use Rattle.page.specs.declared.Printing.{Printing}
 use Rattle.page.specs.Printing.{number}
-use Rattle.wezghuli.specs.Library.{page-lent, page-status, page-after, page-length-told, page-length-after}
+use Rattle.wezghuli.specs.Library.{page-status, page-after, page-length-told, page-length-after}
 use Rattle.wezghuli.proofs.station.wezghuli_page.Statement.{statement}
 use Rattle.wezghuli.proofs.station.wezghuli_page.Tie as tie
 
@@ -15,9 +15,10 @@ returns c = rw (sym (c .before .is-head .ensures) ∙ not-true _ (c .if1 .taken)
 answer-told : (c : tie.After-print-page) {y : Printing} → c .print-page .result ≡ y
     → let test = c .before .before .before in
     let a = test .before .before .before .args in
-    let m = page-lent (a .head .now) (a .terms .now) (a .counts .now) in
-    (number y ≡ page-status m (a .out .now)) × (c .print-page .last .1 .1 .1 .0 ≡ page-after m (a .out .now))
-    × (page-length-told y (a .length .now) ≡ page-length-after m (a .out .now) (a .length .now))
+    (number y ≡ page-status (a .head .now) (a .terms .now) (a .counts .now) (a .out .now))
+    × (c .print-page .last .1 .1 .1 .0 ≡ page-after (a .head .now) (a .terms .now) (a .counts .now) (a .out .now))
+    × (page-length-told y (a .written .now)
+    ≡ page-length-after (a .head .now) (a .terms .now) (a .counts .now) (a .out .now) (a .written .now))
 answer-told c e =
     let head = c .before .before in
     let test = head .before in

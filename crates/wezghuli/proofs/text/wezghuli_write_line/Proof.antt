@@ -21,7 +21,7 @@ answer-told : (c : tie.After-write-line) {y : Writing} → c .write-line .result
     let a = test .before .before .before .args in
     (number y ≡ write-status (a .words .now) (a .out .now))
     × (c .write-line .last .1 .0 ≡ line-after (a .words .now) (a .out .now))
-    × (length-told y (a .length .now) ≡ length-after (a .words .now) (a .out .now) (a .length .now))
+    × (length-told y (a .written .now) ≡ length-after (a .words .now) (a .out .now) (a .written .now))
 answer-told c e =
     let form = c .before .before in
     let test = form .before in

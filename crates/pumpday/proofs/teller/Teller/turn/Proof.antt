@@ -6,13 +6,13 @@ use Rattle.pumpday.proofs.teller.Teller.turn.Statement.{statement}
 use Rattle.pumpday.proofs.teller.Teller.turn.Tie as tie
 
 -- the read, of the place where the block is cut
-abbrev after-read : tie.After-answer-block-arg → tie.After-read
-after-read c = c .before .before .before .before .before
+abbrev after-read : tie.After-given → tie.After-read
+after-read c = c .before .before .before
 
 returns : tie.Need-returns
 returns c =
     let answered = c .before .before .before in
-    taken-is (after-read (answered .before .before) .read .ensures) (answered .answer-block .ensures)
+    taken-is (after-read (answered .before .before .before .before) .read .ensures) (answered .answer-block .ensures)
 
 pub turn-spec : {M : Type 1} → statement M
 turn-spec =
