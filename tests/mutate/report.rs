@@ -24,7 +24,7 @@ const WORDS: [&str; 8] = [
 /// Why lent memory may hold anything before the search.
 const SEARCHED: &str = "the search puts what is read of it, whatever stood there";
 /// Survivors that mean the same: the item, the change, and why.
-const SAME: [(&str, &str, &str); 12] = [
+const SAME: [(&str, &str, &str); 11] = [
     ("complete", "return 0; → return 1;", "with no byte pending the line is the input's own; no one asks the number"),
     ("earned_at", "let mut allotment: [u64; 256] = [0; 256]; → let mut allotment: [u64; 256] = [1; 256];", SEARCHED),
     ("earned_at", "let mut surplus: [u64; 64] = [0; 64]; → let mut surplus: [u64; 64] = [1; 64];", SEARCHED),
@@ -41,8 +41,6 @@ const SAME: [(&str, &str, &str); 12] = [
     ("ENTRIES", "const ENTRIES: usize = 257; → const ENTRIES: usize = 258;", "any number above 256 will do: a day of \
         more views is refused either way"),
     ("sized", "true → false", "no caller looks at the answer; the fact that it gives is all that is asked for"),
-    ("first_open", "while j < n { → while j > n {", "any place below which every view is given will do: the search \
-        looks from there on, finds the same view and only takes longer"),
 ];
 
 fn why_same(m: &Mutant) -> &'static str {
