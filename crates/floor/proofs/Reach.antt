@@ -229,7 +229,7 @@ opening-reached : (s : Day) (pl : Plan) → Yes (questions s (open-plan pl))
     → Reached (empty-plan Filling pl) (opening pl)
 opening-reached s pl y = record { is-sound = opened-sound s pl y; tracks = tracks-opening Filling pl }
 
-result-reached : (s : Day) (h : History) → Reached s h → (c : Call) → Yes (questions s c)
+pub result-reached : (s : Day) (h : History) → Reached s h → (c : Call) → Yes (questions s c)
     → Reached (result s c .day) (with-call h c (result s c .answer))
 result-reached s h r c y = record {
   is-sound = sound-result s c (r .is-sound) y;

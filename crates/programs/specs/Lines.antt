@@ -3,7 +3,7 @@
 use mathlib.Core.Path.{_≡_}
 use mathlib.Core.Bool.{Bool, true, false, cond, _&&_}
 use mathlib.Core.List.{List, [], _∷_, _++_}
-use Prim.Native.Nat.{ℕ, _+_, _≤_, _<_}
+use Prim.Native.Nat.{ℕ, _+_, _≤_}
 use Rattle.lines.specs.declared.Record.{Record}
 use Rattle.lines.specs.declared.Record.the-variants.{Plan, Campaign, Start, View, Close, Done, Play, Nobody, Refused}
 use Rattle.lines.specs.declared.Record.the-variants.{Closed, Tally, Pause, Resume}
@@ -135,9 +135,8 @@ pub record Of-lines (ls : List (List ℕ)) : Type 0 where
   pub closing-noon : (l : List ℕ) (t c f : ℕ)
       → reading (first-line (reply (after-lines blank ls) l)) ≡ Got (Closed t c f)
       → (floor-figure (after-lines blank ls) ≤ c) × (c ≤ f)
-  -- at widths above 1 the views got Algorithm 4's answers
-  pub agrees : (B : Terms → ℕ) → Buys-alike B → 1 < day-of ls .plan .width
-      → Day-agrees B (day-of ls) (after-lines blank ls)
+  -- the views got Algorithm 4's answers
+  pub agrees : (B : Terms → ℕ) → Buys-alike B → Day-agrees B (day-of ls) (after-lines blank ls)
 
 abbrev pub Lines-keep-the-demands : Type 0
 Lines-keep-the-demands = (ls : List (List ℕ)) → Of-lines ls
