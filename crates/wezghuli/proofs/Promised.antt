@@ -43,7 +43,8 @@ use Rattle.wezghuli.specs.Library.{write-status}
 use Rattle.wezghuli.specs.Library.{Lent, stream-in, status-in, come-to, feed-after, finish-after}
 use Rattle.wezghuli.specs.Library.{lent-state, page-status}
 use Rattle.wezghuli.specs.Promises.{Promises, left-by, statuses, blank-lent, handed-in}
-use Rattle.wezghuli.proofs.Streamed.{has-room}
+use Rattle.wezghuli.proofs.Streamed.{has-room, fed-misused, finish-misused}
+use Rattle.wezghuli.proofs.Kept.{noon-keeps, read-keeps, write-keeps, page-keeps, search-keeps, takings-keeps}
 use Rattle.wezghuli.proofs.Low.{small, Low, low-small}
 use Rattle.wezghuli.proofs.Low.Low.{none, then}
 use Rattle.wezghuli.proofs.Asked.{search-refusal, check-refusal, takings-refusal, search-checked}
@@ -242,6 +243,14 @@ promises = record {
   from-blank = λ a.
       (faithful .head-is (states.head-of blank), stored-state (record { day = blank; answer = Done }) a);
   refusal-keeps = refusal-keeps;
+  noon-keeps = noon-keeps;
+  read-keeps = read-keeps;
+  write-keeps = write-keeps;
+  feed-keeps = λ l m h. sym (fed-misused m refl h l .1);
+  finish-keeps = λ m h. sym (finish-misused m refl h .1);
+  page-keeps = page-keeps;
+  search-keeps = search-keeps;
+  takings-keeps = takings-keeps;
   stream-from-blank = stream-from-blank;
   feeds = feeds;
   finishes = finishes;

@@ -1,6 +1,6 @@
 -- What the functions promise to a caller, besides their contracts: operations in turn are calls in turn, a refusal and
--- a misuse leave every word, blocks in turn are handed to one stream, the check accepts what the search leaves and its
--- takings are the greatest, and misuse is told apart from every refusal.
+-- a misuse leave all lent memory, blocks in turn are handed to one stream, the check accepts what the search leaves and
+-- its takings are the greatest, and misuse is told apart from every refusal.
 use mathlib.Core.Path.{_≡_}
 use mathlib.Core.Bool.{true}
 use mathlib.Core.List.{List, [], _∷_, map}
@@ -17,9 +17,10 @@ use Rattle.stream.specs.Stream.{new-stream, Feeds, Finishes}
 use Rattle.optimum.specs.Optimum.{most-of, Best-allotment}
 use Rattle.encoding.specs.Encoding.{no-head, no-fit, is-head, head-words, is-form, stream-words}
 use Rattle.encoding.specs.Faithful.{seven}
-use Rattle.wezghuli.specs.Library.{Memory, memory, state, status, memory-after, noon-status, read-status}
-use Rattle.wezghuli.specs.Library.{write-status, Lent, lent, stream-in, status-in, feed-after, finish-after}
-use Rattle.wezghuli.specs.Library.{lent-state, page-status}
+use Rattle.wezghuli.specs.Library.{Memory, memory, state, status, memory-after, noon-status, figures-after}
+use Rattle.wezghuli.specs.Library.{read-status, record-after, write-status, line-after, length-after}
+use Rattle.wezghuli.specs.Library.{Lent, lent, stream-in, status-in, feed-after, finish-after}
+use Rattle.wezghuli.specs.Library.{lent-state, page-status, page-after, page-length-after}
 use Rattle.wezghuli.specs.Search.{search-status, Search-leaves, check-status, takings-status}
 use Rattle.wezghuli.specs.Search.{takings-after}
 
@@ -63,6 +64,21 @@ pub record Promises : Type 0 where
       → (status k (memory (seven a b c d e f g) terms counts answer) ≡ 0 → ⊥)
       → memory-after k (memory (seven a b c d e f g) terms counts answer)
       ≡ memory (seven a b c d e f g) terms counts answer
+  -- so does every other function that has something lent to write to: a status that is not 0 leaves all of it
+  pub noon-keeps : (head terms counts figures : List ℕ) → (noon-status head terms counts ≡ 0 → ⊥)
+      → figures-after head terms counts figures ≡ figures
+  pub read-keeps : (line words : List ℕ) → (read-status line ≡ 0 → ⊥) → record-after line words ≡ words
+  pub write-keeps : (words out written : List ℕ) → (write-status words out ≡ 0 → ⊥)
+      → (line-after words out ≡ out) × (length-after words out written ≡ written)
+  pub feed-keeps : (l : List ℕ) (m : Lent) → (status-in m ≡ 0 → ⊥) → feed-after l m ≡ m
+  pub finish-keeps : (m : Lent) → (status-in m ≡ 0 → ⊥) → finish-after m ≡ m
+  pub page-keeps : (head terms counts out written : List ℕ) → (page-status head terms counts out ≡ 0 → ⊥)
+      → (page-after head terms counts out ≡ out) × (page-length-after head terms counts out written ≡ written)
+  pub search-keeps : (head terms counts views a a' u u' v v' : List ℕ)
+      → (search-status head terms counts views a u v ≡ 0 → ⊥) → Search-leaves head terms counts views a a' u u' v v'
+      → (a' ≡ a) × (u' ≡ u) × (v' ≡ v)
+  pub takings-keeps : (head terms counts a takings : List ℕ) → (takings-status head terms counts a ≡ 0 → ⊥)
+      → takings-after head terms counts a takings ≡ takings
   -- from the blank memory on it is a new stream, and a block and the end of input leave what the stream hands back, so
   -- that `Chunking.Any-chunking` speaks of them
   pub stream-from-blank : (out : List ℕ) → stream-in (blank-lent out) ≡ new-stream
