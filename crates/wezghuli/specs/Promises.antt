@@ -2,7 +2,7 @@
 -- a misuse leave all lent memory, blocks in turn are handed to one stream, the check accepts what the search leaves and
 -- its takings are the greatest, and misuse is told apart from every refusal.
 use mathlib.Core.Path.{_≡_}
-use mathlib.Core.Bool.{true}
+use mathlib.Core.Bool.{true, false}
 use mathlib.Core.List.{List, [], _∷_, map}
 use mathlib.Core.Logic.{_⊎_}
 use Prim.Native.Nat.{ℕ, _<_}
@@ -12,10 +12,12 @@ use Rattle.day.specs.Day as states
 use Rattle.day.specs.Calls.{number, Call, call}
 use Rattle.demands.specs.Transcript.{transcript, final}
 use Rattle.lines.specs.Limits.{line-buffer}
+use Rattle.reply.specs.Session.{reply-room}
 use Rattle.stream.specs.declared.feed.Fed.{Fed}
 use Rattle.stream.specs.Stream.{new-stream, Feeds, Finishes}
 use Rattle.optimum.specs.Optimum.{most-of, Best-allotment}
-use Rattle.encoding.specs.Encoding.{no-head, no-fit, is-head, head-words, is-form, stream-words}
+use Rattle.encoding.specs.Encoding.{no-head, no-form, no-stream, no-room, no-fit, is-head, head-words, is-form}
+use Rattle.encoding.specs.Encoding.{is-stream, stream-words}
 use Rattle.encoding.specs.Faithful.{seven}
 use Rattle.wezghuli.specs.Library.{Memory, memory, state, status, memory-after, noon-status, figures-after}
 use Rattle.wezghuli.specs.Library.{read-status, record-after, write-status, line-after, length-after}
@@ -98,6 +100,22 @@ pub record Promises : Type 0 where
   -- what the check accepts is an allotment that none exceeds
   pub check-best : (head terms counts views a u v : List ℕ) → check-status head terms counts views a u v ≡ 0
       → Best-allotment (lent-state head terms counts) views a
+  -- misuse is told by its status, whatever else is lent: words that are no head, no record, no stream; too little room
+  pub call-misuse : (k : Call) (m : Memory) → is-head (m .head) ≡ false → status k m ≡ no-head
+  pub noon-misuse : (head terms counts : List ℕ) → is-head head ≡ false → noon-status head terms counts ≡ no-head
+  pub write-misuse : (words out : List ℕ) → is-form words ≡ false → write-status words out ≡ no-form
+  pub page-misuse : (head terms counts out : List ℕ) → is-head head ≡ false
+      → page-status head terms counts out ≡ no-head
+  pub search-misuse : (head terms counts views a u v : List ℕ) → is-head head ≡ false
+      → search-status head terms counts views a u v ≡ no-head
+  pub check-misuse : (head terms counts views a u v : List ℕ) → is-head head ≡ false
+      → check-status head terms counts views a u v ≡ no-head
+  pub takings-misuse : (head terms counts a : List ℕ) → is-head head ≡ false
+      → takings-status head terms counts a ≡ no-head
+  pub stream-misuse : (m : Lent) → is-head (m .head) ≡ false → status-in m ≡ no-head
+  pub words-misuse : (m : Lent) → is-head (m .head) ≡ true → is-stream (m .words) ≡ false → status-in m ≡ no-stream
+  pub room-misuse : (m : Lent) → is-head (m .head) ≡ true → is-stream (m .words) ≡ true → length (m .out) < reply-room
+      → status-in m ≡ no-room
   -- no refusal has the status of a misuse, of which the least is `no-head`
   pub call-refusal : (k : Call) (m : Memory) → is-head (m .head) ≡ true → status k m < no-head
   pub noon-refusal : (head terms counts : List ℕ) → is-head head ≡ true → noon-status head terms counts < no-head
