@@ -17,7 +17,7 @@ use Rattle.reply.specs.Session.{reply-room, first-line}
 use Rattle.stream.specs.declared.feed.Fed.{Fed}
 use Rattle.stream.specs.Stream.{new-stream, session-of, Feeds, Finishes}
 use Rattle.stream.specs.Listing.{lines-of, listing-lines, listing-answers}
-use Rattle.stream.specs.Chunking.{joined, after-lines, replies, last-reply, Split}
+use Rattle.stream.specs.Input.{joined, Split, all-lines, after-lines, replies}
 use Rattle.stream.specs.Chunking.{Feeding, In-blocks, stream-after, all-written, all-output}
 
 -- the blocks as one input
@@ -44,7 +44,7 @@ abbrev pub Any-blocks : Type 0
 Any-blocks =
     (blocks : List (List ℕ)) (i : Split (in-one blocks)) (d : List ℕ)
     → length (replies blank (i .lines)) + reply-room ≤ length d
-    → Handed blocks d (replies blank (i .lines) ++ last-reply (after-lines blank (i .lines)) (i .rest))
+    → Handed blocks d (replies blank (all-lines i))
 
 -- a day: a block that ends within its second line, and one whose last line is not ended
 abbrev pub first-block : List ℕ

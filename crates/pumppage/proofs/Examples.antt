@@ -14,7 +14,7 @@ use Rattle.lines.specs.Form.{template, in-slot}
 use Rattle.lines.specs.Reading.{reading, first-of, forms, held-or, ended-or, made, numbers-of, rest-of, step, strip}
 use Rattle.lines.specs.Reading.{slot-at, set-at, numeral-at, digits, is-digit}
 use Rattle.reply.specs.Reply.{outcome, next}
-use Rattle.stream.specs.Chunking.{after-lines}
+use Rattle.stream.specs.Input.{after-lines}
 use Rattle.page.specs.Page.{flush, cents, row-text, total-text, row-lines, page}
 use Rattle.page.specs.Figures.{figures}
 use Rattle.pumppage.specs.Examples.{Page-of-the-listing}

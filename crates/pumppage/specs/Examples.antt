@@ -2,7 +2,7 @@
 use mathlib.Core.Path.{_≡_}
 use mathlib.Core.List.{[], _∷_}
 use Rattle.day.specs.Day.{blank}
-use Rattle.stream.specs.Chunking.{after-lines}
+use Rattle.stream.specs.Input.{after-lines}
 use Rattle.stream.specs.Listing.{listing-lines}
 use Rattle.page.specs.Printing.{page-of}
 use Rattle.page.specs.Examples.{text-of}
