@@ -34,21 +34,21 @@ use Rattle.stream.specs.declared.feed.Stream.{Stream}
 use Rattle.stream.specs.declared.feed.Fed.{Fed}
 use Rattle.stream.specs.Stream.{finished, new-stream, session-of, silent, stream-of, handed-back, answered-in}
 use Rattle.stream.specs.Stream.{consumed-bytes, Comes-to, Feeds, Finishes}
-use Rattle.stream.specs.Chunking.{joined, Plain, All-plain, after-lines, replies, last-reply, Split}
+use Rattle.stream.specs.Input.{joined, Plain, All-plain, Split, last-line, after-lines, replies}
 use Rattle.stream.specs.Chunking.{Feeding, In-blocks, stream-after}
-use Rattle.stream.proofs.Chunking.{fed-said, fed-lines, any-input, any-chunking}
+use Rattle.stream.proofs.Chunking.{fed-said, fed-lines, replies-append, any-input, any-chunking}
 use Rattle.programs.specs.Examples.{in-one, blocks-of, Any-blocks}
-use Rattle.stream.specs.Listing.{lines-of, listing-lines, listing-answers}
+use Rattle.stream.specs.Listing.{lines-of, listing-lines, listing-answers, uneven-lines, uneven-answers}
 use Rattle.programs.specs.Examples.{Handed, first-block, second-block, answers, Day-in-two-blocks, two-lines}
 use Rattle.programs.specs.Examples.{In-part, Input-answered, Listing-answered, odd-lines, odd-answers}
-use Rattle.programs.specs.Examples.{Listing-closes, Odd-lines-answered, uneven-lines, uneven-answers}
+use Rattle.programs.specs.Examples.{Listing-closes, Odd-lines-answered}
 use Rattle.programs.specs.Examples.{Uneven-answered, Output-forms-refused, paused-lines, paused-answers}
 use Rattle.programs.specs.Examples.{Paused-answered, limit-lines, limit-answers, Limits-answered}
 
 -- What is computed: the answers to lines and a rest.
 
 abbrev answers-to : List (List ℕ) → (rest : List ℕ) → List ℕ
-answers-to ls rest = replies blank ls ++ last-reply (after-lines blank ls) rest
+answers-to ls rest = replies blank (ls ++ last-line rest)
 
 abbrev day-lines : List (List ℕ)
 day-lines =
@@ -188,8 +188,7 @@ any-blocks bs i d room =
       after = answered-in z d;
       back = handed-back z 0;
       finishes = h;
-      writes = any-chunking (in-one bs) fs t d (answered-in z d) (handed-back z 0) some h
-          (i .lines) (i .rest) (i .lines-plain) (i .rest-plain) (i .whole);
+      writes = any-chunking (in-one bs) fs t d (answered-in z d) (handed-back z 0) some h i;
     }
 
 -- The day.
@@ -217,9 +216,11 @@ answers-length = refl
 
 pub day-in-two-blocks : Day-in-two-blocks
 day-in-two-blocks d h =
-    let last = last-reply (after-lines blank day-lines) (bytes "(close)") in
-    let n : length (replies blank day-lines) + length last ≡ 123 =
-    sym (length-append (replies blank day-lines) last) ∙ ap (λ (w : List ℕ). length w) (computed .day)
+    let last = last-line (bytes "(close)") in
+    let m = replies (after-lines blank day-lines) last in
+    let n : length (replies blank day-lines) + length m ≡ 123 =
+    sym (length-append (replies blank day-lines) m)
+    ∙ ap (λ (w : List ℕ). length w) (replies-append blank day-lines last ∙ computed .day)
     ∙ answers-length in
     subst (λ (w : List ℕ). Handed (first-block ∷ second-block ∷ []) d w) (computed .day)
     (any-blocks (first-block ∷ second-block ∷ []) day-split d (omega (arith, n, h)))
@@ -269,7 +270,9 @@ answered : (ls : List (List ℕ)) (rest : List ℕ) (told : List (List ℕ)) →
     → answers-to ls rest ≡ joined told [] → Input-answered ls rest told
 answered ls rest told p e =
     let q = all-plain (rest ∷ ls) p in
-    any-input (joined ls rest) ls rest (q .1) (q .0) refl ∙ e
+    let i : Split (joined ls rest) =
+    record { lines = ls; rest = rest; lines-plain = q .1; rest-plain = q .0; whole = refl } in
+    any-input (joined ls rest) i ∙ e
 
 pub listing-answered : Listing-answered
 unfolding upto

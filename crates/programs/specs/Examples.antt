@@ -18,8 +18,8 @@ use Rattle.reply.specs.Reply.{reply}
 use Rattle.reply.specs.Session.{reply-room, first-line}
 use Rattle.stream.specs.declared.feed.Fed.{Fed}
 use Rattle.stream.specs.Stream.{new-stream, session-of, Feeds, Finishes}
-use Rattle.stream.specs.Listing.{lines-of, listing-lines, listing-answers}
-use Rattle.stream.specs.Chunking.{joined, after-lines, replies, last-reply, Split}
+use Rattle.stream.specs.Listing.{lines-of, listing-lines, listing-answers, uneven-lines, uneven-answers}
+use Rattle.stream.specs.Input.{joined, Split, all-lines, after-lines, replies}
 use Rattle.stream.specs.Chunking.{Feeding, In-blocks, stream-after, all-written, all-output}
 
 -- the blocks as one input
@@ -46,7 +46,7 @@ abbrev pub Any-blocks : Type 0
 Any-blocks =
     (blocks : List (List ℕ)) (i : Split (in-one blocks)) (d : List ℕ)
     → length (replies blank (i .lines)) + reply-room ≤ length d
-    → Handed blocks d (replies blank (i .lines) ++ last-reply (after-lines blank (i .lines)) (i .rest))
+    → Handed blocks d (replies blank (all-lines i))
 
 -- a day: a block that ends within its second line, and one whose last line is not ended
 abbrev pub first-block : List ℕ
@@ -111,22 +111,7 @@ odd-answers =
 abbrev pub Odd-lines-answered : Type 0
 Odd-lines-answered = Input-answered odd-lines (bytes "(view 0)") odd-answers
 
--- A day whose figures all differ: depth and width, the prices, the budgets, takings, claim and full; and no two counts
--- are alike in both tallies. W is 4, 6 and 9, so campaign 0 plays at 8 against 4, 6 and 4; campaign 1 ends a turn in
--- the second view, and has age 1 after the third. The claim is 2 × (3 × 5) + 1 × (1 × 5 + 6 - 4).
-abbrev pub uneven-lines : List (List ℕ)
-uneven-lines =
-    lines-of
-    ("(plan (depth 2) (width 3))" ∷ "(campaign (price 2) (budget 9))" ∷ "(campaign (price 1) (budget 1))" ∷ "(start)" ∷
-    "(view 0 1)" ∷ "(view 0 1)" ∷ "(view 0 1)" ∷ "(close)" ∷ [])
-
-abbrev pub uneven-answers : List (List ℕ)
-uneven-answers =
-    lines-of
-    ("(ok)" ∷ "(ok)" ∷ "(ok)" ∷ "(ok)" ∷ "(play 0 (paid 2))" ∷ "(play 0 (paid 2))" ∷ "(play 0 (paid 2))" ∷
-    "(closed (takings 6) (claim 37) (full 54))" ∷ "(tally 0 (plays 3) (turns 3) (age 0) (named 3))" ∷
-    "(tally 1 (plays 0) (turns 1) (age 1) (named 3))" ∷ [])
-
+-- a day whose figures all differ
 abbrev pub Uneven-answered : Type 0
 Uneven-answered = Input-answered uneven-lines [] uneven-answers
 

@@ -5,7 +5,7 @@ use mathlib.Core.List.{List}
 use Prim.Native.Nat.{ℕ, _<_}
 use lib.ListN.{length, take}
 use Rattle.day.specs.Day.{blank}
-use Rattle.stream.specs.Chunking.{after-lines, replies, Split, all-lines}
+use Rattle.stream.specs.Input.{after-lines, replies, Split, all-lines}
 use Rattle.programs.specs.Lines.{Of-lines}
 use Rattle.wire.specs.Wires.{counted-on, max-reads, input-of, None-empty}
 use Rattle.pumpday.specs.declared.teller.Teller.{Teller}

@@ -14,7 +14,7 @@ use Rattle.lines.specs.Form.{template, in-slot}
 use Rattle.lines.specs.Reading.{reading, first-of, forms, held-or, ended-or, made, numbers-of, rest-of, step, strip}
 use Rattle.lines.specs.Reading.{slot-at, set-at, numeral-at, digits, is-digit}
 use Rattle.reply.specs.Reply.{outcome, next}
-use Rattle.stream.specs.Chunking.{after-lines}
+use Rattle.stream.specs.Input.{after-lines}
 use Rattle.page.specs.Page.{flush, cents, row-text, total-text, row-lines, page}
 use Rattle.page.specs.Figures.{figures}
 use Rattle.pumppage.specs.Examples.{Examples}
@@ -26,4 +26,4 @@ unfolding after-lines next outcome
     call first-failed sound sound-record blank sum count every table within size member width-holds weight share
     whole claim total-takings total-claim total-budgets sound-plan priced counted uncounted empty sound-campaign
     best choice collect without flush cents row-text total-text row-lines page figures
-examples = record { of-the-listing = refl; of-left-over = refl }
+examples = record { of-the-listing = refl; of-uneven = refl }

@@ -5,22 +5,10 @@ use mathlib.Core.List.{List, [], _∷_}
 use Prim.Native.Nat.{ℕ}
 use Prim.Native.String.{String}
 use Rattle.day.specs.Day.{blank}
-use Rattle.stream.specs.Chunking.{after-lines}
-use Rattle.stream.specs.Listing.{lines-of, listing-lines}
+use Rattle.stream.specs.Input.{after-lines}
+use Rattle.stream.specs.Listing.{listing-lines, uneven-lines}
 use Rattle.page.specs.Printing.{page-of}
 use Rattle.page.specs.Examples.{text-of}
-
--- campaign 0 plays three times and has budget left over; campaign 1 finishes a turn and never plays
-abbrev pub left-over : List (List ℕ)
-left-over = lines-of (
-    "(plan (depth 2) (width 3))" ∷
-    "(campaign (price 2) (budget 9))" ∷
-    "(campaign (price 1) (budget 1))" ∷
-    "(start)" ∷
-    "(view 0 1)" ∷
-    "(view 0 1)" ∷
-    "(view 0 1)" ∷
-    "(close)" ∷ [])
 
 -- the page of the state after these lines, from the blank state on, reads so
 abbrev pub Page-is : (lines : List (List ℕ)) → (text : List String) → Type 0
@@ -31,7 +19,8 @@ pub record Examples : Type 0 where
       "  0     2       0.05          0.10     4" ∷
       "  1     2       0.03          0.06     4" ∷
       "total                         0.16      " ∷ [])
-  pub of-left-over : Page-is left-over (
+  -- campaign 0 plays three times and has budget left over; campaign 1 finishes a turn and never plays
+  pub of-uneven : Page-is uneven-lines (
       "  0     3       0.02          0.06     3" ∷
       "  1     0       0.01          0.00     3" ∷
       "total                         0.06      " ∷ [])
