@@ -195,7 +195,8 @@ fn write_view_figures<'a>(
     }
 }
 
-// An allotment with the greatest takings, with a figure for each campaign and each view.
+// An allotment with the greatest takings, with a figure for each campaign and each view. Which of several greatest
+// allotments comes out, and which figures that fit it, is free.
 pub fn allot<'a>(
     count: u64,
     prices: &'a [u32; 128],
