@@ -15,6 +15,7 @@ use Rattle.sets.specs.Set.{without}
 use Rattle.lines.specs.declared.Reading.{Reading}
 use Rattle.lines.specs.Reading.{reading}
 use Rattle.campaigns.specs.declared.View.{View}
+use Rattle.campaigns.specs.View.{unmarked}
 use Rattle.day.specs.declared.Day.{Day}
 use Rattle.day.specs.declared.Outcome.{Outcome}
 use Rattle.day.specs.Day.{blank, blank-plan}
@@ -22,7 +23,7 @@ use Rattle.day.specs.Calls.{number, marked, Call, result, call}
 use Rattle.day.specs.Calls.Call.{open-plan, add-campaign, start-day, show-view, ask-tally, close-day, mark-campaign}
 use Rattle.day.proofs.Questions.{call-elim}
 use Rattle.demands.proofs.Refusals.{result-number}
-use Rattle.floor.specs.History.{History, opening, unpaused-in, with-call, entered, continued}
+use Rattle.floor.specs.History.{History, opening, with-call, entered, continued}
 use Rattle.reply.specs.Reply.{Request, request-of, executed, outcome, next, reply}
 use Rattle.reply.specs.Reply.Request.{makes, fails}
 use Rattle.reply.specs.Session.{Session, longer, ended, fed}
@@ -84,14 +85,14 @@ module _ (n : ℕ) (s : Day) (h : History) (v : List ℕ) (k : Keeps n s h v) wh
           ∙ sym (take-append-le n (own-views h) (a ∷ []) (omega (arith, k .counted)))
 
   keeps-shown : (w : View) (t : Day) (g : History) → t .accepted ≡ s .accepted + 1
-      → g .views ≡ h .views ++ (unpaused-in h w ∷ []) → t .paused ≡ g .paused
+      → g .views ≡ h .views ++ (unmarked (h .paused) w ∷ []) → t .paused ≡ g .paused
       → Keeps n t g (set v (s .accepted) (without (w .set) (s .paused)))
   keeps-shown w t g e f p =
       let a = without (w .set) (s .paused) in
       let one = e ∙ add-one (s .accepted) in
       let more : own-views g ≡ own-views h ++ (a ∷ []) =
       ap (λ (vs : List View). map (λ (u : View). u .set) vs) f
-      ∙ map-append (λ (u : View). u .set) (h .views) (unpaused-in h w ∷ [])
+      ∙ map-append (λ (u : View). u .set) (h .views) (unmarked (h .paused) w ∷ [])
       ∙ sym (ap (λ (m : ℕ). own-views h ++ (without (w .set) m ∷ [])) (k .paused-is)) in
       record {
         counted = omega (arith, e, k .counted, ap length more, length-append (own-views h) (a ∷ []));
