@@ -66,8 +66,8 @@ fn ended(found: bool, visited: u64, bare: u64) -> Sought
 }
 
 // One more view for the campaign: a free one, or one whose holder gets another in its place. At each call the campaigns
-// not visited are fewer. Which chain is found is free, and after a find so is `visited`, which else is some set that
-// `Failed` allows; `bare` is some set of campaigns that no free view names.
+// not visited are fewer. Which chain is found is free, and after a find so is `visited`; after none it is some set that
+// is shut off (`Failed`). `bare` is some set of campaigns that no free view names.
 pub fn seek(
     views: &[u64],
     allotment: &mut [u64],
