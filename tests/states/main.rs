@@ -64,8 +64,12 @@ impl Tally {
     }
 
     fn end(&mut self, group: &str, before: (u64, u64, u64)) {
-        self.groups += 1;
         let (calls, accepted, unsound) = before;
+        if self.calls == calls {
+            println!("{group}: nothing was compared");
+            self.fail()
+        }
+        self.groups += 1;
         println!(
             "{group}: {} calls, {} accepted, {} on unsound states",
             self.calls - calls,

@@ -11,8 +11,8 @@ use Rattle.campaigns.specs.declared.Phase.the-variants.{Filling, Running, Close
 use Rattle.campaigns.specs.declared.Plan.{Plan}
 use Rattle.campaigns.specs.Limits.{max-campaigns, max-price, max-budget, max-views}
 use Rattle.campaigns.specs.Contracts.{max-column}
-use Rattle.campaigns.specs.Campaign.{spending, price-fits, budget-fits, sound-plan, empty}
-use Rattle.campaigns.specs.View.{full}
+use Rattle.campaigns.specs.Campaign.{spending, sound-plan, priced, uncounted, empty}
+use Rattle.campaigns.specs.View.{budgets, takings, full}
 use Rattle.audit.specs.declared.Audit.{Audit}
 use Rattle.audit.specs.declared.sums.Spent.{Spent}
 use Rattle.audit.specs.declared.sums.Sums.{Sums}
@@ -24,7 +24,7 @@ limits-hold h = sound-plan (h .plan) && leb (h .count) max-campaigns && leb (h .
 
 -- the tests of soundness on the first n campaigns, by columns
 unfoldable pub priced-columns : ℕ → (ℕ → Campaign) → Bool
-priced-columns n f = every n (λ i. price-fits (f i .price) && budget-fits (f i .price) (f i .budget))
+priced-columns n f = every n (λ i. priced (f i))
 
 unfoldable pub ordered-columns : (depth accepted n : ℕ) → (ℕ → Campaign) → Bool
 ordered-columns k a n f = every n (λ i. ltb (f i .age) k && leb (f i .plays) (f i .turns) &&
@@ -41,8 +41,8 @@ waiting pl c = weight (pl .depth) (pl .width) (c .age) - weight (pl .depth) (pl 
 unfoldable pub sums-of : Plan → ℕ → (ℕ → Campaign) → Sums
 sums-of pl n f = record {
   within = true;
-  budgets = sum n (λ i. f i .budget);
-  takings = sum n (λ i. spending (f i));
+  budgets = budgets n f;
+  takings = takings pl n f;
   turned = sum n (λ i. f i .price * f i .turns);
   waited = sum n (λ i. f i .price * waiting pl (f i));
 }
@@ -57,7 +57,7 @@ no-spending = record { within = false; budgets = 0; takings = 0; turned = 0 }
 abbrev pub spendings : ℕ → (ℕ → Campaign) → Spent
 spendings n f = record {
   within = true;
-  budgets = sum n (λ i. f i .budget);
+  budgets = budgets n f;
   takings = sum n (λ i. spending (f i));
   turned = sum n (λ i. f i .price * f i .turns);
 }
@@ -82,8 +82,7 @@ unfoldable pub no-terms-from : ℕ → (ℕ → Campaign) → ℕ → Bool
 no-terms-from n f m = every m (λ i. cond (ltb i n) true (eqb (f i .price) 0 && eqb (f i .budget) 0))
 
 unfoldable pub no-counts-in : ℕ → (ℕ → Campaign) → ℕ → Bool
-no-counts-in n f m = every m (λ i. cond (ltb i n) true
-    (eqb (f i .plays) 0 && eqb (f i .turns) 0 && eqb (f i .age) 0 && eqb (f i .named) 0))
+no-counts-in n f m = every m (λ i. cond (ltb i n) true (uncounted (f i)))
 
 abbrev pub untouched-columns : Phase → ℕ → (ℕ → Campaign) → Bool
 untouched-columns Filling n f = no-counts-in 0 f n

@@ -14,6 +14,9 @@ ghost use Rattle.allotments.specs.Allotment.{at, times, takings, entry-fits, co
 ghost use Rattle.allotments.specs.Contracts.{Market, Enough-lent};
 ghost use Rattle.certificate.specs.Contracts.{rest-left};
 
+// The entry of a view that is given to nobody.
+const NOBODY: u64 = 64;
+
 // What is left of an amount, and whether there was enough of it.
 pub struct Rest {
     pub enough: bool,
@@ -27,7 +30,7 @@ fn entry_fits(view: u64, entry: u64) -> bool
     if entry < 64 {
         return sets::has(view, entry);
     }
-    entry == 64
+    entry == NOBODY
 }
 
 fn entries_fit(views: &[u64], allotment: &[u64]) -> bool

@@ -2,12 +2,12 @@
 -- it speaks of a campaign through `campaigns/specs/View`, so that a further kind of plan changes that file.
 use mathlib.Core.Bool.{true, false, cond, not, _&&_, _||_}
 use Prim.Native.Nat.{ℕ}
-use lib.Dec.{ltb, eqb}
+use lib.Dec.{eqb}
 use Rattle.campaigns.specs.declared.Campaign.{Campaign}
 use Rattle.campaigns.specs.declared.Plan.{Plan}
 use Rattle.campaigns.specs.declared.View.{View}
 use Rattle.campaigns.specs.Limits.{max-campaigns}
-use Rattle.campaigns.specs.Choice.{Choice, role-of}
+use Rattle.campaigns.specs.Choice.{Choice, outdone, role-of}
 use Rattle.campaigns.specs.Choice.Choice.{nobody, plays}
 use Rattle.campaigns.specs.View.{names, pays, offer, figure, becomes, chosen-of}
 use Rattle.choice.specs.declared.Candidate.{Candidate}
@@ -23,7 +23,7 @@ as-candidate x o (plays m) = record { found = true; campaign = m; paid = o m; sc
 -- the better of candidate b and campaign c, of number i: b unless c can pay and b is nobody or of a lesser figure
 unfoldable pub compared : Plan → View → Candidate → ℕ → Campaign → Candidate
 compared pl w b i c =
-    cond (pays pl w i c) (cond (not (b .found) || ltb (b .score) (figure pl w i c))
+    cond (pays pl w i c) (cond (not (b .found) || outdone (b .score) (figure pl w i c))
     (record { found = true; campaign = i; paid = offer pl w i c; score = figure pl w i c }) b) b
 
 -- the choice among the first n campaigns as a candidate

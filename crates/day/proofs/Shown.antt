@@ -13,7 +13,7 @@ use Rattle.choice.specs.declared.Candidate.{Candidate}
 use Rattle.campaigns.specs.Campaign.{campaign-at}
 use Rattle.campaigns.specs.Choice.{Choice, is, role-of}
 use Rattle.campaigns.specs.Choice.Choice.{nobody, plays}
-use Rattle.campaigns.specs.View.{names, pays, figure, becomes}
+use Rattle.campaigns.specs.View.{names, unmarked, pays, figure, becomes}
 use Rattle.choice.specs.Candidates.{as-candidate, candidate-of, after-view}
 use Rattle.choice.specs.Contracts.{Counts, In-bounds}
 use Rattle.audit.proofs.Totals.{Held}
@@ -24,7 +24,6 @@ use Rattle.day.specs.declared.Day.{Day}
 use Rattle.day.specs.Day.{campaign, state-of, state-with}
 use Rattle.day.specs.Calls.{questions, found, player, offers, head-shown, shown, view-answer, call}
 use Rattle.day.specs.Calls.Call.{show-view}
-use Rattle.questions.specs.Questions.{unpaused}
 use Rattle.day.specs.Contracts.{answer-of}
 use Rattle.day.proofs.State.{Sound, sound-facts, held-at, state-with-is}
 use Rattle.day.proofs.Questions.{Yes, call-yes}
@@ -74,7 +73,7 @@ module _ (s : Day) (w : View) (h : Sound s) (e : within (s .count) (w .set) ≡ 
 
 -- an accepted view, from what the choice and the marks gave
 module _ (h : Head) (t n : List ℕ) (w : View) (b : Candidate) (y : Yes (questions (state-of h t n) (show-view w)))
-    (q : b ≡ candidate-of (h .plan) (unpaused h w) (campaign-at t n) 64) where
+    (q : b ≡ candidate-of (h .plan) (unmarked (h .paused) w) (campaign-at t n) 64) where
   abbrev s : Day
   s = state-of h t n
 

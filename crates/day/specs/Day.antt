@@ -44,16 +44,10 @@ state-of h t n = record {
 
 -- the state of a head that holds campaign f i at entry i
 abbrev pub state-with : Head → (ℕ → Campaign) → Day
-state-with h f = record {
-  phase = h .phase;
-  plan = h .plan;
-  count = h .count;
-  accepted = h .accepted;
-  paused = h .paused;
-  terms = table max-campaigns (λ i. f i .price) ++ table max-campaigns (λ i. f i .budget);
-  counts = table max-campaigns (λ i. f i .plays) ++ (table max-campaigns (λ i. f i .turns) ++
-      (table max-campaigns (λ i. f i .age) ++ table max-campaigns (λ i. f i .named)));
-}
+state-with h f =
+    state-of h (table max-campaigns (λ i. f i .price) ++ table max-campaigns (λ i. f i .budget))
+    (table max-campaigns (λ i. f i .plays) ++ (table max-campaigns (λ i. f i .turns) ++
+    (table max-campaigns (λ i. f i .age) ++ table max-campaigns (λ i. f i .named))))
 
 -- the state s in another phase
 abbrev pub in-phase : Day → Phase → Day

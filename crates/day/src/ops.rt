@@ -20,8 +20,8 @@ use questions::plan_question;
 ghost use mathlib.Core.Path.{_≡_};
 ghost use Prim.Native.Nat.{_≤_, _<_};
 ghost use Rattle.campaigns.specs.Limits.{max-campaigns};
-ghost use Rattle.finite.specs.Finite.{sum};
 ghost use Rattle.campaigns.specs.Campaign.{campaign-at};
+ghost use Rattle.campaigns.specs.View.{budgets};
 ghost use Rattle.campaigns.specs.Contracts.{Sized, Weights, max-column};
 ghost use Rattle.day.specs.Day.{state-of};
 ghost use Rattle.day.specs.Calls.{call, marked};
@@ -78,8 +78,7 @@ pub fn open_sound<'a>(
 // The sum of the budgets.
 fn total_budgets<'a>(n: usize, terms: &'a [u32; 128], counts: &'a [u16; 256]) -> u64
     requires { ⌜ n ≤ max-campaigns ⌝ }
-    ensures { λ r. ⌜ (r ≡ sum n (λ i. campaign-at (now (terms .entry)) (now (counts .entry)) i .budget))
-        × (r ≤ max-column) ⌝ }
+    ensures { λ r. ⌜ (r ≡ budgets n (campaign-at (now (terms .entry)) (now (counts .entry)))) × (r ≤ max-column) ⌝ }
 {
     let mut all: u64 = 0;
     for i in 0..n {

@@ -2,8 +2,8 @@
 use mathlib.Core.Bool.{Bool, cond, _&&_, _||_}
 use mathlib.Core.List.{List, [], _∷_, _++_}
 use Prim.Native.Nat.{ℕ}
-use lib.Dec.{leb, eqb}
-use lib.ListN.{getD, take, drop, replicate}
+use lib.Dec.{leb, ltb, eqb}
+use lib.ListN.{length, getD, take, drop, replicate}
 use Rattle.campaigns.specs.declared.Head.{Head}
 use Rattle.campaigns.specs.declared.Phase.{Phase}
 use Rattle.campaigns.specs.declared.Phase.the-variants.{Filling, Running, Closed}
@@ -87,7 +87,7 @@ record-words r = form-of r ∷ padded 5 (numbers r)
 
 -- words that are a record, and the record that they give
 abbrev pub is-form : List ℕ → Bool
-is-form w = leb (getD w 0 0) 12
+is-form w = ltb (getD w 0 0) (length forms)
 
 unfoldable pub record-of : List ℕ → Record
 record-of w = made (getD forms (getD w 0 0) form.Start) (drop 1 w)

@@ -4,6 +4,9 @@ ghost use Prim.Native.Nat.{_<_, _≤_};
 ghost use lib.ListN.{length};
 ghost use Rattle.exchange.specs.Contracts.{None-free, first-open, first-free, Bare, Seekable, Sought-is};
 
+// The entry of a view that is given to nobody.
+pub const NOBODY: u64 = 64;
+
 // What a search ends with: whether a view was found, the set of campaigns visited, and that of campaigns that are bare:
 // no free view names them. A view that was once given is never free again, so that a bare campaign stays so.
 pub struct Sought {
@@ -21,7 +24,7 @@ pub fn first_open(n: usize, allotment: &[u64], from: usize) -> usize
 {
     let mut j = from;
     while j < n {
-        if allotment[j] == 64 {
+        if allotment[j] == NOBODY {
             return j;
         }
         j += 1;
@@ -43,7 +46,7 @@ fn free_view(views: &[u64], allotment: &[u64], campaign: u64, first: usize, bare
     while j < views.len() {
         let holder = allotment[j];
         let v = views[j];
-        if (holder == 64) & sets::has(v, campaign) {
+        if (holder == NOBODY) & sets::has(v, campaign) {
             return j;
         }
         j += 1;
@@ -63,7 +66,8 @@ fn ended(found: bool, visited: u64, bare: u64) -> Sought
 }
 
 // One more view for the campaign: a free one, or one whose holder gets another in its place. At each call the campaigns
-// not visited are fewer.
+// not visited are fewer. Which chain is found is free, and after a find so is `visited`; after none it is some set that
+// is shut off (`Failed`). `bare` is some set of campaigns that no free view names.
 pub fn seek(
     views: &[u64],
     allotment: &mut [u64],

@@ -11,7 +11,7 @@ use Rattle.finite.proofs.Sums.{sum-le}
 use Rattle.allotments.specs.Allotment.{times}
 use Rattle.allotments.proofs.Takings.{by-campaign}
 use Rattle.floor.specs.History.{History}
-use Rattle.floor.specs.Floor.{trace, price-of, whole-of, falls-short, unstruck, Allotted, takings-of}
+use Rattle.floor.specs.Floor.{price-of, whole-of, named-in, falls-short, unstruck, Allotted, takings-of}
 use Rattle.floor.specs.Noon.{due-of, day-due}
 
 module _ (h : History) (deep : 0 < h .plan .depth) (to : ℕ → ℕ) (al : Allotted h to) where
@@ -22,7 +22,7 @@ module _ (h : History) (deep : 0 < h .plan .depth) (to : ℕ → ℕ) (al : Allo
           → cond b 0 (price-of h i) * times (length (h .views)) to i ≤ price-of h i * due-of h i
       go true e = omega arith
       go false e =
-          let w : whole-of h i * h .plan .depth ≤ trace h i .named = omega (arith, ltb-false) in
+          let w : whole-of h i * h .plan .depth ≤ named-in h i = omega (arith, ltb-false) in
           mul-le-mul-left (price-of h i) (omega (arith, le-div-iff-mul-le deep .1 w, al .bought i l))
 
   pub due-enough : takings-of h (unstruck h) to ≤ day-due h

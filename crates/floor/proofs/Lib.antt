@@ -1,5 +1,5 @@
 pub mod Days
-pub mod Trace
+pub mod Follows
 pub mod Reach
 pub mod Own
 pub mod Due

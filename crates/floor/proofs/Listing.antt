@@ -9,7 +9,6 @@ use Rattle.finite.specs.Finite.{sum, count, every, total}
 use Rattle.finite.proofs.Tests.{every-at}
 use Rattle.sets.specs.Set.{member, collect, without}
 use Rattle.allotments.specs.Allotment.{times, takings}
-use Rattle.campaigns.specs.Campaign.{whole}
 use Rattle.day.specs.Day.{blank}
 use Rattle.demands.specs.Transcript.{Exchange}
 use Rattle.demands.specs.Cases.{calls-made, listing}
@@ -22,7 +21,7 @@ use Rattle.floor.proofs.Tight.{allotted-of}
 use Rattle.floor.proofs.Floor.{demand-3}
 
 read : Named-enough (history listing)
-unfolding continued sum count every total member collect without whole times takings
+unfolding continued sum count every total member collect without times takings
 read = record {
   named = refl;
   plays = refl;

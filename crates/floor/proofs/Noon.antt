@@ -1,10 +1,10 @@
 -- The floor at noon: the turns of each campaign reach what is due to it, a claim is at least the share of its turns,
 -- and the total claim is at most full; so full is at least the share of what is due, at every moment that calls reach,
 -- and the claim at least the share of what an allotment takes.
-use mathlib.Core.Path.{_≡_, refl, ap, ap₂, sym, _∙_, subst, subst⁻¹}
+use mathlib.Core.Path.{_≡_, refl, ap, sym, _∙_, subst, subst⁻¹}
 use mathlib.Core.List.{List, [], _∷_, _++_}
 use mathlib.Core.Logic.{_⊎_, inl, inr}
-use Prim.Native.Nat.{ℕ, _*_, _/_, min, _≤_, _<_}
+use Prim.Native.Nat.{ℕ, _*_, _≤_, _<_}
 use native.Mathlib.Nat.{le-trans, mul-le-mul-left, not-suc-le-zero}
 use native.Mathlib.Omega.{arith}
 use lib.ListN.{length}
@@ -24,9 +24,9 @@ use Rattle.demands.specs.Transcript.{transcript, final}
 use Rattle.demands.proofs.Laws.{claim-of, claim-turns}
 use Rattle.floor.specs.History.{Starts, History, history}
 use Rattle.floor.specs.History.Starts.{from-blank, from-opening}
-use Rattle.floor.specs.Floor.{trace, price-of, unstruck, Allotted, takings-of}
+use Rattle.floor.specs.Floor.{price-of, unstruck, Allotted, takings-of}
 use Rattle.floor.specs.Noon.{due-of, day-due, Noon-floor, At-every-moment}
-use Rattle.floor.proofs.Trace.{turns-reach}
+use Rattle.floor.proofs.Follows.{turns-reach}
 use Rattle.floor.proofs.Reach.{Reached, reached, whole-is}
 use Rattle.floor.proofs.Due.{due-enough}
 
@@ -43,7 +43,7 @@ module _ (s : Day) (h : History) (r : Reached s h) where
 
   turns-enough : (i : ℕ) → i < s .count → due (s .plan .depth) (campaign s i) ≤ campaign s i .turns
   turns-enough i l =
-      turns-reach (s .plan) (s .accepted) (trace h i) (campaign s i) (held-at s p i l) (r .tracks .follows i l)
+      turns-reach (s .plan) (s .accepted) (campaign s i) (held-at s p i l) (r .tracks .follows i l .turning)
 
   claim-due : (i : ℕ) → i < s .count
       → part * (campaign s i .price * due (s .plan .depth) (campaign s i)) ≤ claim-of (s .plan) (campaign s i)
@@ -68,8 +68,7 @@ module _ (s : Day) (h : History) (r : Reached s h) where
   unfolding due
   due-same i l =
       let f = r .tracks .follows i l in
-      ap₂ _*_ (f .price-is)
-      (ap₂ min (whole-is s h r i l) (ap₂ _/_ (f .named-is) (ap (λ (pl : Plan). pl .depth) (r .tracks .plan-is))))
+      cc (f .price-is, whole-is s h r i l, f .named-is, r .tracks .plan-is)
 
   due-is : total-due s ≡ day-due h
   unfolding total-due

@@ -10,7 +10,6 @@ use borrow.Author.Tests.{leb-true}
 use Rattle.finite.specs.Finite.{total}
 use Rattle.finite.proofs.Tests.{never}
 use Rattle.sets.specs.Set.{member}
-use Rattle.campaigns.specs.Campaign.{whole}
 use Rattle.floor.specs.History.{History}
 use Rattle.floor.specs.History.Starts.{from-blank}
 use Rattle.floor.specs.Floor.{Allotted}
@@ -29,7 +28,7 @@ neither i o (inl e) = omega (arith, o, e)
 neither i o (inr e) = never (member 1 1) refl (subst (λ k. member 1 k ≡ true) o e)
 
 handed : Handed (day 2)
-unfolding day total member whole
+unfolding day total member
 handed = record {
   not-allotted = λ a. neither 1 refl (a .given 1 (leb-true 2 2 refl));
   handed-0 = refl;

@@ -1,5 +1,5 @@
 -- What every list of calls keeps between its day and the state at its end: the state holds the day's plan, terms and
--- takings, and each campaign follows its trace. By induction on the list; a refused call changes neither.
+-- takings, and each campaign what was handed in about it. By induction on the list; a refused call changes neither.
 use mathlib.Core.Path.{_≡_, refl, ap, _∙_, subst}
 use mathlib.Core.Bool.{Bool, true, false}
 use mathlib.Core.List.{List, [], _∷_, _++_}
@@ -41,15 +41,15 @@ use Rattle.demands.proofs.States.{sum-state-with, with-campaign-old, with-campa
 use Rattle.demands.proofs.Sound.{blank-sound, opened-sound, sound-result}
 use Rattle.floor.specs.History.{Starts, History, day-takings, opening, paid-in, with-call}
 use Rattle.floor.specs.History.{history}
-use Rattle.floor.specs.Floor.{trace, whole-of, no-view, names-at}
+use Rattle.floor.specs.Floor.{terms-of, whole-of, named-in, no-view, names-at}
 use Rattle.floor.proofs.Days.{of-every-day}
-use Rattle.floor.proofs.Trace.{Follows, follows-fresh, follows-view}
+use Rattle.floor.proofs.Follows.{Follows, follows-fresh, follows-view}
 
 -- the state s holds the day h
 pub record Tracks (s : Day) (h : History) : Type 0 where
   pub plan-is : s .plan ≡ h .plan
   pub many : length (h .terms) ≡ s .count
-  pub follows : (i : ℕ) → i < s .count → Follows (s .plan) (trace h i) (campaign s i)
+  pub follows : (i : ℕ) → i < s .count → Follows (s .plan) (terms-of h i) (named-in h i) (campaign s i)
   pub paid-is : total-takings s ≡ day-takings h
   pub unviewed : is-filling (s .phase) ≡ true → h .views ≡ []
   pub inside : (j : ℕ) → j < length (h .views) → within (s .count) (names-at h j) ≡ true
@@ -114,8 +114,8 @@ module _ (s : Day) (h : History) (e : sound s ≡ true) (k : Tracks s h) where
           follows =
               λ i l.
               rw (campaign-of-state (head-joined s) (with-campaign s t) i (lt-of-lt-of-le l few))
-              (one-more (λ j. Follows (s .plan) (trace more j) (with-campaign s t j)) (s .count) old new i
-              (omega arith));
+              (one-more (λ j. Follows (s .plan) (terms-of more j) (named-in more j) (with-campaign s t j)) (s .count)
+              old new i (omega arith));
           paid-is =
               sum-state-with (head-joined s) (with-campaign s t) spending few
               ∙ takings-with-campaign s t ∙ k .paid-is;
@@ -126,14 +126,14 @@ module _ (s : Day) (h : History) (e : sound s ≡ true) (k : Tracks s h) where
           paused-is = k .paused-is;
         }
       where
-        old : (j : ℕ) → j < s .count → Follows (s .plan) (trace more j) (with-campaign s t j)
+        old : (j : ℕ) → j < s .count → Follows (s .plan) (terms-of more j) (named-in more j) (with-campaign s t j)
         old j l =
             rw (
               List·getD-append (h .terms) (t ∷ []) no-terms j (omega (arith, k .many)),
               with-campaign-old s t j (λ q. omega arith),
             ) (k .follows j l)
 
-        new : Follows (s .plan) (trace more (s .count)) (with-campaign s t (s .count))
+        new : Follows (s .plan) (terms-of more (s .count)) (named-in more (s .count)) (with-campaign s t (s .count))
         new =
             rw (snoc-last (h .terms) t (s .count) (k .many), with-campaign-new s t, k .unviewed (y .1 .0))
             (follows-fresh (s .plan) t)
@@ -155,8 +155,8 @@ module _ (s : Day) (h : History) (e : sound s ≡ true) (k : Tracks s h) where
             campaign-of-state (head-shown s) (shown s w) i (lt-of-lt-of-le l (p .few)),
             total-snoc (λ (u : View). one-if (names u i)) (h .views) v,
           )
-          (follows-view (s .plan) (trace h i) (campaign s i) (k .follows i l) (held-at s p i l .young) v i
-          (is (player s w) i));
+          (follows-view (s .plan) (terms-of h i) (named-in h i) (campaign s i) (k .follows i l)
+          (held-at s p i l .young) v i (is (player s w) i));
       paid-is =
           omega (
             arith,
@@ -229,7 +229,7 @@ opening-reached : (s : Day) (pl : Plan) → Yes (questions s (open-plan pl))
     → Reached (empty-plan Filling pl) (opening pl)
 opening-reached s pl y = record { is-sound = opened-sound s pl y; tracks = tracks-opening Filling pl }
 
-result-reached : (s : Day) (h : History) → Reached s h → (c : Call) → Yes (questions s c)
+pub result-reached : (s : Day) (h : History) → Reached s h → (c : Call) → Yes (questions s c)
     → Reached (result s c .day) (with-call h c (result s c .answer))
 result-reached s h r c y = record {
   is-sound = sound-result s c (r .is-sound) y;

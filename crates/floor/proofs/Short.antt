@@ -3,7 +3,6 @@ use mathlib.Core.Path.{_≡_, refl, subst⁻¹}
 use mathlib.Core.Bool.{false}
 use Rattle.finite.specs.Finite.{total}
 use Rattle.sets.specs.Set.{member}
-use Rattle.campaigns.specs.Campaign.{whole}
 use Rattle.floor.specs.History.{History}
 use Rattle.floor.specs.History.Starts.{from-blank}
 use Rattle.floor.specs.Floor.{falls-short}
@@ -11,7 +10,7 @@ use Rattle.floor.specs.Short.{short-calls, Proviso-needed}
 use Rattle.floor.proofs.TwoViews.{day, days-are, Struck, struck}
 
 enough : falls-short (day 0) 0 ≡ false
-unfolding day total member whole
+unfolding day total member
 enough = refl
 
 pub proviso-needed : Proviso-needed

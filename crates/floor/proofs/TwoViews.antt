@@ -50,7 +50,7 @@ pub record Struck (h : History) : Type 0 where
   pub covered : Covered h (takings-of h (unstruck h) short-to)
 
 pub struck : (m : ℕ) → Struck (day m)
-unfolding day sum count every total member share whole times takings
+unfolding day sum count every total member share times takings
 struck m = record {
   allotted = allotted-of (day m) short-to refl refl;
   short = refl;

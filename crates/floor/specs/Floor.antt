@@ -11,7 +11,7 @@ use Rattle.allotments.specs.Allotment.{Allotment, takings}
 use Rattle.campaigns.specs.declared.Phase.the-variants.{Closed}
 use Rattle.campaigns.specs.declared.Terms.{Terms}
 use Rattle.campaigns.specs.declared.View.{View}
-use Rattle.campaigns.specs.Campaign.{whole, fresh}
+use Rattle.campaigns.specs.Campaign.{whole-plays}
 use Rattle.campaigns.specs.View.{names, full}
 use Rattle.day.specs.declared.Day.{Day}
 use Rattle.day.specs.Day.{no-terms, total-takings}
@@ -23,24 +23,19 @@ use Rattle.floor.specs.History.{History, day-takings, Starts, history}
 abbrev pub terms-of : History → ℕ → Terms
 terms-of h i = getD (h .terms) i no-terms
 
--- what was handed in about campaign i: its price and budget, and how many of the day's views named it while it was not
--- paused, also after it is spent
-pub record Trace : Type 0 where
-  pub terms : Terms
-  pub named : ℕ
-
-abbrev pub trace : History → ℕ → Trace
-trace h i = record { terms = terms-of h i; named = total (λ w. one-if (names w i)) (h .views) }
-
 abbrev pub price-of : History → ℕ → ℕ
 price-of h i = terms-of h i .price
 
 abbrev pub whole-of : History → ℕ → ℕ
-whole-of h i = whole (fresh (terms-of h i))
+whole-of h i = whole-plays (terms-of h i .price) (terms-of h i .budget)
+
+-- how many of the day's views named campaign i while it was not paused, also after it is spent
+abbrev pub named-in : History → ℕ → ℕ
+named-in h i = total (λ w. one-if (names w i)) (h .views)
 
 -- a campaign falls short when that number is below depth × whole plays
 abbrev pub falls-short : History → ℕ → Bool
-falls-short h i = ltb (trace h i .named) (h .plan .depth * whole-of h i)
+falls-short h i = ltb (named-in h i) (h .plan .depth * whole-of h i)
 
 -- no campaign of the day does
 abbrev pub None-short : History → Type 0

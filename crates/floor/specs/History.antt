@@ -40,10 +40,6 @@ pub record History : Type 0 where
 abbrev pub opening : Plan → History
 opening pl = record { plan = pl; terms = []; paused = 0; views = []; answers = [] }
 
--- the unpaused of the campaigns that a view names
-abbrev pub unpaused-in : History → View → View
-unpaused-in h w = unmarked (h .paused) w
-
 -- the day's own views, each as its set of unpaused names
 abbrev pub own-views : History → List ℕ
 own-views h = map (λ w. w .set) (h .views)
@@ -76,7 +72,7 @@ with-call h (show-view w) a = record {
   plan = h .plan;
   terms = h .terms;
   paused = h .paused;
-  views = h .views ++ (unpaused-in h w ∷ []);
+  views = h .views ++ (unmarked (h .paused) w ∷ []);
   answers = h .answers ++ (a ∷ []);
 }
 with-call h (ask-tally i) a = h

@@ -9,7 +9,7 @@ use Rattle.day.specs.Day.{blank}
 use Rattle.demands.specs.Transcript.{transcript}
 use Rattle.demands.specs.Cases.{calls-made, listing}
 use Rattle.floor.specs.History.{Starts, History, day-takings, history}
-use Rattle.floor.specs.Floor.{trace, price-of, whole-of, None-short, Allotted, takings-of, Covered}
+use Rattle.floor.specs.Floor.{price-of, whole-of, named-in, None-short, Allotted, takings-of, Covered}
 
 -- its day
 abbrev pub listing-day : History
@@ -22,7 +22,7 @@ listing-to j = getD (0 ∷ 0 ∷ 1 ∷ nobody ∷ 1 ∷ []) j nobody
 -- each campaign was named 4 times, depth 2 × its 2 whole plays, so that none falls short; the allotment takes 16 cents,
 -- as the day did
 pub record Named-enough (h : History) : Type 0 where
-  pub named : map (λ i. trace h i .named) (0 ∷ 1 ∷ []) ≡ 4 ∷ 4 ∷ []
+  pub named : map (named-in h) (0 ∷ 1 ∷ []) ≡ 4 ∷ 4 ∷ []
   pub plays : map (whole-of h) (0 ∷ 1 ∷ []) ≡ 2 ∷ 2 ∷ []
   pub none-short : None-short h
   pub allotted : Allotted h listing-to

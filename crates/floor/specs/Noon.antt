@@ -3,7 +3,7 @@
 use mathlib.Core.Path.{_≡_}
 use mathlib.Core.List.{List, _++_}
 use mathlib.Core.Logic.{_⊎_}
-use Prim.Native.Nat.{ℕ, _*_, _/_, min, _≤_, _<_}
+use Prim.Native.Nat.{ℕ, _*_, _≤_, _<_}
 use lib.ListN.{length}
 use Rattle.finite.specs.Finite.{sum}
 use Rattle.powers.specs.Power.{share}
@@ -12,15 +12,14 @@ use Rattle.campaigns.specs.View.{full}
 use Rattle.day.specs.declared.Day.{Day}
 use Rattle.day.specs.Day.{campaign, blank, total-takings, total-claim}
 use Rattle.day.specs.Calls.{Call}
-use Rattle.noon.specs.Noon.{due, total-due, floor-figure, figures-of, at-noon}
+use Rattle.noon.specs.Noon.{due-plays, due, total-due, floor-figure, figures-of, at-noon}
 use Rattle.demands.specs.Transcript.{transcript, final}
 use Rattle.floor.specs.History.{Starts, History, day-takings, history}
-use Rattle.floor.specs.Floor.{trace, price-of, whole-of, unstruck, Allotted, takings-of}
+use Rattle.floor.specs.Floor.{price-of, whole-of, named-in, unstruck, Allotted, takings-of}
 
--- what is due to campaign i by what was handed in: the smaller of its whole plays and how many of the day's views named
--- it / depth, rounded down
+-- what is due to campaign i, by what was handed in
 abbrev pub due-of : History → ℕ → ℕ
-due-of h i = min (whole-of h i) (trace h i .named / h .plan .depth)
+due-of h i = due-plays (h .plan .depth) (whole-of h i) (named-in h i)
 
 -- the sum, over campaigns, of price × what is due
 abbrev pub day-due : History → ℕ
@@ -41,7 +40,7 @@ pub record Noon-floor (h : History) (s : Day) : Type 0 where
   pub count-is : s .count ≡ length (h .terms)
   pub price-is : (i : ℕ) → i < s .count → campaign s i .price ≡ price-of h i
   pub whole-is : (i : ℕ) → i < s .count → whole (campaign s i) ≡ whole-of h i
-  pub named-is : (i : ℕ) → i < s .count → campaign s i .named ≡ trace h i .named
+  pub named-is : (i : ℕ) → i < s .count → campaign s i .named ≡ named-in h i
   pub takings-is : total-takings s ≡ day-takings h
   -- the marks are those that the accepted pausings and resumings left
   pub paused-is : s .paused ≡ h .paused

@@ -31,7 +31,7 @@ max-campaign = 63
 abbrev pub set-bits : ℕ
 set-bits = max-campaign + 1
 
--- the highest refusal number that documents 01 and 02 give so far; a request that brings another raises it
+-- the highest refusal number that document 01 and the landed requests give; a request that brings another raises it
 abbrev pub max-question : ℕ
 max-question = 19
 

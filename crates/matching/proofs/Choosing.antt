@@ -10,12 +10,12 @@ use borrow.Author.Tests.{eqb-false, ltb-true, ltb-false}
 use Rattle.finite.specs.Finite.{one-if, count}
 use Rattle.finite.proofs.Sums.{sum-le, sum-split, hide}
 use Rattle.finite.proofs.Tests.{never, both-left}
-use Rattle.sets.specs.Set.{member, size, next, collect, beyond, including}
+use Rattle.sets.specs.Set.{member, size, next, collect, beyond, including, excluding}
 use Rattle.sets.proofs.Algebra.{empty-member, none-above, collect-lt, collect-member, without-member}
 use Rattle.sets.proofs.Algebra.{including-same, including-other}
 use Rattle.allotments.specs.Allotment.{at}
 use Rattle.allotments.proofs.Walks.{Walking, walking-end, hand-small, hand-in, walking-turn}
-use Rattle.matching.specs.Method.{Everyone, Dearest, without-one}
+use Rattle.matching.specs.Method.{Everyone, Dearest}
 
 -- the numbers below n are those of 2 to the power n, less one
 all-below : (n : ℕ) → collect n (λ i. true) + 1 ≡ 2 ^ n
@@ -34,13 +34,13 @@ everyone-of n set e d l = ap (λ (x : ℕ). member x d) same ∙ go (ltb d n) re
     go false q = none-above (collect n (λ i. true)) n (collect-lt n (λ i. true)) d (ltb-false d n q)
 
 -- who is left of a set without one campaign was in it
-pub was-in : (unserved c d : ℕ) → d < 64 → member (without-one unserved c) d ≡ true → member unserved d ≡ true
+pub was-in : (unserved c d : ℕ) → d < 64 → member (excluding unserved c) d ≡ true → member unserved d ≡ true
 was-in unserved c d l m = both-left (member unserved d) (not (member (including 0 c) d))
     (sym (without-member unserved (including 0 c) d l) ∙ m)
 
 -- one campaign taken off
 module _ (unserved c : ℕ) (small : c < 64) where
-  pub one-out : member (without-one unserved c) c ≡ false
+  pub one-out : member (excluding unserved c) c ≡ false
   one-out = without-member unserved (including 0 c) c small
       ∙ ap (λ (b : Bool). member unserved c && not b) (including-same 0 c small) ∙ go (member unserved c)
     where
@@ -48,7 +48,7 @@ module _ (unserved c : ℕ) (small : c < 64) where
       go true = refl
       go false = refl
 
-  pub others-stay : (d : ℕ) → d < 64 → (d ≡ c → ⊥) → member (without-one unserved c) d ≡ member unserved d
+  pub others-stay : (d : ℕ) → d < 64 → (d ≡ c → ⊥) → member (excluding unserved c) d ≡ member unserved d
   others-stay d l ne = without-member unserved (including 0 c) d l
       ∙ ap (λ (b : Bool). member unserved d && not b) (including-other 0 c d l ne ∙ empty-member d)
       ∙ go (member unserved d)
@@ -58,7 +58,7 @@ module _ (unserved c : ℕ) (small : c < 64) where
       go false = refl
 
   -- they are fewer
-  pub one-fewer : member unserved c ≡ true → size (without-one unserved c) < size unserved
+  pub one-fewer : member unserved c ≡ true → size (excluding unserved c) < size unserved
   unfolding size count
   one-fewer m =
       omega (
@@ -74,7 +74,7 @@ module _ (unserved c : ℕ) (small : c < 64) where
       f i = one-if (member unserved i)
 
       g : ℕ → ℕ
-      g i = one-if (member (without-one unserved c) i)
+      g i = one-if (member (excluding unserved c) i)
 
       hidden : (i : ℕ) (t : Bool) → eqb i c ≡ t → i < 64 → cond t 0 (g i) ≤ cond t 0 (f i)
       hidden i true e k = le-refl 0

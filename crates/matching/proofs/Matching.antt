@@ -6,12 +6,12 @@ use Prim.Native.Nat.{ℕ, _≤_, _<_}
 use native.Mathlib.Omega.{arith}
 use lib.ListN.{length}
 use Rattle.finite.proofs.Tests.{never}
-use Rattle.sets.specs.Set.{member, size, including, without}
+use Rattle.sets.specs.Set.{member, size, including, without, excluding}
 use Rattle.sets.proofs.Algebra.{empty-member}
 use Rattle.allotments.specs.Allotment.{at}
 use Rattle.exchange.specs.Contracts.{None-free, first-open, Bare, Seekable}
 use Rattle.allotments.specs.Contracts.{Market}
-use Rattle.matching.specs.Method.{Everyone, Dearest, without-one, By-falling-price}
+use Rattle.matching.specs.Method.{Everyone, Dearest, By-falling-price}
 use Rattle.matching.specs.Method.By-falling-price.{start, serve}
 use Rattle.matching.specs.Contracts.{Served-is, Frozen, Unserved, Standing, Matched}
 use Rattle.exchange.proofs.Search.{taken-kept, open-is}
@@ -79,7 +79,7 @@ module _ {n : ℕ} {prices wholes views to₀ to level : List ℕ} {first closed
       let fz' : Frozen level level' (without closed' closed) (at prices c) = subst (λ (x : ℕ). Frozen level level' x
       (at prices c)) ew (subst (λ (x : ℕ). Frozen level level' who x) eq fz) in
       let left = es ∙ ap (without unserved) eo in
-      let st : Standing n prices wholes views to' level' closed' (without-one unserved c) = standing-next n prices
+      let st : Standing n prices wholes views to' level' closed' (excluding unserved c) = standing-next n prices
       wholes views to to' level level' closed closed' unserved c bare' (u .market) (u .standing) ch sv' fz' in
       record {
         market = u .market;

@@ -9,7 +9,7 @@ use lib.ListN.{length}
 use borrow.Author.Tests.{ltb-true, lt-ltb, le-ltb}
 use Rattle.finite.proofs.Sums.{sum-eq, sum-add}
 use Rattle.finite.proofs.Tests.{never}
-use Rattle.sets.specs.Set.{member, without}
+use Rattle.sets.specs.Set.{member, without, excluding}
 use Rattle.sets.proofs.Algebra.{empty-member, without-member}
 use Rattle.sets.proofs.Bounds.{within-member}
 use Rattle.allotments.specs.Allotment.{at, brings, takings, Certified}
@@ -17,7 +17,7 @@ use Rattle.allotments.proofs.Cases.{same-or-not, true-or-not}
 use Rattle.allotments.proofs.Takings.{by-campaign}
 use Rattle.exchange.specs.Contracts.{holds, Failed}
 use Rattle.allotments.specs.Contracts.{Market}
-use Rattle.matching.specs.Method.{Everyone, Dearest, without-one}
+use Rattle.matching.specs.Method.{Everyone, Dearest}
 use Rattle.matching.specs.Contracts.{Gains, Served-is, Frozen, Entry, Standing}
 use Rattle.matching.specs.Contracts.{campaign-figure, view-figure}
 use Rattle.exchange.proofs.Entries.{holds-none}
@@ -58,7 +58,7 @@ module _ (n : ℕ) (prices wholes views to to' level level' : List ℕ) (closed 
   c-in = st .planned c c-small (ch .waiting)
 
   abbrev now : ℕ
-  now = without-one unserved c
+  now = excluding unserved c
 
   -- who is not served now was not before, and is not c
   other : (d : ℕ) → member now d ≡ true → d ≡ c → ⊥
@@ -198,7 +198,7 @@ module _ (n : ℕ) (prices wholes views to to' level level' : List ℕ) (closed 
       (λ q. inr (within-member n (at views j) (at to' j) (mk .inside j l) (q .0) (q .1), q .1))
       (g .changed j l)
 
-  pub standing-next : Standing n prices wholes views to' level' closed' (without-one unserved c)
+  pub standing-next : Standing n prices wholes views to' level' closed' (excluding unserved c)
   standing-next = record {
     entries = entries';
     bought = bought';

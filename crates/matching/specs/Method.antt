@@ -6,7 +6,7 @@ use mathlib.Core.List.{List}
 use Prim.Native.Nat.{ℕ, _+_, _≤_, _<_}
 use lib.Dec.{ltb}
 use lib.ListN.{length}
-use Rattle.sets.specs.Set.{member, without, including}
+use Rattle.sets.specs.Set.{member, excluding}
 use Rattle.allotments.specs.Allotment.{at, nobody}
 use Rattle.exchange.specs.Chain.{Chain}
 
@@ -33,10 +33,6 @@ pub record Dearest (price : ℕ → ℕ) (unserved c : ℕ) : Type 0 where
   pub waiting : member unserved c ≡ true
   pub top : (d : ℕ) → d < 64 → member unserved d ≡ true → price d ≤ price c
 
--- the set without one campaign
-abbrev pub without-one : (unserved c : ℕ) → ℕ
-without-one unserved c = without unserved (including 0 c)
-
 -- the allotment `to` was reached by serving campaigns in falling price, from one that gives every view to nobody; not
 -- served yet are `unserved`, at first every campaign of the plan
 pub data By-falling-price (n : ℕ) (price whole : ℕ → ℕ) (views : List ℕ) : (to : List ℕ) (unserved : ℕ) → Type 0 where
@@ -44,4 +40,4 @@ pub data By-falling-price (n : ℕ) (price whole : ℕ → ℕ) (views : List �
       → By-falling-price n price whole views to unserved
   serve : {to to' : List ℕ} {unserved c : ℕ} → By-falling-price n price whole views to unserved
       → Dearest price unserved c → Served views to to' c (whole c)
-      → By-falling-price n price whole views to' (without-one unserved c)
+      → By-falling-price n price whole views to' (excluding unserved c)

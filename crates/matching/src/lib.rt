@@ -1,6 +1,7 @@
 // An allotment of views with the greatest takings: campaigns are served in falling price, each play sought through a
 // chain of exchanges.
 use campaigns::entry::wide32;
+use exchange::NOBODY;
 ghost use mathlib.Core.Path.{_≡_};
 ghost use Prim.Native.Nat.{ℕ, _<_, _≤_};
 ghost use lib.ListN.{length};
@@ -108,7 +109,7 @@ fn clear(allotment: &mut [u64], n: usize)
 {
     let mut j = 0;
     while j < n {
-        allotment[j] = 64;
+        allotment[j] = NOBODY;
         j += 1;
     }
 }
@@ -194,7 +195,8 @@ fn write_view_figures<'a>(
     }
 }
 
-// An allotment with the greatest takings, with a figure for each campaign and each view.
+// An allotment with the greatest takings, with a figure for each campaign and each view. Which of several greatest
+// allotments comes out, and which figures that fit it, is free.
 pub fn allot<'a>(
     count: u64,
     prices: &'a [u32; 128],

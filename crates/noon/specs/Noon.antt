@@ -13,9 +13,13 @@ use Rattle.questions.specs.Questions.{Question, question, first-failed}
 use Rattle.noon.specs.declared.Noon.{Noon}
 use Rattle.noon.specs.declared.Noon.the-variants.{Refused, Figures}
 
--- what is due to a campaign at depth k: the smaller of whole plays and named / depth rounded down
+-- what is due: the smaller of whole plays and named / depth rounded down
+abbrev pub due-plays : (depth wholes named : ℕ) → ℕ
+due-plays k w n = min w (n / k)
+
+-- what is due to a campaign at depth k, by its record
 unfoldable pub due : (k : ℕ) → Campaign → ℕ
-due k c = min (whole c) (c .named / k)
+due k c = due-plays k (whole c) (c .named)
 
 -- the sum, over campaigns, of price × what is due
 unfoldable pub total-due : Day → ℕ

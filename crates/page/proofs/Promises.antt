@@ -24,7 +24,7 @@ use Rattle.page.specs.Page.{Row, Row-fits, All-fit, Figures-fit, read-pa
 use Rattle.page.specs.Figures.{page-row, figures}
 use Rattle.page.specs.Printing.{page-of, page-question, printing, number, values, Tells}
 use Rattle.page.specs.Promises.{Promises}
-use Rattle.page.proofs.ReadBack.{page-length, page-back, page-ended}
+use Rattle.page.proofs.ReadBack.{page-length, page-back, page-numbers, page-total, page-ended}
 
 -- the budget of a priced campaign
 priced-budget : (c : Campaign) → priced c ≡ true → c .budget ≤ 2_000_000_000
@@ -95,6 +95,8 @@ promises = record {
   none-overflows = sound-fits;
   lines-are = page-length;
   ends-are = page-ended;
+  numbers-are = page-numbers;
+  total-is = page-total;
   reads-back = page-back;
   prints-once = λ f g h k e. sym (page-back f h) ∙ ap read-page e ∙ page-back g k;
   tells = tells;

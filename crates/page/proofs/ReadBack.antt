@@ -1,13 +1,13 @@
--- The figures are read back from the bytes of a page, and byte 10 ends each line and stands nowhere else. Both go line
--- by line from the front: a line has 41 bytes, and its columns stand at fixed places.
+-- The figures and the campaign numbers are read back from the bytes of a page, and byte 10 ends each line and stands
+-- nowhere else. All go line by line from the front: a line has 41 bytes, and its columns stand at fixed places.
 use mathlib.Core.Path.{_≡_, refl, sym, ap, ap₂, _∙_, subst}
 use mathlib.Core.Bool.{Bool, true, false}
 use mathlib.Core.List.{List, [], _∷_, _++_, append-assoc}
-use Prim.Native.Nat.{ℕ, suc, _+_, _*_, _-_, _/_, _%_, _^_, _≤_, _<_}
+use Prim.Native.Nat.{ℕ, zero, suc, _+_, _*_, _-_, _/_, _%_, _^_, _≤_, _<_}
 use native.Mathlib.Omega.{arith}
 use lib.Dec.{ltb, eqb}
 use lib.ListN.{length, take, drop, getD, length-append, List·getD-append}
-use lib.Seq.{take-at, drop-at, getD-at, getD-append-add}
+use lib.Seq.{take-at, drop-at, drop-drop, getD-at, getD-append-add}
 use borrow.Author.Tests.{ltb-true, ltb-false, eqb-true, eqb-false, eq-eqb, ne-eqb}
 use Rattle.lines.specs.Numeral.{numeral}
 use Rattle.lines.specs.Form.{bytes}
@@ -66,6 +66,14 @@ module _ (i : ℕ) (r : Row) (k : i < 10 ^ 3) (h : Row-fits r) (m : List ℕ) wh
       ∙ value-number 35 40 (r .named) (omega (arith, h .named-fit)) in
       same-row r c₂ c₃ c₄ c₅
 
+  number-back : figure-in 1 3 (row-text i r ++ m) ≡ i
+  unfolding row-text
+  number-back =
+      let number = flush 1 3 (numeral i) in
+      ap (figure-in 1 3) (append-assoc number _ m)
+      ∙ ap (number-in 0) (column-at [] number _ 0 3 refl (flush-length 1 3 (numeral i) (number-3 i k)))
+      ∙ value-number 1 3 i (omega arith)
+
 -- The last line.
 
 total-back : (t : ℕ) (m : List ℕ) → t < 10 ^ 13 → figure-in 21 34 (total-text t ++ m) ≡ t
@@ -92,19 +100,38 @@ rows-then : (i : ℕ) (r : Row) (rs : List Row) (m : List ℕ)
 unfolding row-lines
 rows-then i r rs m = append-assoc (row-text i r) (10 ∷ row-lines (suc i) rs) m
 
+rows-next : (i : ℕ) (r : Row) (rs : List Row) (m : List ℕ) → i < 10 ^ 3 → Row-fits r
+    → drop line-length (row-lines i (r ∷ rs) ++ m) ≡ row-lines (suc i) rs ++ m
+rows-next i r rs m k h =
+    ap (drop line-length) (rows-then i r rs m)
+    ∙ line-then (row-text i r) (row-lines (suc i) rs ++ m) (row-length i r k h)
+
 lines-back : (i : ℕ) (rs : List Row) (t : ℕ) (m : List ℕ) → i + length rs ≤ 10 ^ 3 → All-fit rs → t < 10 ^ 13
     → read-lines (length rs) (row-lines i rs ++ (total-text t ++ m)) ≡ record { rows = rs; takings = t }
 unfolding read-lines row-lines
 lines-back i [] t m k h b = ap (λ (x : ℕ). record { rows = []; takings = x }) (total-back t m b)
 lines-back i (r ∷ rs) t m k h b =
     let tail = total-text t ++ m in
-    let e = rows-then i r rs tail in
     let i-fits : i < 10 ^ 3 = omega arith in
     let ih = lines-back (suc i) rs t m (omega arith) (h .1) b in
-    let first = ap read-row e ∙ read-back i r i-fits (h .0) (10 ∷ (row-lines (suc i) rs ++ tail)) in
-    let next = ap (drop line-length) e
-    ∙ line-then (row-text i r) (row-lines (suc i) rs ++ tail) (row-length i r i-fits (h .0)) in
-    ap₂ with-row first (ap (read-lines (length rs)) next ∙ ih)
+    let first = ap read-row (rows-then i r rs tail)
+    ∙ read-back i r i-fits (h .0) (10 ∷ (row-lines (suc i) rs ++ tail)) in
+    ap₂ with-row first (ap (read-lines (length rs)) (rows-next i r rs tail i-fits (h .0)) ∙ ih)
+
+numbers-back : (i : ℕ) (rs : List Row) (m : List ℕ) → i + length rs ≤ 10 ^ 3 → All-fit rs → (j : ℕ) → j < length rs
+    → figure-in 1 3 (drop (line-length * j) (row-lines i rs ++ m)) ≡ i + j
+numbers-back i [] m k h j b = absurd (omega arith)
+numbers-back i (r ∷ rs) m k h zero b =
+    let s : i ≡ i + 0 = omega arith in
+    ap (figure-in 1 3) (rows-then i r rs m)
+    ∙ number-back i r (omega arith) (h .0) (10 ∷ (row-lines (suc i) rs ++ m)) ∙ s
+numbers-back i (r ∷ rs) m k h (suc j) b =
+    let all = row-lines i (r ∷ rs) ++ m in
+    let n : line-length * suc j ≡ line-length + line-length * j = omega arith in
+    let after = ap (λ (x : ℕ). drop x all) n ∙ sym (drop-drop (line-length * j) line-length all)
+    ∙ ap (drop (line-length * j)) (rows-next i r rs m (omega arith) (h .0)) in
+    let s : suc i + j ≡ i + suc j = omega arith in
+    ap (figure-in 1 3) after ∙ numbers-back (suc i) rs m (omega arith) (h .1) j (omega arith) ∙ s
 
 rows-length : (i : ℕ) (rs : List Row) → i + length rs ≤ 10 ^ 3 → All-fit rs
     → length (row-lines i rs) ≡ line-length * length rs
@@ -135,6 +162,21 @@ page-back f h =
     let n : length (page f) / line-length - 1 ≡ length (f .rows) = omega (arith, page-length f h) in
     ap (λ (k : ℕ). read-lines k (page f)) n
     ∙ lines-back 0 (f .rows) (f .takings) (10 ∷ []) (omega (arith, h .few)) (h .rows-fit) (h .takings-fit)
+
+pub page-numbers : (f : Figures) → Figures-fit f → (i : ℕ) → i < length (f .rows)
+    → figure-in 1 3 (drop (line-length * i) (page f)) ≡ i
+unfolding page
+page-numbers f h i b =
+    let e : 0 + i ≡ i = omega arith in
+    numbers-back 0 (f .rows) (total-text (f .takings) ++ (10 ∷ [])) (omega (arith, h .few)) (h .rows-fit) i b ∙ e
+
+pub page-total : (f : Figures) → Figures-fit f
+    → take 5 (drop (line-length * length (f .rows)) (page f)) ≡ bytes "total"
+unfolding page total-text
+page-total f h =
+    ap (take 5)
+    (drop-at (row-lines 0 (f .rows)) (total-text (f .takings) ++ (10 ∷ [])) (line-length * length (f .rows))
+    (rows-length 0 (f .rows) (omega (arith, h .few)) (h .rows-fit)))
 
 -- Byte 10.
 

@@ -2,15 +2,17 @@
 -- answer, and the theorem for any chunking says what was written. The answers to the lines of each day are computed;
 -- so are the bytes of the block of which a part is taken.
 use mathlib.Core.Path.{_≡_, refl, sym, ap, ap₂, _∙_, subst, subst⁻¹}
-use mathlib.Core.Bool.{Bool, cond}
+use mathlib.Core.Bool.{Bool, true, cond, _&&_}
 use mathlib.Core.List.{List, [], _∷_, _++_}
 use Prim.Native.Nat.{ℕ, suc, _+_, _-_, _≤_}
 use native.Mathlib.Omega.{arith}
+use lib.Dec.{eqb}
 use lib.ListN.{length, take, drop, replicate, length-append}
 use lib.Seq.{take-length, take-append-seam, drop-length}
-use borrow.Author.Tests.{le-leb}
+use borrow.Author.Tests.{eqb-true, le-leb}
 use Rattle.finite.specs.Finite.{sum, count, every, table}
-use Rattle.sets.specs.Set.{member, size, within, collect, without}
+use Rattle.finite.proofs.Tests.{both-left, both-right}
+use Rattle.sets.specs.Set.{member, size, within, collect, without, including}
 use Rattle.powers.specs.Power.{weight, share}
 use Rattle.campaigns.specs.Choice.{best, choice}
 use Rattle.campaigns.specs.Campaign.{whole, claim, sound-plan, priced, counted, uncounted, empty, sound-campaign}
@@ -24,7 +26,7 @@ use Rattle.writer.specs.Writing.{line}
 use Rattle.audit.specs.Sound.{sound-record}
 use Rattle.day.specs.Day.{blank, total-takings, total-claim, total-budgets, sound}
 use Rattle.questions.specs.Questions.{first-failed, width-holds}
-use Rattle.day.specs.Calls.{call}
+use Rattle.day.specs.Calls.{marked, call}
 use Rattle.reply.specs.Reply.{reply, reply-records, record-lines, tally-records, next, outcome}
 use Rattle.reply.specs.Session.{Session, reply-room, after-byte, fed, consumed-count, upto}
 use Rattle.reply.proofs.Sessions.{fed-append}
@@ -32,19 +34,21 @@ use Rattle.stream.specs.declared.feed.Stream.{Stream}
 use Rattle.stream.specs.declared.feed.Fed.{Fed}
 use Rattle.stream.specs.Stream.{finished, new-stream, session-of, silent, stream-of, handed-back, answered-in}
 use Rattle.stream.specs.Stream.{consumed-bytes, Comes-to, Feeds, Finishes}
-use Rattle.stream.specs.Chunking.{joined, Plain, All-plain, after-lines, replies, last-reply, Split}
+use Rattle.stream.specs.Input.{joined, Plain, All-plain, Split, last-line, after-lines, replies}
 use Rattle.stream.specs.Chunking.{Feeding, In-blocks, stream-after}
-use Rattle.stream.proofs.Chunking.{fed-said, fed-lines, any-input, any-chunking}
+use Rattle.stream.proofs.Chunking.{fed-said, fed-lines, replies-append, any-input, any-chunking}
 use Rattle.programs.specs.Examples.{in-one, blocks-of, Any-blocks}
-use Rattle.stream.specs.Listing.{lines-of, listing-lines, listing-answers}
+use Rattle.stream.specs.Listing.{lines-of, listing-lines, listing-answers, uneven-lines, uneven-answers}
 use Rattle.programs.specs.Examples.{Handed, first-block, second-block, answers, Day-in-two-blocks, two-lines}
 use Rattle.programs.specs.Examples.{In-part, Input-answered, Listing-answered, odd-lines, odd-answers}
 use Rattle.programs.specs.Examples.{Listing-closes, Odd-lines-answered}
+use Rattle.programs.specs.Examples.{Uneven-answered, Output-forms-refused, paused-lines, paused-answers}
+use Rattle.programs.specs.Examples.{Paused-answered, limit-lines, limit-answers, Limits-answered}
 
 -- What is computed: the answers to lines and a rest.
 
 abbrev answers-to : List (List ℕ) → (rest : List ℕ) → List ℕ
-answers-to ls rest = replies blank ls ++ last-reply (after-lines blank ls) rest
+answers-to ls rest = replies blank (ls ++ last-line rest)
 
 abbrev day-lines : List (List ℕ)
 day-lines =
@@ -55,6 +59,10 @@ record Computed : Type 0 where
   listing : answers-to listing-lines [] ≡ joined listing-answers []
   odd : answers-to odd-lines (bytes "(view 0)") ≡ joined odd-answers []
   close : Listing-closes
+  uneven : answers-to uneven-lines [] ≡ joined uneven-answers []
+  paused : answers-to paused-lines [] ≡ joined paused-answers []
+  limits : answers-to limit-lines [] ≡ joined limit-answers []
+  outputs : Output-forms-refused
 
 computed : Computed
 unfolding replies after-lines joined reply reply-records record-lines tally-records next outcome
@@ -62,8 +70,17 @@ unfolding replies after-lines joined reply reply-records record-lines tally-reco
     is-digit template in-slot in-range line text filled slot-text names-text piece numbers numeral numeral-in
     numbers-after call first-failed sound sound-record blank sum count every table within size member
     width-holds weight share whole claim total-takings total-claim total-budgets sound-plan priced counted uncounted
-    empty sound-campaign best choice collect without upto
-computed = record { day = refl; listing = refl; odd = refl; close = refl }
+    empty sound-campaign best choice collect without including marked upto
+computed = record {
+  day = refl;
+  listing = refl;
+  odd = refl;
+  close = refl;
+  uneven = refl;
+  paused = refl;
+  limits = refl;
+  outputs = record { answers-are = λ s. refl; state-kept = λ s. refl };
+}
 
 -- What is handed back.
 
@@ -171,8 +188,7 @@ any-blocks bs i d room =
       after = answered-in z d;
       back = handed-back z 0;
       finishes = h;
-      writes = any-chunking (in-one bs) fs t d (answered-in z d) (handed-back z 0) some h
-          (i .lines) (i .rest) (i .lines-plain) (i .rest-plain) (i .whole);
+      writes = any-chunking (in-one bs) fs t d (answered-in z d) (handed-back z 0) some h i;
     }
 
 -- The day.
@@ -200,9 +216,11 @@ answers-length = refl
 
 pub day-in-two-blocks : Day-in-two-blocks
 day-in-two-blocks d h =
-    let last = last-reply (after-lines blank day-lines) (bytes "(close)") in
-    let n : length (replies blank day-lines) + length last ≡ 123 =
-    sym (length-append (replies blank day-lines) last) ∙ ap (λ (w : List ℕ). length w) (computed .day)
+    let last = last-line (bytes "(close)") in
+    let m = replies (after-lines blank day-lines) last in
+    let n : length (replies blank day-lines) + length m ≡ 123 =
+    sym (length-append (replies blank day-lines) m)
+    ∙ ap (λ (w : List ℕ). length w) (replies-append blank day-lines last ∙ computed .day)
     ∙ answers-length in
     subst (λ (w : List ℕ). Handed (first-block ∷ second-block ∷ []) d w) (computed .day)
     (any-blocks (first-block ∷ second-block ∷ []) day-split d (omega (arith, n, h)))
@@ -235,24 +253,49 @@ in-part = record {
 
 -- Whole inputs.
 
--- the answers to its lines and its rest are those to the input
-answered : (ls : List (List ℕ)) (rest : List ℕ) (told : List (List ℕ)) → All-plain ls × Plain rest
-    → answers-to ls rest ≡ joined told [] → Input-answered ls rest told
-answered ls rest told p e = any-input (joined ls rest) ls rest (p .0) (p .1) refl ∙ e
+-- no line has byte 10, as a test
+abbrev plain : List (List ℕ) → Bool
+plain [] = true
+plain (l ∷ ls) = eqb (upto l) (length l) && plain ls
 
-listing-plain : All-plain listing-lines × Plain []
-unfolding upto
-listing-plain = ((refl, (refl, (refl, (refl, (refl, (refl, (refl, (refl, (refl, (refl, (refl, tt))))))))))), refl)
+all-plain : (ls : List (List ℕ)) → plain ls ≡ true → All-plain ls
+all-plain [] e = tt
+all-plain (l ∷ ls) e = (
+  eqb-true (upto l) (length l) (both-left (eqb (upto l) (length l)) (plain ls) e),
+  all-plain ls (both-right (eqb (upto l) (length l)) (plain ls) e),
+)
+
+-- the answers to its lines and its rest are those to the input
+answered : (ls : List (List ℕ)) (rest : List ℕ) (told : List (List ℕ)) → plain (rest ∷ ls) ≡ true
+    → answers-to ls rest ≡ joined told [] → Input-answered ls rest told
+answered ls rest told p e =
+    let q = all-plain (rest ∷ ls) p in
+    let i : Split (joined ls rest) =
+    record { lines = ls; rest = rest; lines-plain = q .1; rest-plain = q .0; whole = refl } in
+    any-input (joined ls rest) i ∙ e
 
 pub listing-answered : Listing-answered
-listing-answered = answered listing-lines [] listing-answers listing-plain (computed .listing)
+unfolding upto
+listing-answered = answered listing-lines [] listing-answers refl (computed .listing)
 
 pub listing-closes : Listing-closes
 listing-closes = computed .close
 
-odd-plain : All-plain odd-lines × Plain (bytes "(view 0)")
-unfolding upto
-odd-plain = ((refl, (refl, (refl, (refl, (refl, (refl, (refl, (refl, tt)))))))), refl)
-
 pub odd-lines-answered : Odd-lines-answered
-odd-lines-answered = answered odd-lines (bytes "(view 0)") odd-answers odd-plain (computed .odd)
+unfolding upto
+odd-lines-answered = answered odd-lines (bytes "(view 0)") odd-answers refl (computed .odd)
+
+pub uneven-answered : Uneven-answered
+unfolding upto
+uneven-answered = answered uneven-lines [] uneven-answers refl (computed .uneven)
+
+pub paused-answered : Paused-answered
+unfolding upto
+paused-answered = answered paused-lines [] paused-answers refl (computed .paused)
+
+pub limits-answered : Limits-answered
+unfolding upto
+limits-answered = answered limit-lines [] limit-answers refl (computed .limits)
+
+pub output-forms-refused : Output-forms-refused
+output-forms-refused = computed .outputs

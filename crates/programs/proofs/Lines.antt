@@ -1,10 +1,10 @@
 -- Any lines keep the demands. Lines make calls, and their answers are those of the calls, so what holds of any list of
 -- calls (demand 3, Algorithm 4) holds of any list of lines. What was paid is read off the text: the first line of an
 -- answer reads back as the record of that answer, and each line adds to the sum what its call adds to the history.
-use mathlib.Core.Path.{_≡_, refl, sym, ap, ap₂, _∙_, subst, subst⁻¹}
+use mathlib.Core.Path.{_≡_, refl, sym, ap, ap₂, _∙_, subst⁻¹}
 use mathlib.Core.Bool.{Bool, true, false, cond, _&&_}
-use mathlib.Core.List.{List, [], _∷_, _++_, append-assoc, append-nil}
-use Prim.Native.Nat.{ℕ, suc, _+_, _≤_, _<_}
+use mathlib.Core.List.{List, [], _∷_, _++_}
+use Prim.Native.Nat.{ℕ, suc, _+_, _≤_}
 use native.Mathlib.Omega.{arith}
 use borrow.Author.Tests.{ne-eqb}
 use Rattle.finite.specs.Finite.{total}
@@ -46,10 +46,10 @@ use Rattle.reply.specs.Reply.Request.{makes, fails}
 use Rattle.reply.specs.Session.{first-line}
 use Rattle.reply.specs.Answered.{Output-lines}
 use Rattle.reply.proofs.Replies.{Said, line-said, answers-each}
-use Rattle.stream.specs.Chunking.{after-lines, replies}
+use Rattle.stream.specs.Input.{after-lines}
 use Rattle.programs.specs.Lines.{with-request, calls-of, with-exchange, exchanges, is-plan, is-ok}
 use Rattle.programs.specs.Lines.{price-in, of-reading, sum-after, sum-over, sum-paid, day-of}
-use Rattle.programs.specs.Lines.{Lines-keep-the-demands, Rest-is-a-line}
+use Rattle.programs.specs.Lines.{Lines-keep-the-demands}
 
 -- The first line of an answer reads as its record.
 
@@ -283,14 +283,11 @@ module _ (ls : List (List ℕ)) (t c f : ℕ) (e : Closed t c f ≡ closed-by (a
             (subst⁻¹ (λ (x : ℕ). total-claim s ≤ x) (closed-full t c f _ _ _ e) (n .claim-below)),
       )
 
-agrees-is : (ls : List (List ℕ)) (B : Terms → ℕ) → Buys-alike B → 1 < day-of ls .plan .width
-    → Day-agrees B (day-of ls) (after-lines blank ls)
-agrees-is ls B b w =
-    let e = exchanges-are blank ls in
+agrees-is : (ls : List (List ℕ)) (B : Terms → ℕ) → Buys-alike B → Day-agrees B (day-of ls) (after-lines blank ls)
+agrees-is ls B b =
     subst⁻¹ (λ (x : Day). Day-agrees B (day-of ls) x) (state-is blank ls)
-    (subst⁻¹ (λ (xs : List Exchange). Day-agrees B (history xs) (final blank (calls-of ls))) e
-    (days-as-algorithm-4 B b blank (calls-of ls) (from-blank (calls-of ls))
-    (subst (λ (xs : List Exchange). 1 < history xs .plan .width) e w)))
+    (subst⁻¹ (λ (xs : List Exchange). Day-agrees B (history xs) (final blank (calls-of ls))) (exchanges-are blank ls)
+    (days-as-algorithm-4 B b blank (calls-of ls) (from-blank (calls-of ls))))
 
 pub lines-keep-the-demands : Lines-keep-the-demands
 unfolding total
@@ -311,16 +308,3 @@ lines-keep-the-demands ls =
       closing-noon = λ l t c f e. closing-figures ls t c f (line-closes (after-lines blank ls) t c f l e);
       agrees = agrees-is ls;
     }
-
--- A last line.
-replies-last : (s : Day) (ls : List (List ℕ)) (l : List ℕ)
-    → replies s ls ++ reply (after-lines s ls) l ≡ replies s (ls ++ (l ∷ []))
-unfolding replies after-lines
-replies-last s [] l = sym (append-nil (reply s l))
-replies-last s (k ∷ ls) l =
-    append-assoc (reply s k) (replies (next s k) ls) (reply (after-lines (next s k) ls) l)
-    ∙ ap (λ (w : List ℕ). reply s k ++ w) (replies-last (next s k) ls l)
-
-pub rest-is-a-line : Rest-is-a-line
-rest-is-a-line s ls [] = append-nil (replies s ls)
-rest-is-a-line s ls (b ∷ l) = replies-last s ls (b ∷ l)

@@ -1,7 +1,8 @@
 -- That the theorem for any chunking has something to speak of: every list of blocks can be handed to a new stream, and
 -- a day in two blocks, with the answers that it gets; a block of which a part is taken for want of room. Document 01's
--- listing, and a day with lines that are refused, each as a whole input and what answers it; and the listing's close,
--- of which `Of-lines.closing-is` and `Of-lines.closing-noon` speak.
+-- listing, a day with lines that are refused, a day whose figures all differ, a day with pauses and numbers by the
+-- limits, each as a whole input and what answers it; the listing's close, of which `Of-lines.closing-is` and
+-- `Of-lines.closing-noon` speak; and the output forms as lines, in any state.
 use mathlib.Core.Path.{_≡_}
 use mathlib.Core.List.{List, [], _∷_, _++_}
 use Prim.Native.Nat.{ℕ, _+_, _≤_}
@@ -11,13 +12,14 @@ use Rattle.lines.specs.declared.Record.the-variants.{Closed}
 use Rattle.lines.specs.declared.Reading.the-variants.{Got}
 use Rattle.lines.specs.Form.{bytes}
 use Rattle.lines.specs.Reading.{reading}
+use Rattle.day.specs.declared.Day.{Day}
 use Rattle.day.specs.Day.{blank}
 use Rattle.reply.specs.Reply.{reply}
 use Rattle.reply.specs.Session.{reply-room, first-line}
 use Rattle.stream.specs.declared.feed.Fed.{Fed}
 use Rattle.stream.specs.Stream.{new-stream, session-of, Feeds, Finishes}
-use Rattle.stream.specs.Listing.{lines-of, listing-lines, listing-answers}
-use Rattle.stream.specs.Chunking.{joined, after-lines, replies, last-reply, Split}
+use Rattle.stream.specs.Listing.{lines-of, listing-lines, listing-answers, uneven-lines, uneven-answers}
+use Rattle.stream.specs.Input.{joined, Split, all-lines, after-lines, replies}
 use Rattle.stream.specs.Chunking.{Feeding, In-blocks, stream-after, all-written, all-output}
 
 -- the blocks as one input
@@ -44,7 +46,7 @@ abbrev pub Any-blocks : Type 0
 Any-blocks =
     (blocks : List (List ℕ)) (i : Split (in-one blocks)) (d : List ℕ)
     → length (replies blank (i .lines)) + reply-room ≤ length d
-    → Handed blocks d (replies blank (i .lines) ++ last-reply (after-lines blank (i .lines)) (i .rest))
+    → Handed blocks d (replies blank (all-lines i))
 
 -- a day: a block that ends within its second line, and one whose last line is not ended
 abbrev pub first-block : List ℕ
@@ -108,3 +110,65 @@ odd-answers =
 
 abbrev pub Odd-lines-answered : Type 0
 Odd-lines-answered = Input-answered odd-lines (bytes "(view 0)") odd-answers
+
+-- a day whose figures all differ
+abbrev pub Uneven-answered : Type 0
+Uneven-answered = Input-answered uneven-lines [] uneven-answers
+
+-- the six output forms, each as a line
+abbrev pub output-forms : List (List ℕ)
+output-forms =
+    lines-of
+    ("(ok)" ∷ "(play 0 (paid 5))" ∷ "(nobody)" ∷ "(refused 13)" ∷ "(closed (takings 16) (claim 48) (full 64))" ∷
+    "(tally 0 (plays 2) (turns 2) (age 0) (named 4))" ∷ [])
+
+abbrev pub forms-refused : List (List ℕ)
+forms-refused = replicate 6 (bytes "(refused 17)")
+
+-- whatever the state, each is answered with 17 and the state is as before
+pub record Output-forms-refused : Type 0 where
+  pub answers-are : (s : Day) → replies s output-forms ≡ joined forms-refused []
+  pub state-kept : (s : Day) → after-lines s output-forms ≡ s
+
+-- A running day with pauses. A paused campaign that a view names is treated as not named, in the choice and in its
+-- tally; a resumed one plays. A pause and a resume are of the campaign that they name: 1 has the greater score, and 0
+-- plays while 1 is paused. 64 is no campaign number, and an output form makes no call.
+abbrev pub paused-lines : List (List ℕ)
+paused-lines =
+    lines-of
+    ("(plan (depth 3) (width 2))" ∷ "(campaign (price 5) (budget 10))" ∷ "(campaign (price 7) (budget 7))" ∷
+    "(start)" ∷ "(pause 0)" ∷ "(view 0)" ∷ "(resume 0)" ∷ "(view 0)" ∷ "(pause 1)" ∷ "(view 0 1)" ∷ "(resume 1)" ∷
+    "(view 1)" ∷ "(pause 64)" ∷ "(resume 64)" ∷ [])
+    ++ output-forms ++ lines-of ("(close)" ∷ [])
+
+abbrev pub paused-answers : List (List ℕ)
+paused-answers =
+    lines-of
+    ("(ok)" ∷ "(ok)" ∷ "(ok)" ∷ "(ok)" ∷ "(ok)" ∷ "(nobody)" ∷ "(ok)" ∷ "(play 0 (paid 5))" ∷ "(ok)" ∷
+    "(play 0 (paid 5))" ∷ "(ok)" ∷ "(play 1 (paid 7))" ∷ "(refused 17)" ∷ "(refused 17)" ∷ [])
+    ++ forms-refused
+    ++ lines-of
+    ("(closed (takings 17) (claim 119) (full 136))" ∷ "(tally 0 (plays 2) (turns 2) (age 0) (named 2))" ∷
+    "(tally 1 (plays 1) (turns 1) (age 0) (named 1))" ∷ [])
+
+abbrev pub Paused-answered : Type 0
+Paused-answered = Input-answered paused-lines [] paused-answers
+
+-- Numbers by the limits. One of more than 32 bits is read in each number's slot of an input line (request 5), and gets
+-- that number's question; twelve digits are read, thirteen are no numeral. Depth 33 gets 3, depth 32 opens.
+abbrev pub limit-lines : List (List ℕ)
+limit-lines =
+    lines-of
+    ("(plan (depth 4294967296) (width 1))" ∷ "(plan (depth 1) (width 4294967296))" ∷ "(plan (depth 33) (width 1))" ∷
+    "(plan (depth 32) (width 2))" ∷ "(campaign (price 4294967296) (budget 4294967296))" ∷
+    "(campaign (price 1) (budget 4294967296))" ∷ "(campaign (price 1) (budget 999999999999))" ∷
+    "(campaign (price 1) (budget 1000000000000))" ∷ [])
+
+abbrev pub limit-answers : List (List ℕ)
+limit-answers =
+    lines-of
+    ("(refused 3)" ∷ "(refused 4)" ∷ "(refused 3)" ∷ "(ok)" ∷ "(refused 8)" ∷ "(refused 9)" ∷ "(refused 9)" ∷
+    "(refused 17)" ∷ [])
+
+abbrev pub Limits-answered : Type 0
+Limits-answered = Input-answered limit-lines [] limit-answers

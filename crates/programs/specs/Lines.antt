@@ -2,8 +2,8 @@
 -- answers say was paid, and what demand 3 and Algorithm 4 say of their day.
 use mathlib.Core.Path.{_≡_}
 use mathlib.Core.Bool.{Bool, true, false, cond, _&&_}
-use mathlib.Core.List.{List, [], _∷_, _++_}
-use Prim.Native.Nat.{ℕ, _+_, _≤_, _<_}
+use mathlib.Core.List.{List, [], _∷_}
+use Prim.Native.Nat.{ℕ, _+_, _≤_}
 use Rattle.lines.specs.declared.Record.{Record}
 use Rattle.lines.specs.declared.Record.the-variants.{Plan, Campaign, Start, View, Close, Done, Play, Nobody, Refused}
 use Rattle.lines.specs.declared.Record.the-variants.{Closed, Tally, Pause, Resume}
@@ -26,7 +26,7 @@ use Rattle.refinement.specs.Days.{Day-agrees}
 use Rattle.reply.specs.Reply.{Request, request-of, outcome, reply, next}
 use Rattle.reply.specs.Reply.Request.{makes, fails}
 use Rattle.reply.specs.Session.{first-line}
-use Rattle.stream.specs.Chunking.{after-lines, replies, last-reply, with-rest}
+use Rattle.stream.specs.Input.{after-lines}
 
 -- The calls.
 
@@ -135,15 +135,8 @@ pub record Of-lines (ls : List (List ℕ)) : Type 0 where
   pub closing-noon : (l : List ℕ) (t c f : ℕ)
       → reading (first-line (reply (after-lines blank ls) l)) ≡ Got (Closed t c f)
       → (floor-figure (after-lines blank ls) ≤ c) × (c ≤ f)
-  -- at widths above 1 the views got Algorithm 4's answers
-  pub agrees : (B : Terms → ℕ) → Buys-alike B → 1 < day-of ls .plan .width
-      → Day-agrees B (day-of ls) (after-lines blank ls)
+  -- the views got Algorithm 4's answers
+  pub agrees : (B : Terms → ℕ) → Buys-alike B → Day-agrees B (day-of ls) (after-lines blank ls)
 
 abbrev pub Lines-keep-the-demands : Type 0
 Lines-keep-the-demands = (ls : List (List ℕ)) → Of-lines ls
-
--- What a program tells over lines and a rest is what it tells over one list of lines.
-abbrev pub Rest-is-a-line : Type 0
-Rest-is-a-line =
-    (s : Day) (ls : List (List ℕ)) (rest : List ℕ)
-    → replies s ls ++ last-reply (after-lines s ls) rest ≡ replies s (with-rest ls rest)

@@ -8,7 +8,7 @@ use lib.Seq.{take-append-seam}
 use Rattle.day.specs.Day.{blank}
 use Rattle.reply.specs.Session.{Session, fed}
 use Rattle.stream.specs.Stream.{new-stream, session, session-of}
-use Rattle.stream.specs.Chunking.{joined, All-plain, after-lines, replies, Split, with-rest, all-lines}
+use Rattle.stream.specs.Input.{joined, All-plain, Split, last-line, all-lines, after-lines, replies}
 use Rattle.stream.proofs.Chunking.{fed-lines, split}
 
 joined-rest : (ls : List (List ℕ)) (rest b : List ℕ) → joined ls rest ++ b ≡ joined ls (rest ++ b)
@@ -27,10 +27,8 @@ all-plain-more [] ms a b = b
 all-plain-more (l ∷ ls) ms a b = (a .0, all-plain-more ls ms (a .1) b)
 
 -- lines stand first, whatever comes behind them
-first-lines : (ls ms : List (List ℕ)) (rest : List ℕ) → take (length ls) (with-rest (ls ++ ms) rest) ≡ ls
-first-lines ls ms [] = take-append-seam ls ms
-first-lines ls ms (b ∷ l) =
-    ap (take (length ls)) (append-assoc ls ms ((b ∷ l) ∷ [])) ∙ take-append-seam ls (ms ++ ((b ∷ l) ∷ []))
+first-lines : (ls ms ns : List (List ℕ)) → take (length ls) ((ls ++ ms) ++ ns) ≡ ls
+first-lines ls ms ns = ap (take (length ls)) (append-assoc ls ms ns) ∙ take-append-seam ls (ms ++ ns)
 
 -- the session of a new stream that was fed the bytes a, the front of the input i: it answered so many lines of i
 pub record Front (a i : List ℕ) : Type 0 where
@@ -43,7 +41,7 @@ pub front : (a b i : List ℕ) → a ++ b ≡ i → Front a i
 front a b i e =
     let v = split a in
     let w = split (v .rest ++ b) in
-    let first = sym (first-lines (v .lines) (w .lines) (w .rest)) in
+    let first = sym (first-lines (v .lines) (w .lines) (last-line (w .rest))) in
     let f = ap (fed (session blank [] 0)) (sym (v .whole))
     ∙ fed-lines blank [] (v .lines) (v .rest) (v .lines-plain) (v .rest-plain) in
     record {

@@ -15,10 +15,10 @@ use Rattle.day.specs.Day.{blank}
 use Rattle.reply.specs.Session.{Session, reply-room, fed, consumed-count}
 use Rattle.stream.specs.declared.feed.Fed.{Fed}
 use Rattle.stream.specs.Stream.{finished, session-of, silent, Feeds}
-use Rattle.stream.specs.Chunking.{after-lines, replies, Split, all-lines}
-use Rattle.stream.proofs.Chunking.{front-said, session-next, split, any-input, state-at-end}
+use Rattle.stream.specs.Input.{after-lines, replies, Split, all-lines}
+use Rattle.stream.proofs.Chunking.{finished-said, front-said, session-next, split, any-input, state-at-end}
 use Rattle.stream.proofs.Parts.{stream-more, said-more, part-fed, part-upto, part-inside, part-further, taken-further}
-use Rattle.programs.proofs.Lines.{lines-keep-the-demands, rest-is-a-line}
+use Rattle.programs.proofs.Lines.{lines-keep-the-demands}
 use Rattle.wire.specs.declared.Wire.{Wire}
 use Rattle.wire.specs.Wires.{counted-on, max-reads, Reads, Writes, input-of}
 use Rattle.wire.proofs.Blocks as reads
@@ -225,10 +225,7 @@ module _ {w : Teller} {turns : ℕ} (a : Reached w turns) {l : List ℕ} {v : Te
             q .writes .told-is
             ∙ ap₂ (λ (j : ℕ) (z : Session). counted-on j (finished z .output)) told stream
             ∙ counted-more 0 (x .output) (finished (silent x) .output)
-            ∙ ap (counted-on 0)
-            (any-input input (i .lines) (i .rest) (i .lines-plain) (i .rest-plain) (i .whole)
-            ∙ rest-is-a-line blank (i .lines) (i .rest)
-            ∙ ap (replies blank) every-line);
+            ∙ ap (counted-on 0) (sym (finished-said x) ∙ any-input input i ∙ ap (replies blank) every-line);
         all-answered = λ y h. refl;
         demands = lines-keep-the-demands (all-lines i);
       }

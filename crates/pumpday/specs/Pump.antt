@@ -5,7 +5,7 @@ use mathlib.Core.List.{List}
 use Prim.Native.Nat.{ℕ, _<_}
 use lib.ListN.{length, take}
 use Rattle.day.specs.Day.{blank}
-use Rattle.stream.specs.Chunking.{after-lines, replies, Split, all-lines}
+use Rattle.stream.specs.Input.{after-lines, replies, Split, all-lines}
 use Rattle.programs.specs.Lines.{Of-lines}
 use Rattle.wire.specs.Wires.{counted-on, max-reads, input-of, None-empty}
 use Rattle.pumpday.specs.declared.teller.Teller.{Teller}
@@ -16,7 +16,7 @@ use Rattle.pumpday.specs.declared.teller.Teller.{Teller}
 -- as answer these from the blank state on. `Teller::tell` requires of its caller that the bytes are due from that
 -- stream; that it writes these bytes is one line, read in the source. Unless a write failed or `max-reads` reads were
 -- made, the last read gave nothing; where it gave nothing and no write failed, all lines are answered. Of the lines
--- demand 3 holds, and at widths above 1 Algorithm 4. `sent` and `failed` are free, being what C answered, but that a
+-- demand 3 and Algorithm 4 hold. `sent` and `failed` are free, being what C answered, but that a
 -- read that failed was the last, as one that gave nothing.
 pub record Runs (r : Teller) : Type 0 where
   pub blocks : List (List ℕ)

@@ -28,7 +28,7 @@ use Rattle.floor.proofs.Reach.{Reached, reached}
 use Rattle.allotments.specs.Allotment.{at}
 use Rattle.allotments.specs.Limits.{max-handed-in}
 use Rattle.optimum.specs.Optimum.{most-of}
-use Rattle.stream.specs.Chunking.{after-lines}
+use Rattle.stream.specs.Input.{after-lines}
 use Rattle.programs.specs.Lines.{calls-of, day-of}
 use Rattle.programs.proofs.Lines.{lines-keep-the-demands}
 use Rattle.floor.specs.History.{own-views}

@@ -11,7 +11,7 @@ use Rattle.allotments.specs.Limits.{max-handed-in}
 use Rattle.reply.specs.Session.{Session}
 use Rattle.stream.specs.declared.feed.Stream.{Stream}
 use Rattle.stream.specs.Stream.{finished, new-stream}
-use Rattle.stream.specs.Chunking.{after-lines, all-lines}
+use Rattle.stream.specs.Input.{after-lines, all-lines}
 use Rattle.stream.proofs.Chunking.{split}
 use Rattle.recording.specs.Recording.{noted, last-views}
 use Rattle.recording.specs.Contracts.{Took}

@@ -17,7 +17,7 @@ use Rattle.lines.specs.Reading.{reading, first-of, forms, held-or, ended-or, ma
 use Rattle.lines.specs.Reading.{slot-at, set-at, numeral-at, digits, is-digit}
 use Rattle.allotments.specs.Most.{greatest, most}
 use Rattle.reply.specs.Reply.{outcome, next}
-use Rattle.stream.specs.Chunking.{after-lines}
+use Rattle.stream.specs.Input.{after-lines}
 use Rattle.programs.specs.Lines.{exchanges}
 use Rattle.earnings.specs.Ratio.{common-up-to}
 use Rattle.earnings.specs.Earnings.{figures-text}

@@ -9,7 +9,7 @@ use Rattle.day.specs.declared.Day.{Day}
 use Rattle.day.specs.Day.{blank, total-takings}
 use Rattle.allotments.specs.Limits.{max-handed-in}
 use Rattle.optimum.specs.Optimum.{most-of}
-use Rattle.stream.specs.Chunking.{after-lines, Split, all-lines}
+use Rattle.stream.specs.Input.{after-lines, Split, all-lines}
 use Rattle.programs.specs.Lines.{day-of}
 use Rattle.floor.specs.History.{own-views}
 use Rattle.earnings.specs.declared.Earnings.{Earnings}
@@ -32,11 +32,11 @@ abbrev pub Day-earned : Type 0
 Day-earned = (ls : List (List ℕ)) → earned (after-lines blank ls) (own-views (day-of ls)) ≡ day-earnings ls
 
 -- A whole run. There are blocks, none empty, of as many bytes as the reads gave; which bytes these are no contract can
--- say, and that each block is handed on as it was read is read in the source. As one input they are lines and a rest; a
--- rest that has bytes is a last line. Unless a read failed or `max-reads` reads were made, the last read gave nothing.
--- Where it gave nothing and did not fail, the earnings that were told are those of the day that the lines record, and
--- as many bytes were told as their line has; else nothing was told. `tell` requires of its caller that the bytes are
--- that line; that it writes these bytes is one line, read in the source.
+-- say, and that each block is handed on as it was read is read in the source. As one input they are lines and a rest.
+-- Unless a read failed or `max-reads` reads were made, the last read gave nothing. Where it gave nothing and did not
+-- fail, the earnings that were told are those of the day that the lines record, and as many bytes were told as their
+-- line has; else nothing was told. `tell` requires of its caller that the bytes are that line; that it writes these
+-- bytes is one line, read in the source.
 pub record Prints (r : Teller) : Type 0 where
   pub blocks : List (List ℕ)
   pub none-empty : None-empty blocks

@@ -1,4 +1,4 @@
--- The page of the listing, by computation: its lines are read, its calls made, its figures printed.
+-- The two pages, by computation: the lines are read, the calls made, the figures printed.
 use mathlib.Core.Path.{refl}
 use Rattle.finite.specs.Finite.{sum, count, every, table}
 use Rattle.sets.specs.Set.{member, size, within, collect, without}
@@ -14,16 +14,16 @@ use Rattle.lines.specs.Form.{template, in-slot}
 use Rattle.lines.specs.Reading.{reading, first-of, forms, held-or, ended-or, made, numbers-of, rest-of, step, strip}
 use Rattle.lines.specs.Reading.{slot-at, set-at, numeral-at, digits, is-digit}
 use Rattle.reply.specs.Reply.{outcome, next}
-use Rattle.stream.specs.Chunking.{after-lines}
+use Rattle.stream.specs.Input.{after-lines}
 use Rattle.page.specs.Page.{flush, cents, row-text, total-text, row-lines, page}
 use Rattle.page.specs.Figures.{figures}
-use Rattle.pumppage.specs.Examples.{Page-of-the-listing}
+use Rattle.pumppage.specs.Examples.{Examples}
 
-pub page-of-the-listing : Page-of-the-listing
+pub examples : Examples
 unfolding after-lines next outcome
     reading first-of forms held-or ended-or made numbers-of rest-of step strip slot-at set-at numeral-at digits
     is-digit template in-slot numeral numeral-in
     call first-failed sound sound-record blank sum count every table within size member width-holds weight share
     whole claim total-takings total-claim total-budgets sound-plan priced counted uncounted empty sound-campaign
     best choice collect without flush cents row-text total-text row-lines page figures
-page-of-the-listing = refl
+examples = record { of-the-listing = refl; of-uneven = refl }

@@ -16,8 +16,8 @@ use Rattle.reply.specs.Session.{Session, reply-room, fed}
 use Rattle.reply.proofs.Ranges.{next-sound}
 use Rattle.stream.specs.declared.feed.Stream.{Stream}
 use Rattle.stream.specs.declared.feed.Fed.{Fed}
-use Rattle.stream.specs.Stream.{ended-if, finished, new-stream, session, session-of, silent, Feeds, Finishes}
-use Rattle.stream.specs.Chunking.{after-lines, Split}
+use Rattle.stream.specs.Stream.{finished, new-stream, session, session-of, silent, Feeds, Finishes}
+use Rattle.stream.specs.Input.{last-line, after-lines, Split}
 use Rattle.stream.proofs.Chunking.{session-next, fed-lines, split, state-at-end}
 use Rattle.stream.proofs.Parts.{stream-more, part-fed, part-upto, part-inside, part-further, taken-further, last-comes}
 use Rattle.wire.specs.Wires.{counted-on, max-reads, input-of}
@@ -43,11 +43,7 @@ lines-sound s (l ∷ ls) h = lines-sound (next s l) ls (next-sound s l h)
 
 finished-sound : (x : Session) → sound (x .day) ≡ true → sound (finished x .day) ≡ true
 unfolding finished
-finished-sound x h = go (x .pending)
-  where
-    go : (l : List ℕ) → sound (ended-if l x .day) ≡ true
-    go [] = h
-    go (b ∷ l) = next-sound (x .day) (x .pending) h
+finished-sound x h = lines-sound (x .day) (last-line (x .pending)) h
 
 -- Bytes taken.
 

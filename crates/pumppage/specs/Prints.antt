@@ -5,7 +5,7 @@ use mathlib.Core.List.{List}
 use Prim.Native.Nat.{ℕ, _<_}
 use Rattle.day.specs.declared.Day.{Day}
 use Rattle.day.specs.Day.{blank}
-use Rattle.stream.specs.Chunking.{after-lines, Split, all-lines}
+use Rattle.stream.specs.Input.{after-lines, Split, all-lines}
 use Rattle.page.specs.Printing.{page-of}
 use Rattle.wire.specs.Wires.{counted-on, max-reads, input-of, None-empty}
 use Rattle.pumppage.specs.declared.teller.Teller.{Teller}

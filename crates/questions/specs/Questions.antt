@@ -37,10 +37,6 @@ add-questions h t b =
     question 8 (price-fits (t .price)) ∷ question 9 (budget-fits (t .price) (t .budget)) ∷
     question 10 (leb (b + t .budget) max-budget) ∷ []
 
--- the unpaused of the campaigns that a view names
-abbrev pub unpaused : Head → View → View
-unpaused h w = unmarked (h .paused) w
-
 -- question 14: are at most d campaigns named
 unfoldable pub width-holds : Head → View → Bool
 width-holds h w = leb (size (w .set)) (h .plan .width)
@@ -49,7 +45,7 @@ width-holds h w = leb (size (w .set)) (h .plan .width)
 abbrev pub view-questions : Head → View → List Question
 view-questions h w =
     question 11 (is-running (h .phase)) ∷ question 12 (ltb (h .accepted) max-views) ∷
-    question 13 (within (h .count) (w .set)) ∷ question 14 (width-holds h (unpaused h w)) ∷ []
+    question 13 (within (h .count) (w .set)) ∷ question 14 (width-holds h (unmarked (h .paused) w)) ∷ []
 
 -- of a pausing or a resuming of campaign i: 11, then 15
 abbrev pub mark-questions : Head → (i : ℕ) → List Question

@@ -3,7 +3,7 @@
 -- input record what its lines do.
 use mathlib.Core.Path.{_≡_, refl, sym, ap, ap₂, _∙_, subst, subst⁻¹}
 use mathlib.Core.Bool.{Bool, true, false}
-use mathlib.Core.List.{List, [], _∷_, _++_, map, map-append}
+use mathlib.Core.List.{List, [], _∷_, _++_, append-nil, map, map-append}
 use Prim.Native.Nat.{ℕ, suc, min, _+_, _≤_, _<_}
 use native.Mathlib.Omega.{arith}
 use native.Mathlib.Numerals.{add-one}
@@ -15,6 +15,7 @@ use Rattle.sets.specs.Set.{without}
 use Rattle.lines.specs.declared.Reading.{Reading}
 use Rattle.lines.specs.Reading.{reading}
 use Rattle.campaigns.specs.declared.View.{View}
+use Rattle.campaigns.specs.View.{unmarked}
 use Rattle.day.specs.declared.Day.{Day}
 use Rattle.day.specs.declared.Outcome.{Outcome}
 use Rattle.day.specs.Day.{blank, blank-plan}
@@ -22,14 +23,14 @@ use Rattle.day.specs.Calls.{number, marked, Call, result, call}
 use Rattle.day.specs.Calls.Call.{open-plan, add-campaign, start-day, show-view, ask-tally, close-day, mark-campaign}
 use Rattle.day.proofs.Questions.{call-elim}
 use Rattle.demands.proofs.Refusals.{result-number}
-use Rattle.floor.specs.History.{History, opening, unpaused-in, with-call, entered, continued}
+use Rattle.floor.specs.History.{History, opening, with-call, entered, continued}
 use Rattle.reply.specs.Reply.{Request, request-of, executed, outcome, next, reply}
 use Rattle.reply.specs.Reply.Request.{makes, fails}
 use Rattle.reply.specs.Session.{Session, longer, ended, fed}
 use Rattle.reply.proofs.Sessions.{cut-reading, cut-next, byte-end}
 use Rattle.batch.proofs.Rests.{rest-fed}
 use Rattle.stream.specs.Stream.{session, session-of, new-stream, silent}
-use Rattle.stream.specs.Chunking.{joined, Plain, All-plain, after-lines, Split, with-rest, all-lines}
+use Rattle.stream.specs.Input.{joined, Plain, All-plain, Split, last-line, all-lines, after-lines}
 use Rattle.stream.proofs.Chunking.{fed-lines, state-at-end}
 use Rattle.programs.specs.Lines.{exchanges, day-of}
 use Rattle.programs.proofs.Lines.{refused-entered, stepped, continued-step}
@@ -84,14 +85,14 @@ module _ (n : ℕ) (s : Day) (h : History) (v : List ℕ) (k : Keeps n s h v) wh
           ∙ sym (take-append-le n (own-views h) (a ∷ []) (omega (arith, k .counted)))
 
   keeps-shown : (w : View) (t : Day) (g : History) → t .accepted ≡ s .accepted + 1
-      → g .views ≡ h .views ++ (unpaused-in h w ∷ []) → t .paused ≡ g .paused
+      → g .views ≡ h .views ++ (unmarked (h .paused) w ∷ []) → t .paused ≡ g .paused
       → Keeps n t g (set v (s .accepted) (without (w .set) (s .paused)))
   keeps-shown w t g e f p =
       let a = without (w .set) (s .paused) in
       let one = e ∙ add-one (s .accepted) in
       let more : own-views g ≡ own-views h ++ (a ∷ []) =
       ap (λ (vs : List View). map (λ (u : View). u .set) vs) f
-      ∙ map-append (λ (u : View). u .set) (h .views) (unpaused-in h w ∷ [])
+      ∙ map-append (λ (u : View). u .set) (h .views) (unmarked (h .paused) w ∷ [])
       ∙ sym (ap (λ (m : ℕ). own-views h ++ (without (w .set) m ∷ [])) (k .paused-is)) in
       record {
         counted = omega (arith, e, k .counted, ap length more, length-append (own-views h) (a ∷ []));
@@ -236,13 +237,15 @@ module _ (input : List ℕ) (i : Split input) (v : List ℕ) where
 
 -- the end, where a rest that has bytes is a last line
 end-keeps : (n : ℕ) (ls : List (List ℕ)) (rest v : List ℕ) → Keeps n blank (opening blank-plan) v
-    → Keeps n (after-lines blank (with-rest ls rest)) (day-of (with-rest ls rest))
+    → Keeps n (after-lines blank (ls ++ last-line rest)) (day-of (ls ++ last-line rest))
     (noted (after-lines blank ls) rest (noted-lines blank v ls))
 unfolding noted
 end-keeps n ls [] v k =
     let s = after-lines blank ls in
     let z = lines-keep n ls blank (opening blank-plan) v k in
-    keeps-unshown n s (day-of ls) (noted-lines blank v ls) z _ s (day-of ls) refl refl (z .paused-is)
+    subst⁻¹ (λ (ms : List (List ℕ)). Keeps n (after-lines blank ms) (day-of ms) (noted s [] (noted-lines blank v ls)))
+    (append-nil ls)
+    (keeps-unshown n s (day-of ls) (noted-lines blank v ls) z _ s (day-of ls) refl refl (z .paused-is))
 end-keeps n ls (b ∷ l) v k =
     let all = ls ++ ((b ∷ l) ∷ []) in
     subst (λ (w : List ℕ). Keeps n (after-lines blank all) (day-of all) w) (noted-last blank v ls (b ∷ l))

@@ -14,7 +14,7 @@ use Rattle.floor.specs.History.{own-views}
 use Rattle.reply.specs.Reply.{Request, request-of}
 use Rattle.reply.specs.Reply.Request.{makes, fails}
 use Rattle.reply.specs.Session.{Session, after-byte, fed}
-use Rattle.stream.specs.Chunking.{after-lines, Split, all-lines}
+use Rattle.stream.specs.Input.{after-lines, Split, all-lines}
 use Rattle.stream.specs.Stream.{session-of, new-stream, silent, finished}
 use Rattle.programs.specs.Lines.{day-of}
 

@@ -4,6 +4,5 @@ pub mod Slots
 pub mod Simulation
 pub mod Budgets
 pub mod Slot
-pub mod WidthOne
 pub mod Days
 pub mod Listing

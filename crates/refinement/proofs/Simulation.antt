@@ -27,7 +27,7 @@ use Rattle.refinement.specs.Algorithm4.{Instance, Neighbors, Variables, 
 use Rattle.refinement.specs.Algorithm4.{line-1, line-2, line-3, line-4, lines-9-to-11, lines-3-to-11}
 use Rattle.refinement.specs.Algorithm4.{matches-from, algorithm-4}
 use Rattle.refinement.specs.Correspondence.{Buys-alike, instance, slots, Represents, Maximizes, Arrives, choices}
-use Rattle.refinement.specs.Correspondence.{campaigns-after, Valid, Agrees, As-Algorithm-4}
+use Rattle.refinement.specs.Correspondence.{Injective, campaigns-after, Valid, Agrees, As-Algorithm-4}
 use Rattle.campaigns.proofs.Choices.{best-fits}
 use Rattle.refinement.proofs.Choices.{best-eq}
 use Rattle.refinement.proofs.Copies.{value-zero, value-copy, copy-complete, one-age, one-turns, displaced}
@@ -70,12 +70,20 @@ module _ (I : Instance) (ok : Proper I) where
   pub simulates-represents : (j : ℕ) (v : Variables) (i : ℕ) (c : Campaign) → i < I .n → Simulates I j v i c
       → Represents I j v i c
   simulates-represents j v i c l h = record {
-    age-is =
+    plays-are = h .spends .matched;
+    age-is = λ _.
         value-copy I i (ok .deep) (ok .wide) (ok .bids i l) (ok .budgets i l) (v .zᶜ i) (c .age) (h .young)
         (h .current);
-    turns-are = h .accounts .finished;
-    plays-are = h .accounts .matched;
-    quantity-is = value-quantity I (ok .deep) (ok .wide) v i (c .age) (omega (arith, h .young)) (h .current);
+    turns-are = λ _. h .finished;
+    quantity-is = λ _.
+        value-quantity I (ok .deep) (ok .wide) v i (c .age) (omega (arith, h .young)) (h .current);
+  }
+
+  pub injective-of : (i : ℕ) → i < I .n → Injective I i
+  injective-of i l = record {
+    one-age = one-age I i (ok .deep) (ok .wide) (ok .bids i l) (ok .budgets i l);
+    one-turns = one-turns I i (ok .deep) (ok .wide) (ok .bids i l) (ok .budgets i l);
+    complete = copy-complete I i (ok .deep) (ok .wide) (ok .bids i l) (ok .budgets i l);
   }
 
   module _ (j : ℕ) (w : View) (v : Variables) (f : ℕ → Campaign) (h : All j v f) where
@@ -85,14 +93,14 @@ module _ (I : Instance) (ok : Proper I) where
     compares m i l l′ =
         displaced I (ok .deep) (ok .wide) v m i (weight (I .k) (I .d) (f m .age)) (weight (I .k) (I .d) (f i .age))
         (h m l .current) (h i l′ .current)
-        ∙ rw (h m l .accounts .bid, h i l′ .accounts .bid)
+        ∙ rw (h m l .spends .bid, h i l′ .spends .bid)
 
     ables : (i : ℕ) → i < I .n → feasible-neighbor I v j (names w) i ≡ able (plan-of I) w f i
-    ables i l = able-alike I (ok .deep) (ok .wide) i (ok .bids i l) (ok .budgets i l) j (names w) v (f i) (h i l)
+    ables i l = able-alike I j i (names w) v (f i) (h i l .spends) (ok .bids i l)
 
     pub same-choice : line-4 I j (names w) v ≡ chosen-of (I .n) (plan-of I) w f
     unfolding line-4 choice
-    same-choice = best-eq (I .n) _ _ _ _ ables compares
+    same-choice = best-eq (I .n) _ _ _ _ ables (λ m i l l′ _ _. compares m i (omega arith) l′)
 
     maximizes : Maximizes I j (names w) v (line-4 I j (names w) v)
     maximizes =
@@ -168,13 +176,8 @@ module _ (B : Terms → ℕ) (buys : Buys-alike B) (pl : Plan) (n : ℕ) (t : �
   pub simulates-fresh : All (instance B pl n t) proper 0 line-1 (λ i. fresh (t i))
   unfolding whole
   simulates-fresh i l = record {
-    accounts = record {
-      bid = refl;
-      copies = sym (buys (t i));
-      finished = record { left = omega arith; right = omega (arith, proper .budgets i l); cross = omega arith };
-      matched = sum-zero _;
-      later = λ j h. refl;
-    };
+    spends = record { bid = refl; copies = sym (buys (t i)); matched = sum-zero _; later = λ j h. refl };
+    finished = record { left = omega arith; right = omega (arith, proper .budgets i l); cross = omega arith };
     young = valid .deep;
     current = value-zero (instance B pl n t) i (valid .deep) (valid .wide) (proper .bids i l) (proper .budgets i l);
   }
@@ -187,11 +190,7 @@ module _ (B : Terms → ℕ) (buys : Buys-alike B) (pl : Plan) (n : ℕ) (t : �
       (run-simulates I proper ws 0 line-1 (λ i. fresh (t i)) simulates-fresh) in
       record {
         same-choices = run-choices I proper ws 0 line-1 (λ i. fresh (t i)) simulates-fresh;
-        injective = λ i l. record {
-          one-age = one-age I i (valid .deep) (valid .wide) (proper .bids i l) (proper .budgets i l);
-          one-turns = one-turns I i (valid .deep) (valid .wide) (proper .bids i l) (proper .budgets i l);
-          complete = copy-complete I i (valid .deep) (valid .wide) (proper .bids i l) (proper .budgets i l);
-        };
+        injective = injective-of I proper;
         same-counts =
             λ i l.
             simulates-represents I proper (length ws) (algorithm-4 I (slots ws)) i

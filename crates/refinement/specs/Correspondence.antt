@@ -54,13 +54,14 @@ Scores-order =
     → less (compared-quantity I m a) (compared-quantity I i a′)
     ≡ ltb (I .b m * weight (I .k) (I .d) a) (I .b i * weight (I .k) (I .d) a′)
 
--- a campaign's counts stand for the variables of advertiser i before slot j: its age is the degree of the current copy;
--- each of its turns is a finished copy, which has added b_i/B_i to z_i; its plays are the slots matched to i
+-- a campaign's counts stand for the variables of advertiser i before slot j: its plays are the slots matched to i; and,
+-- but at width 1, where the paper divides by 0, its age is the degree of the current copy, and each of its turns is a
+-- finished copy, which has added b_i/B_i to z_i
 pub record Represents (I : Instance) (j : ℕ) (v : Variables) (i : ℕ) (c : Campaign) : Type 0 where
-  pub age-is : v .zᶜ i ≈ copy I i (c .age)
-  pub turns-are : v .z i ≈ integer (c .turns) ⊗ part I i
   pub plays-are : sum j (v .x i) ≡ c .plays
-  pub quantity-is : quantity I v i ≈ compared-quantity I i (c .age)
+  pub age-is : 1 < I .d → v .zᶜ i ≈ copy I i (c .age)
+  pub turns-are : 1 < I .d → v .z i ≈ integer (c .turns) ⊗ part I i
+  pub quantity-is : 1 < I .d → quantity I v i ≈ compared-quantity I i (c .age)
 
 -- no two ages and no two turns stand for one value, and "by our choice of C, after at most k i-edges, z_i^c = b_i/B_i"
 -- (the same proof)

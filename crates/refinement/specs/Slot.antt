@@ -35,11 +35,11 @@ pub record Represents-state (I : Instance) (j : ℕ) (v : Variables) (s : Day) :
   pub counts-are : (i : ℕ) → i < s .count → Represents I j v i (campaign s i)
   pub unmatched : (i j′ : ℕ) → i < s .count → j ≤ j′ → v .x i j′ ≡ 0
 
--- every sound state of a width above 1, and every view that it accepts; the neighbours are what the view found
+-- every sound state, and every view that it accepts; the neighbours are what the view found
 abbrev pub One-slot : Type 0
 One-slot =
-    (s : Day) → sound s ≡ true → 1 < s .plan .width → (I : Instance) (j : ℕ) (v : Variables) → Represents-state I j v s
-    → (w : View) → accepted (call s (show-view w) .answer) ≡ true
+    (s : Day) → sound s ≡ true → (I : Instance) (j : ℕ) (v : Variables) → Represents-state I j v s → (w : View)
+    → accepted (call s (show-view w) .answer) ≡ true
     → (call s (show-view w) .answer ≡ view-answer (I .b) (line-4 I j (names (found s w)) v))
     × Represents-state I (suc j) (lines-3-to-11 I j (names (found s w)) v) (call s (show-view w) .day)
 
@@ -60,7 +60,7 @@ variables-at I s = record {
 
 abbrev pub Represented : Type 0
 Represented =
-    (B : Terms → ℕ) → Buys-alike B → (s : Day) → sound s ≡ true → 1 < s .plan .width
+    (B : Terms → ℕ) → Buys-alike B → (s : Day) → sound s ≡ true
     → Represents-state (instance-at B s) (s .accepted) (variables-at (instance-at B s) s) s
 
 -- A sound state that no list of calls reaches (campaign 0 can pay, and was named more often than depth × turns + age);

@@ -1,7 +1,7 @@
 -- Every line is answered, whatever it is and whatever the state: by lines of output forms with numbers in their ranges,
--- which read back as the records that the answer is.
+-- which read back as the records that the answer is. Input forms make calls, output forms get 17.
 use mathlib.Core.Path.{_≡_}
-use mathlib.Core.Bool.{true, cond}
+use mathlib.Core.Bool.{true, false, cond}
 use mathlib.Core.List.{List, [], _∷_}
 use Prim.Native.Nat.{ℕ, suc, _≤_}
 use lib.ListN.{length, drop, getD}
@@ -12,7 +12,9 @@ use Rattle.lines.specs.Form.{is-output, in-range}
 use Rattle.lines.specs.Reading.{reading}
 use Rattle.day.specs.declared.Answer.the-variants.{Refused as refusing}
 use Rattle.day.specs.declared.Day.{Day}
-use Rattle.reply.specs.Reply.{outcome, is-closing, reply-records, reply, next}
+use Rattle.day.specs.Calls.{Call}
+use Rattle.reply.specs.Reply.{request, outcome, is-closing, reply-records, reply, next}
+use Rattle.reply.specs.Reply.Request.{makes, fails}
 use Rattle.reply.specs.Session.{upto, first-line}
 
 -- the first line of w, without its byte 10, is read as r, an output form whose numbers are in their ranges
@@ -37,3 +39,11 @@ pub record Answered (s : Day) (l : List ℕ) : Type 0 where
 
 abbrev pub Answers-each : Type 0
 Answers-each = (s : Day) (l : List ℕ) → Answered s l
+
+-- the program answers each of the six output forms with 17
+abbrev pub Output-refused : Type 0
+Output-refused = (r : Record) → is-output r ≡ true → request r ≡ fails 17
+
+-- each of the seven input forms makes a call
+abbrev pub Input-calls : Type 0
+Input-calls = (r : Record) → is-output r ≡ false → (c : Call) × (request r ≡ makes c)

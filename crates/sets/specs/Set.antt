@@ -33,6 +33,10 @@ without set out = collect 64 (λ i. member set i && not (member out i))
 unfoldable pub including : ℕ → ℕ → ℕ
 including set i = collect 64 (λ j. member set j || eqb j i)
 
+-- the set without i
+abbrev pub excluding : ℕ → ℕ → ℕ
+excluding set i = without set (including 0 i)
+
 -- the members above a
 unfoldable pub beyond : ℕ → ℕ → ℕ
 beyond set a = collect 64 (λ i. member set i && ltb a i)

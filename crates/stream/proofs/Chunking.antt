@@ -16,10 +16,10 @@ use Rattle.reply.specs.Session.{Session, reply-room, longer, ended, after-byte,
 use Rattle.reply.proofs.Sessions.{cut-reply, cut-next, fed-append, byte-plain, byte-end}
 use Rattle.stream.specs.declared.feed.Stream.{Stream}
 use Rattle.stream.specs.declared.feed.Fed.{Fed}
+use Rattle.stream.specs.Input.{joined, Plain, All-plain, Split, last-line, all-lines, after-lines, replies}
 use Rattle.stream.specs.Stream.{finished, session, new-stream, session-of, silent, Comes-to, Feeds, Finishes}
-use Rattle.stream.specs.Chunking.{joined, Plain, All-plain, after-lines, replies, Split, Feeding, In-blocks}
-use Rattle.stream.specs.Chunking.{stream-after, all-written, last-reply, with-rest, all-lines, Any-input}
-use Rattle.stream.specs.Chunking.{Any-chunking}
+use Rattle.stream.specs.Chunking.{Feeding, In-blocks, stream-after, all-written, all-output}
+use Rattle.stream.specs.Chunking.{Any-input, Any-chunking}
 use Rattle.batch.proofs.Rests.{rest-fed}
 
 abbrev pub with-said : Session → List ℕ → Session
@@ -55,6 +55,18 @@ fed-said x (b ∷ l) = go (eqb b 10) refl (fed-said (ended x) l) (fed-said (ende
         ap (λ (y : Session). fed y l) (byte-plain x b e)
         ∙ r
         ∙ sym (ap (λ (y : Session). with-said (fed y l) (x .output ++ fed y l .output)) (byte-plain (silent x) b e))
+
+-- so it does at the end of input
+pub finished-said : (x : Session) → finished x .output ≡ x .output ++ finished (silent x) .output
+unfolding finished
+finished-said x = refl
+
+output-said : (x : Session) (l : List ℕ) → all-output x l ≡ x .output ++ all-output (silent x) l
+unfolding finished
+output-said x l =
+    let y = fed (silent x) l in
+    ap (λ (z : Session). finished z .output) (fed-said x l)
+    ∙ append-assoc (x .output) (y .output) (replies (y .day) (last-line (y .pending)))
 
 -- In blocks.
 
@@ -96,14 +108,13 @@ written-inside {y} {n} {d} h =
 -- all that is written, with the end of input, is what the whole input says
 module _ (d e : List ℕ) (r : Fed) (room : 16384 ≤ length d) where
   all-written-is : (k : Stream) (l : List ℕ) (fs : List Feeding) → In-blocks k l fs → Finishes (stream-after k fs) d e r
-      → all-written fs ++ take (r .written) e ≡ fed (session-of k) l .output ++ finished
-      (silent (fed (session-of k) l)) .output
+      → all-written fs ++ take (r .written) e ≡ all-output (session-of k) l
   unfolding fed
   all-written-is k l [] t h =
       front-said
       (subst (λ (b : Bool). Comes-to (cond b (finished (session-of k)) (session-of k)) 0 d e r)
       (le-leb 16384 (length d) room) h)
-      ∙ ap (λ (m : List ℕ). fed (session-of k) m .output ++ finished (silent (fed (session-of k) m)) .output) (sym t)
+      ∙ ap (all-output (session-of k)) (sym t)
   all-written-is k l (f ∷ fs) t h =
       let x = session-of k in
       let n = f .back .consumed in
@@ -112,16 +123,15 @@ module _ (d e : List ℕ) (r : Fed) (room : 16384 ≤ length d) where
       let o : Comes-to y n (f .before) (f .after) (f .back) =
       subst⁻¹ (λ (i : ℕ). Comes-to (fed x (take i (f .block))) i (f .before) (f .after) (f .back))
       (ap (λ (b : Fed). b .consumed) (t .1 .back-is)) (t .1) in
-      let z : fed x l ≡ with-said (fed (silent y) m) (y .output ++ fed (silent y) m .output) =
+      let z : fed x l ≡ fed y m =
       ap (fed x) (t .0 ∙ ap (λ (w : List ℕ). w ++ f .later) (sym (take-append-drop n (f .block)))
       ∙ append-assoc (take n (f .block)) (drop n (f .block)) (f .later))
-      ∙ fed-append x (take n (f .block)) m
-      ∙ fed-said y m in
+      ∙ fed-append x (take n (f .block)) m in
       append-assoc (take (f .back .written) (f .after)) (all-written fs) (take (r .written) e)
       ∙ ap₂ _++_ (front-said o) (all-written-is (f .back .stream) m fs (t .2) h
-      ∙ ap (λ (s : Session). fed s m .output ++ finished (silent (fed s m)) .output) (session-next o))
-      ∙ sym (append-assoc (y .output) (fed (silent y) m .output) (finished (silent (fed (silent y) m)) .output))
-      ∙ sym (ap (λ (s : Session). s .output ++ finished (silent s) .output) z)
+      ∙ ap (λ (s : Session). all-output s m) (session-next o))
+      ∙ sym (output-said y m)
+      ∙ sym (ap (λ (s : Session). finished s .output) z)
 
 -- As lines.
 
@@ -153,24 +163,51 @@ fed-lines s p (l ∷ ls) rest a e =
     ∙ ap (λ (w : List ℕ). record { day = after-lines (next s l) ls; pending = take 201 rest; output = w })
     (append-assoc p (reply s l) (replies (next s l) ls))
 
--- the end of input
-last-said : (s : Day) (rest : List ℕ) → finished (record { day = s; pending = take 201 rest; output = [] }) .output
-    ≡ last-reply s rest
+-- lines and then lines
+after-append : (s : Day) (ls ms : List (List ℕ)) → after-lines (after-lines s ls) ms ≡ after-lines s (ls ++ ms)
+unfolding after-lines
+after-append s [] ms = refl
+after-append s (l ∷ ls) ms = after-append (next s l) ls ms
+
+pub replies-append : (s : Day) (ls ms : List (List ℕ)) → replies s ls ++ replies (after-lines s ls) ms
+    ≡ replies s (ls ++ ms)
+unfolding after-lines replies
+replies-append s [] ms = refl
+replies-append s (l ∷ ls) ms =
+    append-assoc (reply s l) (replies (next s l) ls) (replies (after-lines (next s l) ls) ms)
+    ∙ ap (λ (w : List ℕ). reply s l ++ w) (replies-append (next s l) ls ms)
+
+-- the end of input: a last line of which at most 201 bytes are held is answered as the whole
+last-cut : (s : Day) (rest : List ℕ)
+    → (after-lines s (last-line (take 201 rest)) ≡ after-lines s (last-line rest))
+    × (replies s (last-line (take 201 rest)) ≡ replies s (last-line rest))
+unfolding after-lines replies
+last-cut s [] = (refl, refl)
+last-cut s (b ∷ l) = (cut-next s (b ∷ l), ap (λ (w : List ℕ). w ++ []) (cut-reply s (b ∷ l)))
+
+-- the session at the end of an input
+at-end : (input : List ℕ) (i : Split input) → finished (fed (session-of new-stream) input)
+    ≡ record { day = after-lines blank (all-lines i); pending = []; output = replies blank (all-lines i) }
 unfolding finished
-last-said s [] = refl
-last-said s (b ∷ l) = cut-reply s (b ∷ l)
+at-end input i =
+    let s = after-lines blank (i .lines) in
+    let c = last-cut s (i .rest) in
+    ap (λ (m : List ℕ). finished (fed (session blank [] 0) m)) (sym (i .whole))
+    ∙ ap finished (fed-lines blank [] (i .lines) (i .rest) (i .lines-plain) (i .rest-plain))
+    ∙ ap₂ (λ (x : Day) (w : List ℕ). record { day = x; pending = []; output = w })
+    (c .0 ∙ after-append blank (i .lines) (last-line (i .rest)))
+    (ap (λ (w : List ℕ). replies blank (i .lines) ++ w) (c .1) ∙ replies-append blank (i .lines) (last-line (i .rest)))
 
 pub any-input : Any-input
-any-input input ls rest a p w =
-    let y : Session = record { day = after-lines blank ls; pending = take 201 rest; output = replies blank ls } in
-    let f : fed (session-of new-stream) input ≡ y =
-    ap (fed (session blank [] 0)) (sym w) ∙ fed-lines blank [] ls rest a p in
-    ap (λ (y : Session). y .output ++ finished (silent y) .output) f
-    ∙ ap (λ (m : List ℕ). replies blank ls ++ m) (last-said (after-lines blank ls) rest)
+any-input input i = ap (λ (y : Session). y .output) (at-end input i)
+
+pub state-at-end : (input : List ℕ) (i : Split input) → finished (silent (fed (session-of new-stream) input)) .day
+    ≡ after-lines blank (all-lines i)
+unfolding finished
+state-at-end input i = ap (λ (y : Session). y .day) (at-end input i)
 
 pub any-chunking : Any-chunking
-any-chunking input fs t d e r room h ls rest a p w =
-    all-written-is d e r room new-stream input fs t h ∙ any-input input ls rest a p w
+any-chunking input fs t d e r room h i = all-written-is d e r room new-stream input fs t h ∙ any-input input i
 
 -- and every input is lines and a rest
 plain-cons : (b : ℕ) (l : List ℕ) → eqb b 10 ≡ false → Plain l → Plain (b ∷ l)
@@ -221,25 +258,3 @@ split (b ∷ l) = go (eqb b 10) refl (split l)
     go : (t : Bool) → eqb b 10 ≡ t → Split l → Split (b ∷ l)
     go true e s = end-line b l (eqb-true b 10 e) s
     go false e s = more-byte b l e (s .lines) (s .rest) (s .lines-plain) (s .rest-plain) (s .whole)
-
--- The state at the end of an input.
-after-last : (s : Day) (ls : List (List ℕ)) (l : List ℕ) → next (after-lines s ls) l ≡ after-lines s (ls ++ (l ∷ []))
-unfolding after-lines
-after-last s [] l = refl
-after-last s (k ∷ ls) l = after-last (next s k) ls l
-
-state-after : (s : Day) (ls : List (List ℕ)) (rest : List ℕ)
-    → finished (record { day = after-lines s ls; pending = take 201 rest; output = [] }) .day
-    ≡ after-lines s (with-rest ls rest)
-unfolding finished
-state-after s ls [] = refl
-state-after s ls (b ∷ l) = cut-next (after-lines s ls) (b ∷ l) ∙ after-last s ls (b ∷ l)
-
-pub state-at-end : (input : List ℕ) (i : Split input) → finished (silent (fed (session-of new-stream) input)) .day
-    ≡ after-lines blank (all-lines i)
-state-at-end input i =
-    let x = session-of new-stream in
-    ap (λ (m : List ℕ). finished (silent (fed x m)) .day) (sym (i .whole))
-    ∙ ap (λ (y : Session). finished (silent y) .day) (fed-lines blank [] (i .lines) (i .rest) (i .lines-plain)
-    (i .rest-plain))
-    ∙ state-after blank (i .lines) (i .rest)

@@ -1,7 +1,7 @@
 -- What a stream holds after a run over a block, and at the end of input.
 use mathlib.Core.Path.{_≡_, refl, sym, ap, ap₂, _∙_, subst}
 use mathlib.Core.Bool.{Bool, true, false, cond}
-use mathlib.Core.List.{List, [], _∷_, _++_}
+use mathlib.Core.List.{List, [], _∷_, _++_, append-nil}
 use Prim.Native.Nat.{ℕ, min, _+_, _-_, _≤_, _<_}
 use native.Mathlib.Omega.{arith}
 use lib.Dec.{leb}
@@ -15,11 +15,13 @@ use Rattle.campaigns.specs.declared.Head.{Head}
 use Rattle.day.specs.declared.Day.{Day}
 use Rattle.day.specs.Day.{head-of}
 use Rattle.batch.specs.Contracts.{Position}
+use Rattle.reply.specs.Reply.{reply, next}
 use Rattle.reply.specs.Session.{Session, ended, fed, consumed-count}
 use Rattle.reply.proofs.Sessions.{byte-end}
 use Rattle.stream.specs.declared.feed.Stream.{Stream}
 use Rattle.stream.specs.declared.feed.Fed.{Fed}
-use Rattle.stream.specs.Stream.{ended-if, finished, session, session-of, buffered, handed-back, answered-in}
+use Rattle.stream.specs.Input.{after-lines, replies}
+use Rattle.stream.specs.Stream.{finished, session, session-of, buffered, handed-back, answered-in}
 use Rattle.stream.specs.Stream.{stream-at, Feeds, Finishes}
 use Rattle.stream.specs.Contracts.{Processed}
 
@@ -79,17 +81,21 @@ module _ (k : Stream) (l d e : List ℕ) (n : ℕ) (t : Position) (g : List ℕ)
         out-is = front-is (r .put) (r .fits);
       }
 
-finished-none : (x : Session) → x .pending ≡ [] → finished x ≡ x
-unfolding finished
-finished-none x e = ap (λ (l : List ℕ). ended-if l x) e
+finished-none : (s : Day) → finished (record { day = s; pending = []; output = [] })
+    ≡ record { day = s; pending = []; output = [] }
+unfolding finished after-lines replies
+finished-none s = refl
 
 finished-some : (x : Session) → 0 < length (x .pending) → finished x ≡ ended x
-unfolding finished
+unfolding finished after-lines replies
 finished-some x h = go (x .pending) h
   where
-    go : (l : List ℕ) → 0 < length l → ended-if l x ≡ ended x
+    go : (l : List ℕ) → 0 < length l → let y : Session = record { day = x .day; pending = l; output = x .output } in
+        finished y ≡ ended y
     go [] k = absurd (omega arith)
-    go (b ∷ l) k = refl
+    go (b ∷ l) k =
+        ap (λ (w : List ℕ). record { day = next (x .day) (b ∷ l); pending = []; output = x .output ++ w })
+        (append-nil (reply (x .day) (b ∷ l)))
 
 -- The end of input.
 
@@ -124,7 +130,7 @@ module _ (k : Stream) (d : List ℕ) where
       same = ap (λ (i : ℕ). session (k .day) (k .pending) i) none
 
       either : (b : Bool) → cond b (finished (session-of k)) (session-of k) ≡ idle
-      either true = ap finished same ∙ finished-none idle refl
+      either true = ap finished same ∙ finished-none (k .day)
       either false = same
 
       come : cond (leb 16384 (length d)) (finished (session-of k)) (session-of k) ≡ idle

@@ -1,7 +1,7 @@
 -- A block of input and its end: what a stream hands back.
 use mathlib.Core.Path.{_≡_}
 use mathlib.Core.Bool.{cond}
-use mathlib.Core.List.{List, [], _∷_, _++_}
+use mathlib.Core.List.{List, [], _++_}
 use Prim.Native.Nat.{ℕ, _-_}
 use lib.Dec.{leb}
 use lib.ListN.{length, take, drop, replicate}
@@ -9,18 +9,19 @@ use Rattle.lines.specs.Limits.{line-buffer}
 use Rattle.campaigns.specs.declared.Head.{Head}
 use Rattle.day.specs.declared.Day.{Day}
 use Rattle.day.specs.Day.{blank, state-of}
-use Rattle.reply.specs.Session.{Session, reply-room, ended, fed, consumed-count}
+use Rattle.reply.specs.Session.{Session, reply-room, fed, consumed-count}
 use Rattle.stream.specs.declared.feed.Stream.{Stream}
 use Rattle.stream.specs.declared.feed.Fed.{Fed}
 use Rattle.stream.specs.declared.feed.Moved.{Moved}
+use Rattle.stream.specs.Input.{last-line, after-lines, replies}
 
--- At the end of input a line without byte 10 counts if it has bytes.
-abbrev pub ended-if : List ℕ → Session → Session
-ended-if [] x = x
-ended-if (b ∷ l) x = ended x
-
+-- the end of input: what is pending is the last line
 unfoldable pub finished : Session → Session
-finished x = ended-if (x .pending) x
+finished x = record {
+  day = after-lines (x .day) (last-line (x .pending));
+  pending = [];
+  output = x .output ++ replies (x .day) (last-line (x .pending));
+}
 
 -- what a stream begins with: its state, the bytes that it has kept, and no answers yet
 abbrev pub session : Day → (bytes : List ℕ) → (kept : ℕ) → Session

@@ -7,7 +7,7 @@ use Prim.Native.Nat.{ℕ, zero, suc, _<_}
 use native.Mathlib.Omega.{arith}
 use lib.Dec.{leb}
 use lib.ListN.{length, replicate}
-use borrow.Author.Tests.{eq-eqb}
+use borrow.Author.Tests.{eq-eqb, lt-leb}
 use Rattle.campaigns.specs.declared.Head.{Head}
 use Rattle.campaigns.specs.Choice.{Choice}
 use Rattle.campaigns.specs.Choice.Choice.{nobody, plays}
@@ -32,18 +32,21 @@ use Rattle.page.specs.Printing as page
 use Rattle.page.proofs.Promises as pages
 use Rattle.writer.specs.Writing as writer
 use Rattle.writer.proofs.Numbers.{number-and-values}
-use Rattle.reply.specs.Session.{Session, fed, consumed-count}
+use Rattle.reply.specs.Session.{Session, reply-room, fed, consumed-count}
 use Rattle.stream.specs.Stream.{new-stream, finished, session-of, stream-at, stream-of, consumed-bytes, handed-back}
 use Rattle.stream.specs.Stream.{Comes-to, Feeds, Finishes}
-use Rattle.encoding.specs.Encoding.{is-head, head-in, head-words, answer-after, is-form, record-of}
+use Rattle.encoding.specs.Encoding.{no-head, no-stream, no-room, is-head, head-in, head-words, answer-after, is-form}
+use Rattle.encoding.specs.Encoding.{record-of, is-stream}
 use Rattle.encoding.specs.Faithful.{seven}
 use Rattle.encoding.proofs.Faithful.{faithful}
 use Rattle.wezghuli.specs.Library.{Memory, memory, state, outcome, stored, status, memory-after, noon-status}
 use Rattle.wezghuli.specs.Library.{write-status}
-use Rattle.wezghuli.specs.Library.{Lent, stream-in, status-in, come-to, feed-after, finish-after}
+use Rattle.wezghuli.specs.Library.{Lent, stream-in, stream-status, status-in, come-to, feed-after, finish-after}
 use Rattle.wezghuli.specs.Library.{lent-state, page-status}
+use Rattle.wezghuli.specs.Search.{search-status, check-status}
 use Rattle.wezghuli.specs.Promises.{Promises, left-by, statuses, blank-lent, handed-in}
-use Rattle.wezghuli.proofs.Streamed.{has-room}
+use Rattle.wezghuli.proofs.Streamed.{has-room, fed-misused, finish-misused}
+use Rattle.wezghuli.proofs.Kept.{noon-keeps, read-keeps, write-keeps, page-keeps, search-keeps, takings-keeps}
 use Rattle.wezghuli.proofs.Low.{small, Low, low-small}
 use Rattle.wezghuli.proofs.Low.Low.{none, then}
 use Rattle.wezghuli.proofs.Asked.{search-refusal, check-refusal, takings-refusal, search-checked}
@@ -233,6 +236,32 @@ page-small s d =
 page-refusal : (h t n d : List ℕ) → is-head h ≡ true → page-status h t n d < 100
 page-refusal h t n d e = rw e (page-small (lent-state h t n) d)
 
+-- misuse
+call-misuse : (k : Call) (m : Memory) → is-head (m .head) ≡ false → status k m ≡ no-head
+unfolding status
+call-misuse k m e = rw e
+
+search-misuse : (h t n views a u v : List ℕ) → is-head h ≡ false → search-status h t n views a u v ≡ no-head
+unfolding search-status
+search-misuse h t n views a u v e = rw e
+
+check-misuse : (h t n views a u v : List ℕ) → is-head h ≡ false → check-status h t n views a u v ≡ no-head
+unfolding check-status
+check-misuse h t n views a u v e = rw e
+
+stream-misuse : (m : Lent) → is-head (m .head) ≡ false → status-in m ≡ no-head
+unfolding stream-status
+stream-misuse m e = rw e
+
+words-misuse : (m : Lent) → is-head (m .head) ≡ true → is-stream (m .words) ≡ false → status-in m ≡ no-stream
+unfolding stream-status
+words-misuse m e q = rw (e, q)
+
+room-misuse : (m : Lent) → is-head (m .head) ≡ true → is-stream (m .words) ≡ true → length (m .out) < reply-room
+    → status-in m ≡ no-room
+unfolding stream-status
+room-misuse m e q l = rw (e, q, lt-leb reply-room (length (m .out)) l)
+
 pub promises : Promises
 promises = record {
   head-stays = head-stays;
@@ -242,9 +271,27 @@ promises = record {
   from-blank = λ a.
       (faithful .head-is (states.head-of blank), stored-state (record { day = blank; answer = Done }) a);
   refusal-keeps = refusal-keeps;
+  noon-keeps = noon-keeps;
+  read-keeps = read-keeps;
+  write-keeps = write-keeps;
+  feed-keeps = λ l m h. sym (fed-misused m refl h l .1);
+  finish-keeps = λ m h. sym (finish-misused m refl h .1);
+  page-keeps = page-keeps;
+  search-keeps = search-keeps;
+  takings-keeps = takings-keeps;
   stream-from-blank = stream-from-blank;
   feeds = feeds;
   finishes = finishes;
+  call-misuse = call-misuse;
+  noon-misuse = λ h t n e. rw e;
+  write-misuse = λ w d e. rw e;
+  page-misuse = λ h t n d e. rw e;
+  search-misuse = search-misuse;
+  check-misuse = check-misuse;
+  takings-misuse = λ h t n a e. rw e;
+  stream-misuse = stream-misuse;
+  words-misuse = words-misuse;
+  room-misuse = room-misuse;
   call-refusal = call-refusal;
   noon-refusal = noon-refusal;
   read-refusal = λ l. says-small (one-text .says l);

@@ -1,8 +1,8 @@
 -- What the functions promise to a caller, besides their contracts: operations in turn are calls in turn, a refusal and
--- a misuse leave every word, blocks in turn are handed to one stream, the check accepts what the search leaves and its
--- takings are the greatest, and misuse is told apart from every refusal.
+-- a misuse leave all lent memory, blocks in turn are handed to one stream, the check accepts what the search leaves and
+-- its takings are the greatest, and misuse is told apart from every refusal.
 use mathlib.Core.Path.{_≡_}
-use mathlib.Core.Bool.{true}
+use mathlib.Core.Bool.{true, false}
 use mathlib.Core.List.{List, [], _∷_, map}
 use mathlib.Core.Logic.{_⊎_}
 use Prim.Native.Nat.{ℕ, _<_}
@@ -12,14 +12,17 @@ use Rattle.day.specs.Day as states
 use Rattle.day.specs.Calls.{number, Call, call}
 use Rattle.demands.specs.Transcript.{transcript, final}
 use Rattle.lines.specs.Limits.{line-buffer}
+use Rattle.reply.specs.Session.{reply-room}
 use Rattle.stream.specs.declared.feed.Fed.{Fed}
 use Rattle.stream.specs.Stream.{new-stream, Feeds, Finishes}
 use Rattle.optimum.specs.Optimum.{most-of, Best-allotment}
-use Rattle.encoding.specs.Encoding.{no-head, no-fit, is-head, head-words, is-form, stream-words}
+use Rattle.encoding.specs.Encoding.{no-head, no-form, no-stream, no-room, no-fit, is-head, head-words, is-form}
+use Rattle.encoding.specs.Encoding.{is-stream, stream-words}
 use Rattle.encoding.specs.Faithful.{seven}
-use Rattle.wezghuli.specs.Library.{Memory, memory, state, status, memory-after, noon-status, read-status}
-use Rattle.wezghuli.specs.Library.{write-status, Lent, lent, stream-in, status-in, feed-after, finish-after}
-use Rattle.wezghuli.specs.Library.{lent-state, page-status}
+use Rattle.wezghuli.specs.Library.{Memory, memory, state, status, memory-after, noon-status, figures-after}
+use Rattle.wezghuli.specs.Library.{read-status, record-after, write-status, line-after, length-after}
+use Rattle.wezghuli.specs.Library.{Lent, lent, stream-in, status-in, feed-after, finish-after}
+use Rattle.wezghuli.specs.Library.{lent-state, page-status, page-after, page-length-after}
 use Rattle.wezghuli.specs.Search.{search-status, Search-leaves, check-status, takings-status}
 use Rattle.wezghuli.specs.Search.{takings-after}
 
@@ -63,6 +66,21 @@ pub record Promises : Type 0 where
       → (status k (memory (seven a b c d e f g) terms counts answer) ≡ 0 → ⊥)
       → memory-after k (memory (seven a b c d e f g) terms counts answer)
       ≡ memory (seven a b c d e f g) terms counts answer
+  -- so does every other function that has something lent to write to: a status that is not 0 leaves all of it
+  pub noon-keeps : (head terms counts figures : List ℕ) → (noon-status head terms counts ≡ 0 → ⊥)
+      → figures-after head terms counts figures ≡ figures
+  pub read-keeps : (line words : List ℕ) → (read-status line ≡ 0 → ⊥) → record-after line words ≡ words
+  pub write-keeps : (words out written : List ℕ) → (write-status words out ≡ 0 → ⊥)
+      → (line-after words out ≡ out) × (length-after words out written ≡ written)
+  pub feed-keeps : (l : List ℕ) (m : Lent) → (status-in m ≡ 0 → ⊥) → feed-after l m ≡ m
+  pub finish-keeps : (m : Lent) → (status-in m ≡ 0 → ⊥) → finish-after m ≡ m
+  pub page-keeps : (head terms counts out written : List ℕ) → (page-status head terms counts out ≡ 0 → ⊥)
+      → (page-after head terms counts out ≡ out) × (page-length-after head terms counts out written ≡ written)
+  pub search-keeps : (head terms counts views a a' u u' v v' : List ℕ)
+      → (search-status head terms counts views a u v ≡ 0 → ⊥) → Search-leaves head terms counts views a a' u u' v v'
+      → (a' ≡ a) × (u' ≡ u) × (v' ≡ v)
+  pub takings-keeps : (head terms counts a takings : List ℕ) → (takings-status head terms counts a ≡ 0 → ⊥)
+      → takings-after head terms counts a takings ≡ takings
   -- from the blank memory on it is a new stream, and a block and the end of input leave what the stream hands back, so
   -- that `Chunking.Any-chunking` speaks of them
   pub stream-from-blank : (out : List ℕ) → stream-in (blank-lent out) ≡ new-stream
@@ -82,6 +100,22 @@ pub record Promises : Type 0 where
   -- what the check accepts is an allotment that none exceeds
   pub check-best : (head terms counts views a u v : List ℕ) → check-status head terms counts views a u v ≡ 0
       → Best-allotment (lent-state head terms counts) views a
+  -- misuse is told by its status, whatever else is lent: words that are no head, no record, no stream; too little room
+  pub call-misuse : (k : Call) (m : Memory) → is-head (m .head) ≡ false → status k m ≡ no-head
+  pub noon-misuse : (head terms counts : List ℕ) → is-head head ≡ false → noon-status head terms counts ≡ no-head
+  pub write-misuse : (words out : List ℕ) → is-form words ≡ false → write-status words out ≡ no-form
+  pub page-misuse : (head terms counts out : List ℕ) → is-head head ≡ false
+      → page-status head terms counts out ≡ no-head
+  pub search-misuse : (head terms counts views a u v : List ℕ) → is-head head ≡ false
+      → search-status head terms counts views a u v ≡ no-head
+  pub check-misuse : (head terms counts views a u v : List ℕ) → is-head head ≡ false
+      → check-status head terms counts views a u v ≡ no-head
+  pub takings-misuse : (head terms counts a : List ℕ) → is-head head ≡ false
+      → takings-status head terms counts a ≡ no-head
+  pub stream-misuse : (m : Lent) → is-head (m .head) ≡ false → status-in m ≡ no-head
+  pub words-misuse : (m : Lent) → is-head (m .head) ≡ true → is-stream (m .words) ≡ false → status-in m ≡ no-stream
+  pub room-misuse : (m : Lent) → is-head (m .head) ≡ true → is-stream (m .words) ≡ true → length (m .out) < reply-room
+      → status-in m ≡ no-room
   -- no refusal has the status of a misuse, of which the least is `no-head`
   pub call-refusal : (k : Call) (m : Memory) → is-head (m .head) ≡ true → status k m < no-head
   pub noon-refusal : (head terms counts : List ℕ) → is-head head ≡ true → noon-status head terms counts < no-head

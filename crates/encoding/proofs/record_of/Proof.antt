@@ -30,7 +30,7 @@ resume c =
     let six = next f 5 (next f 4 four (low .0 .1)) (low .1) in
     let eight = next f 7 (next f 6 six (r .0 .0 .0 .0 .0 .1)) (r .0 .0 .0 .0 .1) in
     let ten = next f 9 (next f 8 eight (r .0 .0 .0 .1)) (r .0 .0 .1) in
-    simp (last f (s .pre) (next f 11 (next f 10 ten (r .0 .1)) (r .1)), getD-drop)
+    simp (last f 12 (s .pre) (next f 11 (next f 10 ten (r .0 .1)) (r .1)), getD-drop)
 
 pub record-of-spec : {M : Type 1} → statement M
 unfolding record-of forms made

@@ -3,17 +3,17 @@ use Rattle.audit.specs.Contracts.{no-counts-in}
 use Rattle.audit.proofs.Zeros.{or-zero}
 use Rattle.audit.proofs.Loops.{Passed-from, none-passed-from, next-passed-from, all-passed}
 use lib.Dec.{eqb}
-use mathlib.Core.Bool.{Bool, _&&_, and-assoc}
+use mathlib.Core.Bool.{Bool, and-assoc}
 use borrow.Author.Needs.{needs}
 use Rattle.campaigns.specs.declared.Campaign.{Campaign}
-use Rattle.campaigns.specs.Campaign.{campaign-at}
+use Rattle.campaigns.specs.Campaign.{uncounted, campaign-at}
 use native.Mathlib.Omega.{arith}
 use Prim.Native.Nat.{ℕ, _-_}
 use Rattle.audit.proofs.columns.no_counts_in.Statement.{statement}
 use Rattle.audit.proofs.columns.no_counts_in.Tie as tie
 
 abbrev test : (ℕ → Campaign) → ℕ → Bool
-test f i = eqb (f i .plays) 0 && eqb (f i .turns) 0 && eqb (f i .age) 0 && eqb (f i .named) 0
+test f i = uncounted (f i)
 
 abbrev Inv-loop : tie.InvT-loop
 Inv-loop n m terms counts any₀ i₀ any i = Passed-from n m (test (campaign-at terms counts)) (eqb any 0) i
@@ -22,6 +22,7 @@ abbrev μ-loop : tie.MeasureT-loop
 μ-loop n m terms counts any₀ i₀ any i = m - i
 
 loop-again : tie.Need-loop-again Inv-loop μ-loop
+unfolding uncounted
 loop-again c =
     let at-loop = c .before .before .before .before .before in
     next-passed-from (at-loop .loop .inv) (omega arith) (simp (or-zero, and-assoc))

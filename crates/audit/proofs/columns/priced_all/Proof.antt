@@ -1,17 +1,16 @@
 -- The loop keeps: `fit` says whether the prices and budgets of the first i campaigns are within their limits.
 use Rattle.audit.proofs.Loops.{Passed, none-passed, next-passed, all-passed}
-use Rattle.campaigns.specs.Campaign.{price-fits, budget-fits}
-use mathlib.Core.Bool.{Bool, _&&_, and-assoc}
+use mathlib.Core.Bool.{Bool, and-assoc}
 use Rattle.audit.specs.Contracts.{priced-columns}
 use Rattle.campaigns.specs.declared.Campaign.{Campaign}
-use Rattle.campaigns.specs.Campaign.{campaign-at}
+use Rattle.campaigns.specs.Campaign.{priced, campaign-at}
 use native.Mathlib.Omega.{arith}
 use Prim.Native.Nat.{ℕ, _-_}
 use Rattle.audit.proofs.columns.priced_all.Statement.{statement}
 use Rattle.audit.proofs.columns.priced_all.Tie as tie
 
 abbrev test : (ℕ → Campaign) → ℕ → Bool
-test f i = price-fits (f i .price) && budget-fits (f i .price) (f i .budget)
+test f i = priced (f i)
 
 abbrev Inv-loop : tie.InvT-loop
 Inv-loop n terms counts fit₀ i₀ fit i = Passed n (test (campaign-at terms counts)) fit i
@@ -20,6 +19,7 @@ abbrev μ-loop : tie.MeasureT-loop
 μ-loop n terms counts fit₀ i₀ fit i = n - i
 
 loop-again : tie.Need-loop-again Inv-loop μ-loop
+unfolding priced
 loop-again c = next-passed (c .before .before .before .loop .inv) (omega arith) (simp and-assoc)
 
 returns : tie.Need-returns Inv-loop μ-loop

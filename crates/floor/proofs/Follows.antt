@@ -1,8 +1,8 @@
--- What a day keeps between a campaign and its trace, which soundness alone does not give: while it can pay, every view
--- that named it is in a finished turn or in its age. So its turns reach what is due.
+-- What a day keeps between a campaign and what was handed in about it, and soundness alone does not give: while it can
+-- pay, every view that named it is in a finished turn or in its age. So its turns reach what is due.
 use mathlib.Core.Path.{_≡_, refl}
 use mathlib.Core.Bool.{Bool, true, false}
-use Prim.Native.Nat.{ℕ, _+_, _*_, _/_, min, _≤_, _<_}
+use Prim.Native.Nat.{ℕ, _+_, _*_, _≤_, _<_}
 use native.Mathlib.Nat.{div-lt-iff-lt-mul}
 use native.Mathlib.Omega.{arith}
 use lib.Dec.{eqb}
@@ -16,26 +16,26 @@ use Rattle.campaigns.specs.Choice.{role-of}
 use Rattle.campaigns.specs.Campaign.{whole, can-pay, aged, after, fresh}
 use Rattle.campaigns.specs.View.{names, pays, becomes}
 use Rattle.audit.proofs.Totals.{Held}
-use Rattle.noon.specs.Noon.{due}
+use Rattle.noon.specs.Noon.{due-plays, due}
 use Rattle.demands.proofs.Laws.{Steady}
-use Rattle.floor.specs.Floor.{Trace}
 
 -- while a campaign can pay, every view that named it is in a finished turn or in its age
-pub record Follows (pl : Plan) (t : Trace) (c : Campaign) : Type 0 where
-  pub price-is : c .price ≡ t .terms .price
-  pub budget-is : c .budget ≡ t .terms .budget
-  pub named-is : c .named ≡ t .named
-  pub turning : c .plays < whole c → c .named ≤ pl .depth * c .turns + c .age
+abbrev pub Turning : Plan → Campaign → Type 0
+Turning pl c = c .plays < whole c → c .named ≤ pl .depth * c .turns + c .age
 
-pub follows-fresh : (pl : Plan) (x : Terms) → Follows pl (record { terms = x; named = 0 }) (fresh x)
+-- the campaign c has the price and budget x, and n views named it
+pub record Follows (pl : Plan) (x : Terms) (n : ℕ) (c : Campaign) : Type 0 where
+  pub price-is : c .price ≡ x .price
+  pub budget-is : c .budget ≡ x .budget
+  pub named-is : c .named ≡ n
+  pub turning : Turning pl c
+
+pub follows-fresh : (pl : Plan) (x : Terms) → Follows pl x 0 (fresh x)
 follows-fresh pl x = record { price-is = refl; budget-is = refl; named-is = refl; turning = λ _. omega arith }
 
--- the trace with one view more, that names the campaign or not
-abbrev pub noted : Bool → Trace → Trace
-noted m t = record { terms = t .terms; named = t .named + one-if m }
-
-module _ (pl : Plan) (t : Trace) (c : Campaign) (h : Follows pl t c) (young : Steady pl c) where
-  follows-aged : can-pay c ≡ true → (q : Bool) → eqb (c .age + 1) (pl .depth) ≡ q → Follows pl (noted true t) (aged q c)
+-- one view more, that names the campaign or not
+module _ (pl : Plan) (x : Terms) (n : ℕ) (c : Campaign) (h : Follows pl x n c) (young : Steady pl c) where
+  follows-aged : can-pay c ≡ true → (q : Bool) → eqb (c .age + 1) (pl .depth) ≡ q → Follows pl x (n + 1) (aged q c)
   unfolding whole
   follows-aged e true q =
       let m : c .named ≤ pl .depth * c .turns + c .age = h .turning (ltb-true (c .plays) (whole c) e) in
@@ -45,7 +45,7 @@ module _ (pl : Plan) (t : Trace) (c : Campaign) (h : Follows pl t c) (young : St
       let m : c .named ≤ pl .depth * c .turns + c .age = h .turning (ltb-true (c .plays) (whole c) e) in
       record { price-is = h .price-is; budget-is = h .budget-is; named-is = omega arith; turning = λ _. omega arith }
 
-  follows-role : (m b q : Bool) → can-pay c ≡ b → Follows pl (noted m t) (after (pl .depth) (role-of m b q) c)
+  follows-role : (m b q : Bool) → can-pay c ≡ b → Follows pl x (n + one-if m) (after (pl .depth) (role-of m b q) c)
   unfolding whole
   follows-role false b q e =
       record {
@@ -67,18 +67,17 @@ module _ (pl : Plan) (t : Trace) (c : Campaign) (h : Follows pl t c) (young : St
   follows-role true true false e = follows-aged e (eqb (c .age + 1) (pl .depth)) refl
 
   pub follows-view : (w : View) (i : ℕ) (q : Bool)
-      → Follows pl (noted (names w i) t) (becomes pl w i (role-of (names w i) (pays pl w i c) q) c)
+      → Follows pl x (n + one-if (names w i)) (becomes pl w i (role-of (names w i) (pays pl w i c) q) c)
   follows-view w i q = follows-role (names w i) (pays pl w i c) q refl
 
 -- the turns of a campaign reach what is due to it: its whole plays, or the full depths of the views that named it
-pub turns-reach : (pl : Plan) (n : ℕ) (t : Trace) (c : Campaign) → Held pl n c → Follows pl t c
-    → due (pl .depth) c ≤ c .turns
+pub turns-reach : (pl : Plan) (n : ℕ) (c : Campaign) → Held pl n c → Turning pl c → due (pl .depth) c ≤ c .turns
 unfolding due
-turns-reach pl n t c o h = go (can-pay c) refl
+turns-reach pl n c o turning = go (can-pay c) refl
   where
-    go : (e : Bool) → can-pay c ≡ e → min (whole c) (c .named / pl .depth) ≤ c .turns
+    go : (e : Bool) → can-pay c ≡ e → due-plays (pl .depth) (whole c) (c .named) ≤ c .turns
     go true e =
-        let m : c .named ≤ pl .depth * c .turns + c .age = h .turning (ltb-true (c .plays) (whole c) e) in
+        let m : c .named ≤ pl .depth * c .turns + c .age = turning (ltb-true (c .plays) (whole c) e) in
         let u : c .named < (c .turns + 1) * pl .depth = omega (arith, o .young) in
         let pos : 0 < pl .depth = omega (arith, o .young) in
         omega (arith, div-lt-iff-lt-mul pos .1 u)
