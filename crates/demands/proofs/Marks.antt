@@ -1,13 +1,13 @@
--- The paused marks stay what soundness asks: within the campaigns, and none in Filling.
-use mathlib.Core.Path.{_≡_, refl, sym, _∙_}
-use mathlib.Core.Bool.{Bool, true, false, _||_}
+-- The paused marks stay what soundness asks: within the campaigns, and none in Filling; and a call moves one of them.
+use mathlib.Core.Path.{_≡_, refl, ap, sym, _∙_}
+use mathlib.Core.Bool.{Bool, true, false, cond, not, _&&_, _||_}
 use Prim.Native.Nat.{ℕ, _≤_, _<_}
 use native.Mathlib.Nat.{lt-of-lt-of-le}
 use lib.Dec.{eqb}
 use borrow.Author.Tests.{eqb-true}
 use Rattle.finite.proofs.Tests.{both-left, never}
 use Rattle.sets.specs.Set.{member, within, including}
-use Rattle.sets.proofs.Algebra.{including-member}
+use Rattle.sets.proofs.Algebra.{empty-member, including-member, without-member}
 use Rattle.sets.proofs.Bounds.{within-of, within-member, within-without}
 use Rattle.campaigns.specs.declared.Head.{Head}
 use Rattle.campaigns.specs.declared.Phase.{Phase}
@@ -15,6 +15,7 @@ use Rattle.campaigns.specs.declared.Phase.the-variants.{Filling, Running, Close
 use Rattle.campaigns.specs.Phase.{is-filling, is-running}
 use Rattle.audit.specs.Sound.{marks-hold}
 use Rattle.day.specs.Calls.{marked}
+use Rattle.demands.specs.Demands.{Marks-one}
 
 -- a phase that is Running is not Filling
 pub running-not-filling : (p : Phase) → is-running p ≡ true → is-filling p ≡ false
@@ -52,3 +53,24 @@ pub within-marked : (b : Bool) (n i set : ℕ) → within n set ≡ true → i <
 unfolding marked
 within-marked true n i set e l = within-including n set i e l
 within-marked false n i set e l = within-without n set (including 0 i) e
+
+pub marks-one : Marks-one
+unfolding marked
+marks-one true i m j l = including-member m i j l ∙ go (member m j) (eqb j i)
+  where
+    go : (a e : Bool) → (a || e) ≡ cond e true a
+    go true true = refl
+    go true false = refl
+    go false true = refl
+    go false false = refl
+marks-one false i m j l =
+    without-member m (including 0 i) j l
+    ∙ ap (λ (x : Bool). member m j && not x)
+    (including-member 0 i j l ∙ ap (λ (x : Bool). x || eqb j i) (empty-member j))
+    ∙ go (member m j) (eqb j i)
+  where
+    go : (a e : Bool) → (a && not e) ≡ cond e false a
+    go true true = refl
+    go true false = refl
+    go false true = refl
+    go false false = refl

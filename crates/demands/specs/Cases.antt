@@ -114,11 +114,12 @@ cases =
     plan 1 2 gives Done ∷ campaign-of 2 2 gives Done ∷ campaign-of 1 1 gives Done ∷ start-day gives Done ∷
     view 3 gives Played 0 2 ∷ ask-tally 1 gives Tallied 0 1 0 1 ∷ []) ∷
     -- Further limits and orders of questions, which the cases above do not reach.
-    -- the blank state: Closed, without campaigns
+    -- the blank state: Closed, without campaigns; 4 is asked before 5, 6 before 8 and 11 before 13
     answered (
-    campaign-of 1 1 gives Refused 6 ∷ start-day gives Refused 6 ∷ view 0 gives Refused 11 ∷
-    close-day gives Refused 11 ∷ ask-tally 0 gives Refused 15 ∷
+    campaign-of 1 1 gives Refused 6 ∷ campaign-of 0 0 gives Refused 6 ∷ start-day gives Refused 6 ∷
+    view 0 gives Refused 11 ∷ view 32 gives Refused 11 ∷ close-day gives Refused 11 ∷ ask-tally 0 gives Refused 15 ∷
     plan 1 0 gives Refused 4 ∷ plan 1 17 gives Refused 4 ∷ plan 32 16 gives Refused 5 ∷ plan 33 17 gives Refused 3 ∷
+    plan 9 17 gives Refused 4 ∷
     -- request 5: a depth like the budget that gets 9 gets 3
     plan 4_294_967_296 1 gives Refused 3 ∷
     plan 32 1 gives Done ∷ plan 0 0 gives Refused 2 ∷ []) ∷
@@ -129,11 +130,18 @@ cases =
     campaign-of 4_294_967_296 4_294_967_296 gives Refused 8 ∷ campaign-of 1_000_000 2_000_000_000 gives Done ∷
     campaign-of 2 1 gives Refused 9 ∷ campaign-of 1 1 gives Refused 10 ∷ view 1 gives Refused 11 ∷
     start-day gives Done ∷ start-day gives Refused 6 ∷ []) ∷
+    -- 10 sums the budgets, with the cents left over
+    answered (plan 2 2 gives Done ∷ campaign-of 1_000_000 1_999_999_999 gives Done ∷ campaign-of 1 2 gives Refused 10 ∷
+    campaign-of 1 1 gives Done ∷ []) ∷
     -- cents left over stay unspent; spent, the campaign is named on and ages no more
     answered (
     plan 2 2 gives Done ∷ campaign-of 5 9 gives Done ∷ start-day gives Done ∷ view 1 gives Played 0 5 ∷
     view 1 gives Nobody ∷ ask-tally 0 gives Tallied 1 1 0 2 ∷
     close-day gives Closing 5 15 20 ∷ close-day gives Refused 11 ∷ []) ∷
+    -- nor does it age at width 1
+    answered (
+    plan 3 1 gives Done ∷ campaign-of 5 5 gives Done ∷ start-day gives Done ∷ view 1 gives Played 0 5 ∷
+    view 1 gives Nobody ∷ ask-tally 0 gives Tallied 1 1 0 2 ∷ []) ∷
     -- a view of none is accepted and played by nobody, of three where the width is 2 gives 14, and 13 is asked before;
     -- at its end a turn counts in that same view
     answered (
@@ -145,12 +153,15 @@ cases =
     -- a day may start with no campaigns
     answered (plan 2 2 gives Done ∷ start-day gives Done ∷ view 0 gives Nobody ∷ view 1 gives Refused 13 ∷
     close-day gives Closing 0 0 0 ∷ view 0 gives Refused 11 ∷ []) ∷
-    -- a campaign is the 64th, and another gives 7
-    resumed (state Filling 63 0) (campaign-of 1 1 gives Done ∷ campaign-of 1 1 gives Refused 7 ∷ []) ∷
+    -- a campaign is the 64th, and another gives 7, which is asked before 8; 6 is asked before 7
+    resumed (state Filling 63 0) (campaign-of 1 1 gives Done ∷ campaign-of 1 1 gives Refused 7 ∷
+    campaign-of 0 0 gives Refused 7 ∷ start-day gives Done ∷ campaign-of 1 1 gives Refused 6 ∷ []) ∷
     -- a view is the 4,096th, and another gives 12; it is asked before 13; a view of none counts
     resumed (state Running 1 4_095) (view 2 gives Refused 13 ∷ view 1 gives Played 0 1 ∷ view 2 gives Refused 12 ∷
     view 1 gives Refused 12 ∷ []) ∷
     resumed (state Running 1 4_095) (view 0 gives Nobody ∷ view 0 gives Refused 12 ∷ view 1 gives Refused 12 ∷ []) ∷
+    -- 11 is asked before 12 and 13
+    resumed (state (Closed 0) 1 4_096) (view 2 gives Refused 11 ∷ []) ∷
     -- no call of a state with more: 1
     resumed (state Running 1 4_097) (view 0 gives Refused 1 ∷ view 1 gives Refused 1 ∷ close-day gives Refused 1 ∷
     ask-tally 0 gives Refused 1 ∷ []) ∷

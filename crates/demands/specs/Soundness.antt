@@ -113,6 +113,8 @@ soundness-cases =
     -- and its sum is exact: 26,177,825,663,025,000,000 against 8,585,639,624,704,000,000; in 64 bits it wraps below
     refuses (state-holding Running 32 2 2 4_096 (record-of 1_000_000 1_999_000_000 1_999 1_999 0 4_096 ∷
     record-of 1_000_000 1_000_000 0 4_096 0 4_096 ∷ [])) ∷
+    -- no more is asked: the plays may sum to more than the accepted views
+    tallies (state-holding Running 1 2 2 1 (record-of 1 1 1 1 0 1 ∷ record-of 1 1 1 1 0 1 ∷ [])) ∷
     []
 
 abbrev pub Soundness-holds : Type 0

@@ -19,7 +19,8 @@ use Rattle.demands.specs.Transcript.{final}
 use Rattle.demands.specs.Cases.{calls-made, listing, listing-end}
 use Rattle.demands.proofs.Cases.{listing-ends}
 use Rattle.floor.specs.History.Starts.{from-blank, from-opening}
-use Rattle.floor.specs.Moments.{moments, Figures-after, second-day, width-1, pausing-day, Moments, Needs-history}
+use Rattle.floor.specs.Moments.{moments, Figures-after, second-day, width-1, pausing-day, depth-3, Moments}
+use Rattle.floor.specs.Moments.{Needs-history}
 
 behind-listing : {xs : List Noon} → Figures-after listing-end second-day xs
     → Figures-after (final blank (calls-made listing)) second-day xs
@@ -35,6 +36,7 @@ figures-at-noon = record {
       behind-listing (record { starts = from-opening listing-end _ _ refl; figures-are = refl });
   narrow = record { starts = from-blank width-1; figures-are = refl };
   pausing = record { starts = from-blank pausing-day; figures-are = refl };
+  deep = record { starts = from-blank depth-3; figures-are = refl };
 }
 
 pub needs-history : Needs-history

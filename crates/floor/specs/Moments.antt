@@ -43,6 +43,11 @@ abbrev pub pausing-day : List Call
 pausing-day = plan 2 2 ∷ campaign-of 5 10 ∷ campaign-of 3 6 ∷ start-day ∷ view 3 ∷ pause 0 ∷ view 3 ∷ view 3 ∷
     pause 1 ∷ view 3 ∷ resume 0 ∷ view 3 ∷ []
 
+-- a day of depth 3 and width 2, where W is 1, 2, 4, 8 and a turn's share 7: campaign 1 waits to age 2 and plays in the
+-- third view, the first after which a play is due
+abbrev pub depth-3 : List Call
+depth-3 = plan 3 2 ∷ campaign-of 5 10 ∷ campaign-of 1 1 ∷ start-day ∷ view 3 ∷ view 3 ∷ view 3 ∷ []
+
 -- before the first view: no takings, no claim, and no play due
 abbrev pub nothing : Noon
 nothing = Figures 0 0 0
@@ -61,6 +66,8 @@ pub record Moments : Type 0 where
   pub pausing : Figures-after blank pausing-day (
       nothing ∷ nothing ∷ nothing ∷ nothing ∷ Figures 20 18 0 ∷ Figures 20 18 0 ∷ Figures 32 24 9 ∷
       Figures 44 33 9 ∷ Figures 44 33 9 ∷ Figures 44 33 9 ∷ Figures 44 33 9 ∷ Figures 64 48 24 ∷ [])
+  pub deep : Figures-after blank depth-3 (
+      nothing ∷ nothing ∷ nothing ∷ nothing ∷ Figures 40 36 0 ∷ Figures 80 73 0 ∷ Figures 88 77 42 ∷ [])
 
 -- depth 1, width 1, five accepted views: a campaign of price 1 and five plays that each of them named and none played
 abbrev pub unplayed : Day

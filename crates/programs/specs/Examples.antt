@@ -155,20 +155,22 @@ abbrev pub Paused-answered : Type 0
 Paused-answered = Input-answered paused-lines [] paused-answers
 
 -- Numbers by the limits. One of more than 32 bits is read in each number's slot of an input line (request 5), and gets
--- that number's question; twelve digits are read, thirteen are no numeral. Depth 33 gets 3, depth 32 opens.
+-- that number's question; twelve digits are read, thirteen are no numeral in any of these slots. Depth 33 gets 3, depth
+-- 32 opens.
 abbrev pub limit-lines : List (List ℕ)
 limit-lines =
     lines-of
     ("(plan (depth 4294967296) (width 1))" ∷ "(plan (depth 1) (width 4294967296))" ∷ "(plan (depth 33) (width 1))" ∷
     "(plan (depth 32) (width 2))" ∷ "(campaign (price 4294967296) (budget 4294967296))" ∷
     "(campaign (price 1) (budget 4294967296))" ∷ "(campaign (price 1) (budget 999999999999))" ∷
-    "(campaign (price 1) (budget 1000000000000))" ∷ [])
+    "(plan (depth 1000000000000) (width 1))" ∷ "(plan (depth 1) (width 1000000000000))" ∷
+    "(campaign (price 1000000000000) (budget 1))" ∷ "(campaign (price 1) (budget 1000000000000))" ∷ [])
 
 abbrev pub limit-answers : List (List ℕ)
 limit-answers =
     lines-of
     ("(refused 3)" ∷ "(refused 4)" ∷ "(refused 3)" ∷ "(ok)" ∷ "(refused 8)" ∷ "(refused 9)" ∷ "(refused 9)" ∷
-    "(refused 17)" ∷ [])
+    "(refused 17)" ∷ "(refused 17)" ∷ "(refused 17)" ∷ "(refused 17)" ∷ [])
 
 abbrev pub Limits-answered : Type 0
 Limits-answered = Input-answered limit-lines [] limit-answers

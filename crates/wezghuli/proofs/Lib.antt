@@ -3,6 +3,7 @@ pub mod Lines
 pub mod Streamed
 pub mod Low
 pub mod Kept
+pub mod Given
 pub mod Promised
 pub mod Searches
 pub mod Asked

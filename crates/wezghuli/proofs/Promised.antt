@@ -47,6 +47,7 @@ use Rattle.wezghuli.specs.Search.{search-status, check-status}
 use Rattle.wezghuli.specs.Promises.{Promises, left-by, statuses, blank-lent, handed-in}
 use Rattle.wezghuli.proofs.Streamed.{has-room, fed-misused, finish-misused}
 use Rattle.wezghuli.proofs.Kept.{noon-keeps, read-keeps, write-keeps, page-keeps, search-keeps, takings-keeps}
+use Rattle.wezghuli.proofs.Given.{answer-is, noon-is, write-is, page-is, search-beyond}
 use Rattle.wezghuli.proofs.Low.{small, Low, low-small}
 use Rattle.wezghuli.proofs.Low.Low.{none, then}
 use Rattle.wezghuli.proofs.Asked.{search-refusal, check-refusal, takings-refusal, search-checked}
@@ -236,6 +237,10 @@ page-small s d =
 page-refusal : (h t n d : List ℕ) → is-head h ≡ true → page-status h t n d < 100
 page-refusal h t n d e = rw e (page-small (lent-state h t n) d)
 
+blank-words : head-words (states.head-of blank) ≡ seven 2 0 1 1 0 0 0
+unfolding blank
+blank-words = refl
+
 -- misuse
 call-misuse : (k : Call) (m : Memory) → is-head (m .head) ≡ false → status k m ≡ no-head
 unfolding status
@@ -279,6 +284,11 @@ promises = record {
   page-keeps = page-keeps;
   search-keeps = search-keeps;
   takings-keeps = takings-keeps;
+  answer-is = answer-is;
+  noon-is = noon-is;
+  write-is = write-is;
+  page-is = page-is;
+  blank-words = λ a. blank-words;
   stream-from-blank = stream-from-blank;
   feeds = feeds;
   finishes = finishes;
@@ -299,6 +309,7 @@ promises = record {
   page-refusal = page-refusal;
   search-checked = search-checked;
   search-takings = search-takings;
+  search-beyond = search-beyond;
   check-best = check-best;
   search-refusal = search-refusal;
   check-refusal = check-refusal;

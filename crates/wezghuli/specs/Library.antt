@@ -8,7 +8,6 @@ use Rattle.day.specs.declared.Day.{Day}
 use Rattle.day.specs.declared.Outcome.{Outcome}
 use Rattle.day.specs.Day.{state-of}
 use Rattle.day.specs.Calls.{Call, call, number}
-use Rattle.day.specs.Calls.Call.{open-plan, add-campaign, show-view}
 use Rattle.day.specs.Day as states
 use Rattle.noon.specs.declared.Noon.{Noon}
 use Rattle.noon.specs.declared.Noon.the-variants.{Refused, Figures}
@@ -29,16 +28,6 @@ use Rattle.encoding.specs.Encoding.{record-words, no-stream, no-room, is-stream
 use Rattle.reply.specs.Session.{Session, reply-room, fed, consumed-count}
 use Rattle.stream.specs.declared.feed.Stream.{Stream}
 use Rattle.stream.specs.Stream.{finished, session-of, stream-of, stream-at, consumed-bytes, answered-in}
-
--- the calls of numbers
-abbrev pub opening-call : (depth width : ℕ) → Call
-opening-call k d = open-plan (record { depth = k; width = d })
-
-abbrev pub adding-call : (price budget : ℕ) → Call
-adding-call p b = add-campaign (record { price = p; budget = b })
-
-abbrev pub showing : (set : ℕ) → Call
-showing s = show-view (record { set = s })
 
 -- what is lent to an operation
 pub record Memory : Type 0 where

@@ -1,23 +1,28 @@
 -- What the functions promise to a caller, besides their contracts: operations in turn are calls in turn, a refusal and
--- a misuse leave all lent memory, blocks in turn are handed to one stream, the check accepts what the search leaves and
--- its takings are the greatest, and misuse is told apart from every refusal.
+-- a misuse leave all lent memory, what is given is stored, blocks in turn are handed to one stream, the check accepts
+-- what the search leaves and its takings are the greatest, and misuse is told apart from every refusal.
 use mathlib.Core.Path.{_≡_}
 use mathlib.Core.Bool.{true, false}
 use mathlib.Core.List.{List, [], _∷_, map}
 use mathlib.Core.Logic.{_⊎_}
-use Prim.Native.Nat.{ℕ, _<_}
+use Prim.Native.Nat.{ℕ, _≤_, _<_}
 use lib.ListN.{length, getD, take, replicate}
+use Rattle.campaigns.specs.View.{full}
 use Rattle.day.specs.Day.{blank}
 use Rattle.day.specs.Day as states
 use Rattle.day.specs.Calls.{number, Call, call}
+use Rattle.noon.specs.Noon.{floor-figure}
 use Rattle.demands.specs.Transcript.{transcript, final}
 use Rattle.lines.specs.Limits.{line-buffer}
+use Rattle.writer.specs.Writing as writer
+use Rattle.page.specs.Printing as page
 use Rattle.reply.specs.Session.{reply-room}
 use Rattle.stream.specs.declared.feed.Fed.{Fed}
 use Rattle.stream.specs.Stream.{new-stream, Feeds, Finishes}
+use Rattle.allotments.specs.Allotment.{at}
 use Rattle.optimum.specs.Optimum.{most-of, Best-allotment}
 use Rattle.encoding.specs.Encoding.{no-head, no-form, no-stream, no-room, no-fit, is-head, head-words, is-form}
-use Rattle.encoding.specs.Encoding.{is-stream, stream-words}
+use Rattle.encoding.specs.Encoding.{answer-after, record-of, is-stream, stream-words}
 use Rattle.encoding.specs.Faithful.{seven}
 use Rattle.wezghuli.specs.Library.{Memory, memory, state, status, memory-after, noon-status, figures-after}
 use Rattle.wezghuli.specs.Library.{read-status, record-after, write-status, line-after, length-after}
@@ -81,6 +86,23 @@ pub record Promises : Type 0 where
       → (a' ≡ a) × (u' ≡ u) × (v' ≡ v)
   pub takings-keeps : (head terms counts a takings : List ℕ) → (takings-status head terms counts a ≡ 0 → ⊥)
       → takings-after head terms counts a takings ≡ takings
+  -- the answer of a call is stored, and so is what else was asked for: full, claim and the floor's figure; a line or a
+  -- page, and its length
+  pub answer-is : (k : Call) (m : Memory) → is-head (m .head) ≡ true
+      → memory-after k m .answer ≡ answer-after (call (state m) k .answer) (m .answer)
+  pub noon-is : (head terms counts figures : List ℕ) → is-head head ≡ true
+      → let s = lent-state head terms counts in states.sound s ≡ true
+      → figures-after head terms counts figures
+      ≡ full (s .plan) (states.total-takings s) ∷ states.total-claim s ∷ floor-figure s ∷ []
+  pub write-is : (words out written : List ℕ) → is-form words ≡ true → writer.write-question (record-of words) out ≡ 0
+      → (line-after words out ≡ writer.written (record-of words) out)
+      × (length-after words out written ≡ length (writer.line (record-of words)) ∷ [])
+  pub page-is : (head terms counts out written : List ℕ) → is-head head ≡ true
+      → let s = lent-state head terms counts in page.page-question s out ≡ 0
+      → (page-after head terms counts out ≡ page.printed s out)
+      × (page-length-after head terms counts out written ≡ length (page.page-of s) ∷ [])
+  -- the words of the blank state: Closed, takings 0, depth 1, width 1, no campaigns, no views, no marks
+  pub blank-words : (a : List ℕ) → blank-memory a .head ≡ seven 2 0 1 1 0 0 0
   -- from the blank memory on it is a new stream, and a block and the end of input leave what the stream hands back, so
   -- that `Chunking.Any-chunking` speaks of them
   pub stream-from-blank : (out : List ℕ) → stream-in (blank-lent out) ≡ new-stream
@@ -97,6 +119,11 @@ pub record Promises : Type 0 where
       → (takings : List ℕ) → (takings-status head terms counts (take (length views) a') ≡ 0)
       × (takings-after head terms counts (take (length views) a') takings
       ≡ most-of (lent-state head terms counts) views ∷ [])
+  -- entries beyond the views, and beyond the campaigns, keep their values
+  pub search-beyond : (head terms counts views a a' u u' v v' : List ℕ) → is-head head ≡ true
+      → Search-leaves head terms counts views a a' u u' v v' → (j : ℕ)
+      → (length views ≤ j → (at a' j ≡ at a j) × (at v' j ≡ at v j))
+      × (lent-state head terms counts .count ≤ j → at u' j ≡ at u j)
   -- what the check accepts is an allotment that none exceeds
   pub check-best : (head terms counts views a u v : List ℕ) → check-status head terms counts views a u v ≡ 0
       → Best-allotment (lent-state head terms counts) views a

@@ -19,7 +19,8 @@ ghost use Rattle.day.specs.Calls.Call.{start-day, ask-tally, close-day, mark-ca
 ghost use mathlib.Core.Bool.{true, false};
 ghost use Rattle.day.specs.Day.{head-of};
 ghost use Rattle.encoding.specs.Encoding.{head-words, answer-after};
-ghost use Rattle.wezghuli.specs.Library.{opening-call, adding-call, showing, memory, memory-after, status};
+ghost use Rattle.demands.specs.Cases.{plan, campaign-of, view};
+ghost use Rattle.wezghuli.specs.Library.{memory, memory-after, status};
 
 // The blank state: Closed, depth 1, width 1, no campaigns.
 #[no_mangle]
@@ -81,10 +82,10 @@ pub extern "C" fn wezghuli_open<'a>(
     width: u64,
     answer: &'a mut [u64; 5],
 ) -> u64
-    ensures { λ r. ⌜ r ≡ status (opening-call depth width)
+    ensures { λ r. ⌜ r ≡ status (plan depth width)
         (memory (now (head .entry)) (now (terms .entry)) (now (counts .entry)) (now (answer .entry))) ⌝ }
     ensures { λ _. ⌜ memory (now (head .exit)) (now (terms .exit)) (now (counts .exit)) (now (answer .exit))
-        ≡ memory-after (opening-call depth width)
+        ≡ memory-after (plan depth width)
         (memory (now (head .entry)) (now (terms .entry)) (now (counts .entry)) (now (answer .entry))) ⌝ }
 {
     let plan = Plan {
@@ -104,10 +105,10 @@ pub extern "C" fn wezghuli_add<'a>(
     budget: u64,
     answer: &'a mut [u64; 5],
 ) -> u64
-    ensures { λ r. ⌜ r ≡ status (adding-call price budget)
+    ensures { λ r. ⌜ r ≡ status (campaign-of price budget)
         (memory (now (head .entry)) (now (terms .entry)) (now (counts .entry)) (now (answer .entry))) ⌝ }
     ensures { λ _. ⌜ memory (now (head .exit)) (now (terms .exit)) (now (counts .exit)) (now (answer .exit))
-        ≡ memory-after (adding-call price budget)
+        ≡ memory-after (campaign-of price budget)
         (memory (now (head .entry)) (now (terms .entry)) (now (counts .entry)) (now (answer .entry))) ⌝ }
 {
     let added = Terms {
@@ -143,10 +144,10 @@ pub extern "C" fn wezghuli_view<'a>(
     set: u64,
     answer: &'a mut [u64; 5],
 ) -> u64
-    ensures { λ r. ⌜ r ≡ status (showing set)
+    ensures { λ r. ⌜ r ≡ status (view set)
         (memory (now (head .entry)) (now (terms .entry)) (now (counts .entry)) (now (answer .entry))) ⌝ }
     ensures { λ _. ⌜ memory (now (head .exit)) (now (terms .exit)) (now (counts .exit)) (now (answer .exit))
-        ≡ memory-after (showing set)
+        ≡ memory-after (view set)
         (memory (now (head .entry)) (now (terms .entry)) (now (counts .entry)) (now (answer .entry))) ⌝ }
 {
     answer_call(head, terms, counts, Call::Show(View { set: set }), answer)
