@@ -1,16 +1,16 @@
 -- What is promised of every page. The figures of a sound state fit because its limits are below what the columns hold:
 -- a campaign has paid at most its budget, and all have paid at most the budgets' sum.
-use mathlib.Core.Path.{_≡_, refl, sym, ap, _∙_}
+use mathlib.Core.Path.{_≡_, refl, sym, ap, _∙_, subst}
 use mathlib.Core.Bool.{Bool, true, false, cond}
 use mathlib.Core.List.{List, [], _∷_}
-use Prim.Native.Nat.{ℕ, zero, suc, _≤_, _<_}
+use Prim.Native.Nat.{ℕ, zero, suc, _+_, _*_, _≤_, _<_}
 use native.Mathlib.Omega.{arith}
 use lib.Dec.{leb, eqb}
-use lib.ListN.{length}
+use lib.ListN.{length, take, drop}
 use borrow.Author.Tests.{leb-true, eqb-true}
 use Rattle.finite.specs.Finite.{table}
 use Rattle.finite.proofs.Sums.{sum-le}
-use Rattle.finite.proofs.Tables.{length-table}
+use Rattle.finite.proofs.Tables.{getD-table, length-table}
 use Rattle.finite.proofs.Tests.{both-right}
 use Rattle.campaigns.specs.declared.Campaign.{Campaign}
 use Rattle.campaigns.specs.Campaign.{spending, priced, price-fits, budget-fits}
@@ -20,11 +20,13 @@ use Rattle.day.specs.Day.{campaign, total-takings, total-budgets}
 use Rattle.day.specs.Day.{sound}
 use Rattle.day.proofs.State.{Sound, sound-facts, held-at}
 use Rattle.page.specs.declared.Printing.the-variants.{Length, Refusal}
-use Rattle.page.specs.Page.{Row, Row-fits, All-fit, Figures-fit, read-page}
+use Rattle.lines.specs.Form.{bytes}
+use Rattle.page.specs.Page.{Row, Row-fits, All-fit, Figures-fit, line-length, page, figure-in, read-page}
 use Rattle.page.specs.Figures.{page-row, figures}
 use Rattle.page.specs.Printing.{page-of, page-question, printing, number, values, Tells}
-use Rattle.page.specs.Promises.{Promises}
-use Rattle.page.proofs.ReadBack.{page-length, page-back, page-numbers, page-total, page-ended}
+use Rattle.page.specs.Promises.{Line-shows, Page-shows, Promises}
+use Rattle.page.proofs.ReadBack.{no-row, page-length, page-back, page-numbers, page-rows, page-total}
+use Rattle.page.proofs.ReadBack.{page-takings, page-ended}
 
 -- the budget of a priced campaign
 priced-budget : (c : Campaign) → priced c ≡ true → c .budget ≤ 2_000_000_000
@@ -74,6 +76,38 @@ sound-fits s e =
       takings-fit = omega (arith, takings-fit s h);
     }
 
+-- line i of a sound state's page is read as campaign i's
+line-shows : (s : Day) → sound s ≡ true → (i : ℕ) → i < s .count
+    → Line-shows i (campaign s i) (drop (line-length * i) (page-of s))
+unfolding figures
+line-shows s e i l =
+    let f = figures s in
+    let fits = sound-fits s e in
+    let row : ℕ → Row = λ j. page-row (campaign s j) in
+    let n : i < length (f .rows) = omega (arith, length-table (s .count) row, l) in
+    let is = page-rows f fits i n ∙ getD-table (s .count) row no-row i l in
+    record {
+      number-is = page-numbers f fits i n;
+      plays-are = ap (λ (r : Row). r .plays) is;
+      price-is = ap (λ (r : Row). r .price) is;
+      paid-is = ap (λ (r : Row). r .paid) is;
+      named-is = ap (λ (r : Row). r .named) is;
+    }
+
+shows : (s : Day) → sound s ≡ true → Page-shows s (page-of s)
+unfolding figures
+shows s e =
+    let f = figures s in
+    let fits = sound-fits s e in
+    let n : length (f .rows) ≡ s .count = length-table (s .count) (λ i. page-row (campaign s i)) in
+    record {
+      length-is = page-length f fits ∙ ap (λ (k : ℕ). line-length * (k + 1)) n;
+      campaigns-are = line-shows s e;
+      total-is = subst (λ (k : ℕ). take 5 (drop (line-length * k) (page f)) ≡ bytes "total") n (page-total f fits);
+      takings-are =
+          subst (λ (k : ℕ). figure-in 21 34 (drop (line-length * k) (page f)) ≡ f .takings) n (page-takings f fits);
+    }
+
 tells : (s : Day) (d : List ℕ) → Tells s d
 unfolding printing
 tells s d = record { number-is = numbered (eqb q 0) refl; values-are = valued (eqb q 0) }
@@ -92,11 +126,10 @@ tells s d = record { number-is = numbered (eqb q 0) refl; values-are = valued (e
 
 pub promises : Promises
 promises = record {
+  shows = shows;
   none-overflows = sound-fits;
   lines-are = page-length;
   ends-are = page-ended;
-  numbers-are = page-numbers;
-  total-is = page-total;
   reads-back = page-back;
   prints-once = λ f g h k e. sym (page-back f h) ∙ ap read-page e ∙ page-back g k;
   tells = tells;

@@ -1,5 +1,6 @@
--- The figures and the campaign numbers are read back from the bytes of a page, and byte 10 ends each line and stands
--- nowhere else. All go line by line from the front: a line has 41 bytes, and its columns stand at fixed places.
+-- The figures and the campaign numbers are read back from the bytes of a page, those of line i from that line alone, and
+-- byte 10 ends each line and stands nowhere else. All go line by line from the front: a line has 41 bytes, and its
+-- columns stand at fixed places.
 use mathlib.Core.Path.{_≡_, refl, sym, ap, ap₂, _∙_, subst}
 use mathlib.Core.Bool.{Bool, true, false}
 use mathlib.Core.List.{List, [], _∷_, _++_, append-assoc}
@@ -7,7 +8,7 @@ use Prim.Native.Nat.{ℕ, zero, suc, _+_, _*_, _-_, _/_, _%_, _^_, _≤_, _<_}
 use native.Mathlib.Omega.{arith}
 use lib.Dec.{ltb, eqb}
 use lib.ListN.{length, take, drop, getD, length-append, List·getD-append}
-use lib.Seq.{take-at, drop-at, drop-drop, getD-at, getD-append-add}
+use lib.Seq.{take-at, drop-at, drop-cons, drop-drop, getD-at, getD-append-add}
 use borrow.Author.Tests.{ltb-true, ltb-false, eqb-true, eqb-false, eq-eqb, ne-eqb}
 use Rattle.lines.specs.Numeral.{numeral}
 use Rattle.lines.specs.Form.{bytes}
@@ -118,20 +119,19 @@ lines-back i (r ∷ rs) t m k h b =
     ∙ read-back i r i-fits (h .0) (10 ∷ (row-lines (suc i) rs ++ tail)) in
     ap₂ with-row first (ap (read-lines (length rs)) (rows-next i r rs tail i-fits (h .0)) ∙ ih)
 
-numbers-back : (i : ℕ) (rs : List Row) (m : List ℕ) → i + length rs ≤ 10 ^ 3 → All-fit rs → (j : ℕ) → j < length rs
-    → figure-in 1 3 (drop (line-length * j) (row-lines i rs ++ m)) ≡ i + j
-numbers-back i [] m k h j b = absurd (omega arith)
-numbers-back i (r ∷ rs) m k h zero b =
-    let s : i ≡ i + 0 = omega arith in
-    ap (figure-in 1 3) (rows-then i r rs m)
-    ∙ number-back i r (omega arith) (h .0) (10 ∷ (row-lines (suc i) rs ++ m)) ∙ s
-numbers-back i (r ∷ rs) m k h (suc j) b =
+-- from line j on stand the rows from j on
+rows-from : (i : ℕ) (rs : List Row) (m : List ℕ) → i + length rs ≤ 10 ^ 3 → All-fit rs → (j : ℕ) → j ≤ length rs
+    → drop (line-length * j) (row-lines i rs ++ m) ≡ row-lines (i + j) (drop j rs) ++ m
+rows-from i rs m k h zero b = let s : i ≡ i + 0 = omega arith in ap (λ (x : ℕ). row-lines x rs ++ m) s
+rows-from i [] m k h (suc j) b = absurd (omega arith)
+rows-from i (r ∷ rs) m k h (suc j) b =
     let all = row-lines i (r ∷ rs) ++ m in
     let n : line-length * suc j ≡ line-length + line-length * j = omega arith in
-    let after = ap (λ (x : ℕ). drop x all) n ∙ sym (drop-drop (line-length * j) line-length all)
-    ∙ ap (drop (line-length * j)) (rows-next i r rs m (omega arith) (h .0)) in
     let s : suc i + j ≡ i + suc j = omega arith in
-    ap (figure-in 1 3) after ∙ numbers-back (suc i) rs m (omega arith) (h .1) j (omega arith) ∙ s
+    ap (λ (x : ℕ). drop x all) n ∙ sym (drop-drop (line-length * j) line-length all)
+    ∙ ap (drop (line-length * j)) (rows-next i r rs m (omega arith) (h .0))
+    ∙ rows-from (suc i) rs m (omega arith) (h .1) j (omega arith)
+    ∙ ap (λ (x : ℕ). row-lines x (drop j rs) ++ m) s
 
 rows-length : (i : ℕ) (rs : List Row) → i + length rs ≤ 10 ^ 3 → All-fit rs
     → length (row-lines i rs) ≡ line-length * length rs
@@ -163,20 +163,60 @@ page-back f h =
     ap (λ (k : ℕ). read-lines k (page f)) n
     ∙ lines-back 0 (f .rows) (f .takings) (10 ∷ []) (omega (arith, h .few)) (h .rows-fit) (h .takings-fit)
 
-pub page-numbers : (f : Figures) → Figures-fit f → (i : ℕ) → i < length (f .rows)
-    → figure-in 1 3 (drop (line-length * i) (page f)) ≡ i
+-- Line i of a page.
+
+abbrev pub no-row : Row
+no-row = record { plays = 0; price = 0; paid = 0; named = 0 }
+
+fits-at : (rs : List Row) → All-fit rs → (j : ℕ) → j < length rs → Row-fits (getD rs j no-row)
+fits-at [] h j b = absurd (omega arith)
+fits-at (r ∷ rs) h zero b = h .0
+fits-at (r ∷ rs) h (suc j) b = fits-at rs (h .1) j (omega arith)
+
+module _ (f : Figures) (h : Figures-fit f) (i : ℕ) (b : i < length (f .rows)) where
+  i-fits : i < 10 ^ 3
+  i-fits = omega (arith, h .few)
+
+  row-fits : Row-fits (getD (f .rows) i no-row)
+  row-fits = fits-at (f .rows) (h .rows-fit) i b
+
+  -- what follows its 40 characters
+  abbrev behind : List ℕ
+  behind = 10 ∷ (row-lines (suc i) (drop (suc i) (f .rows)) ++ (total-text (f .takings) ++ (10 ∷ [])))
+
+  line-is : drop (line-length * i) (page f) ≡ row-text i (getD (f .rows) i no-row) ++ behind
+  unfolding page
+  line-is =
+      let tail = total-text (f .takings) ++ (10 ∷ []) in
+      let e : 0 + i ≡ i = omega arith in
+      rows-from 0 (f .rows) tail (omega (arith, h .few)) (h .rows-fit) i (omega arith)
+      ∙ ap (λ (x : ℕ). row-lines x (drop i (f .rows)) ++ tail) e
+      ∙ ap (λ (rs : List Row). row-lines i rs ++ tail) (drop-cons (f .rows) i no-row b)
+      ∙ rows-then i (getD (f .rows) i no-row) (drop (suc i) (f .rows)) tail
+
+  pub page-numbers : figure-in 1 3 (drop (line-length * i) (page f)) ≡ i
+  page-numbers = ap (figure-in 1 3) line-is ∙ number-back i (getD (f .rows) i no-row) i-fits row-fits behind
+
+  pub page-rows : read-row (drop (line-length * i) (page f)) ≡ getD (f .rows) i no-row
+  page-rows = ap read-row line-is ∙ read-back i (getD (f .rows) i no-row) i-fits row-fits behind
+
+-- The last line of a page.
+
+last-is : (f : Figures) → Figures-fit f
+    → drop (line-length * length (f .rows)) (page f) ≡ total-text (f .takings) ++ (10 ∷ [])
 unfolding page
-page-numbers f h i b =
-    let e : 0 + i ≡ i = omega arith in
-    numbers-back 0 (f .rows) (total-text (f .takings) ++ (10 ∷ [])) (omega (arith, h .few)) (h .rows-fit) i b ∙ e
+last-is f h =
+    drop-at (row-lines 0 (f .rows)) (total-text (f .takings) ++ (10 ∷ [])) (line-length * length (f .rows))
+    (rows-length 0 (f .rows) (omega (arith, h .few)) (h .rows-fit))
 
 pub page-total : (f : Figures) → Figures-fit f
     → take 5 (drop (line-length * length (f .rows)) (page f)) ≡ bytes "total"
-unfolding page total-text
-page-total f h =
-    ap (take 5)
-    (drop-at (row-lines 0 (f .rows)) (total-text (f .takings) ++ (10 ∷ [])) (line-length * length (f .rows))
-    (rows-length 0 (f .rows) (omega (arith, h .few)) (h .rows-fit)))
+unfolding total-text
+page-total f h = ap (take 5) (last-is f h)
+
+pub page-takings : (f : Figures) → Figures-fit f
+    → figure-in 21 34 (drop (line-length * length (f .rows)) (page f)) ≡ f .takings
+page-takings f h = ap (figure-in 21 34) (last-is f h) ∙ total-back (f .takings) (10 ∷ []) (h .takings-fit)
 
 -- Byte 10.
 
