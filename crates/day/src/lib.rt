@@ -13,6 +13,7 @@ use campaigns::View;
 ghost use mathlib.Core.Path.{_≡_};
 ghost use lib.ListN.{replicate};
 ghost use Rattle.day.specs.Day.{state-of, blank};
+ghost use Rattle.day.specs.Calls.{number};
 ghost use Rattle.day.specs.Contracts.{refusing};
 
 // The whole state, for those who hold it by value. The operations take it by its head and its two arrays.
@@ -46,6 +47,34 @@ pub enum Answer {
         claim: u64,
         full: u64,
     },
+}
+
+impl Answer {
+    // The number of the question that failed, or 0 where the call is accepted.
+    pub fn number(self) -> u64
+        ensures { λ r. ⌜ r ≡ number self ⌝ }
+    {
+        match self {
+            Answer::Refused(question) => question,
+            Answer::Done => 0,
+            Answer::Played {
+                campaign: _,
+                paid: _,
+            } => 0,
+            Answer::Nobody => 0,
+            Answer::Tallied {
+                plays: _,
+                turns: _,
+                age: _,
+                named: _,
+            } => 0,
+            Answer::Closing {
+                takings: _,
+                claim: _,
+                full: _,
+            } => 0,
+        }
+    }
 }
 
 // The state handed back, and the answer beside it.

@@ -7,7 +7,6 @@ use lines::Record;
 use lines::slots::LINE_BUFFER;
 ghost use mathlib.Core.Path.{_≡_};
 ghost use mathlib.Core.Bool.{true};
-ghost use Rattle.day.specs.Calls.{number};
 ghost use Rattle.encoding.specs.Encoding.{is-head, phase-of, tag-of, held-by, head-in, head-words};
 ghost use Rattle.encoding.specs.Encoding.{answer-after, is-form, record-of, record-words, is-stream};
 
@@ -195,32 +194,6 @@ pub fn answer_after(answer: Answer, before: [u64; 5]) -> [u64; 5]
             claim,
             full,
         } => [ANSWER_CLOSING, takings, claim, full, 0],
-    }
-}
-
-// The status of an answer: 0, or the number of the question that failed.
-pub fn number_of(answer: Answer) -> u64
-    ensures { λ r. ⌜ r ≡ number answer ⌝ }
-{
-    match answer {
-        Answer::Refused(question) => question,
-        Answer::Done => STATUS_ACCEPTED,
-        Answer::Played {
-            campaign: _,
-            paid: _,
-        } => STATUS_ACCEPTED,
-        Answer::Nobody => STATUS_ACCEPTED,
-        Answer::Tallied {
-            plays: _,
-            turns: _,
-            age: _,
-            named: _,
-        } => STATUS_ACCEPTED,
-        Answer::Closing {
-            takings: _,
-            claim: _,
-            full: _,
-        } => STATUS_ACCEPTED,
     }
 }
 

@@ -10,7 +10,6 @@ ghost use mathlib.Core.Path.{_≡_};
 ghost use mathlib.Core.List.{[], _∷_};
 ghost use Prim.Native.Nat.{_*_, _≤_};
 ghost use Rattle.campaigns.specs.Limits.{max-price};
-ghost use Rattle.day.specs.Calls.{number};
 ghost use Rattle.day.specs.Calls.Call.{open-plan, show-view};
 ghost use Rattle.floor.specs.History.{paid-in};
 ghost use Rattle.replay.specs.Replay.{call-in, Replays};
@@ -20,32 +19,6 @@ ghost use Rattle.replay.specs.Contracts.{at, Replays-to};
 pub struct Replayed {
     pub day: Day,
     pub paid: u64,
-}
-
-// The number of the question that failed, or 0 where the call is accepted.
-fn number(answer: Answer) -> u64
-    ensures { λ r. ⌜ r ≡ number answer ⌝ }
-{
-    match answer {
-        Answer::Refused(question) => question,
-        Answer::Done => 0,
-        Answer::Played {
-            campaign: _,
-            paid: _,
-        } => 0,
-        Answer::Nobody => 0,
-        Answer::Tallied {
-            plays: _,
-            turns: _,
-            age: _,
-            named: _,
-        } => 0,
-        Answer::Closing {
-            takings: _,
-            claim: _,
-            full: _,
-        } => 0,
-    }
 }
 
 // The price paid in an answer, where nobody counts 0.
@@ -77,7 +50,7 @@ fn open(day: Day, paid: u64, plan: Plan) -> Replayed
 {
     let outcome = day.open(plan);
     let answer = outcome.answer;
-    if number(answer) == 0 {
+    if answer.number() == 0 {
         return keep(outcome, 0);
     }
     keep(outcome, paid)

@@ -10,7 +10,6 @@ use encoding::answer_after;
 use encoding::head_of;
 use encoding::head_words;
 use encoding::is_head;
-use encoding::number_of;
 ghost use mathlib.Core.Path.{_≡_};
 ghost use Rattle.day.specs.Day.{blank};
 ghost use Rattle.day.specs.Calls.{number};
@@ -48,7 +47,7 @@ fn store<'a>(step: Step, head: &'a mut [u64; 7], answer: &'a mut [u64; 5]) -> u6
     let before = *answer;
     *head = head_words(next);
     *answer = answer_after(given, before);
-    number_of(given)
+    given.number()
 }
 
 // A call of the state in lent memory, its outcome stored there; words that are no head leave everything as it was.
