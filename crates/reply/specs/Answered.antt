@@ -1,23 +1,26 @@
--- Every line is answered, whatever it is and whatever the state: by lines of output forms with numbers in their ranges,
--- which read back as the records that the answer is, and show its values. Input forms make calls that are handed their
--- numbers, output forms get 17.
+-- Every line is answered, whatever it is and whatever the state: as its call is, or by the refusal of its reading; by
+-- lines of output forms with numbers in their ranges, which read back as the records that the answer is, begin with its
+-- word and show its values. Input forms make the calls that their words name and hand them their numbers, output forms
+-- get 17.
 use mathlib.Core.Path.{_≡_}
-use mathlib.Core.Bool.{true, false, cond}
+use mathlib.Core.Bool.{true, false}
 use mathlib.Core.List.{List, [], _∷_}
 use Prim.Native.Nat.{ℕ, suc, _≤_, _<_}
-use lib.ListN.{length, drop, getD}
+use lib.ListN.{length, take, drop, getD}
 use Rattle.lines.specs.declared.Record.{Record}
 use Rattle.lines.specs.declared.Record.the-variants.{Done, Tally}
-use Rattle.lines.specs.declared.Reading.the-variants.{Got}
+use Rattle.lines.specs.declared.Reading.the-variants.{Got, Refusal}
 use Rattle.lines.specs.Limits.{max-question}
-use Rattle.lines.specs.Form.{numbers, is-output, in-range}
+use Rattle.lines.specs.Form.{bytes, numbers, is-output, text, in-range}
 use Rattle.lines.specs.Reading.{reading}
-use Rattle.day.specs.declared.Answer.the-variants.{Refused as refusing}
+use Rattle.day.specs.declared.Answer.{Answer}
+use Rattle.day.specs.declared.Answer.the-variants.{Refused as refusing, Done as done, Played as played}
+use Rattle.day.specs.declared.Answer.the-variants.{Nobody as no-one, Tallied as tallied, Closing as closing}
 use Rattle.day.specs.declared.Day.{Day}
 use Rattle.day.specs.Day.{campaign}
-use Rattle.day.specs.Calls.{Call, values}
+use Rattle.day.specs.Calls.{Call, values, refused, call}
 use Rattle.day.specs.Calls.Call.{open-plan, add-campaign, start-day, show-view, ask-tally, close-day, mark-campaign}
-use Rattle.reply.specs.Reply.{request, outcome, is-closing, reply-records, reply, next}
+use Rattle.reply.specs.Reply.{request, request-of, outcome, reply-records, reply, next}
 use Rattle.reply.specs.Reply.Request.{makes, fails}
 use Rattle.reply.specs.Session.{upto, first-line}
 
@@ -33,20 +36,38 @@ abbrev pub Output-lines : List ℕ → List Record → Type 0
 Output-lines w [] = w ≡ []
 Output-lines w (r ∷ rs) = Output-line w r × Output-lines (drop (suc (upto w)) w) rs
 
+-- the text l begins with these bytes
+abbrev pub Begins : (w l : List ℕ) → Type 0
+Begins w l = take (length w) l ≡ w
+
+-- the word that begins the answer; a tally alone is asked for by no line
+abbrev pub answer-word : Answer → List ℕ
+answer-word (refusing q) = bytes "(refused "
+answer-word done = bytes "(ok)"
+answer-word (played i p) = bytes "(play "
+answer-word no-one = bytes "(nobody)"
+answer-word (tallied p t a n) = bytes "(tally "
+answer-word (closing t c f) = bytes "(closed "
+
 pub record Answered (s : Day) (l : List ℕ) : Type 0 where
+  -- a line that makes a call hands back what the call does; one that is not read, its number and the unchanged state
+  pub call-is : (c : Call) → request-of (reading l) ≡ makes c → outcome s l ≡ call s c
+  pub unread : (q : ℕ) → reading l ≡ Refusal q → outcome s l ≡ refused s q
+  -- every refusal leaves the state; its number runs from 1 to the highest that the papers give
+  pub refusal-is : (q : ℕ) → outcome s l .answer ≡ refusing q → (next s l ≡ s) × (1 ≤ q) × (q ≤ max-question)
   pub lines-are : Output-lines (reply s l) (reply-records (outcome s l))
-  -- one line, and on an accepted closing one more for each campaign
-  pub count-is : length (reply-records (outcome s l))
-      ≡ suc (cond (is-closing (outcome s l .answer)) (next s l .count) 0)
+  pub word-is : Begins (answer-word (outcome s l .answer)) (reply s l)
   -- the first shows the answer's values: a refusal's number, the player and the price, or takings, claim and full
   pub values-are : numbers (getD (reply-records (outcome s l)) 0 Done) ≡ values (outcome s l .answer)
-  -- the others are the tallies, in number order
-  pub tallies-are : is-closing (outcome s l .answer) ≡ true → (i : ℕ) → i < next s l .count
+  -- it is the only line, but on an accepted closing there is one more for each campaign
+  pub one-line : ((t c f : ℕ) → outcome s l .answer ≡ closing t c f → ⊥) → length (reply-records (outcome s l)) ≡ 1
+  pub count-is : (t c f : ℕ) → outcome s l .answer ≡ closing t c f
+      → length (reply-records (outcome s l)) ≡ suc (next s l .count)
+  -- its tally, in number order
+  pub tallies-are : (t c f : ℕ) → outcome s l .answer ≡ closing t c f → (i : ℕ) → i < next s l .count
       → getD (reply-records (outcome s l)) (suc i) Done
       ≡ Tally i (campaign (next s l) i .plays) (campaign (next s l) i .turns) (campaign (next s l) i .age)
       (campaign (next s l) i .named)
-  -- a refusal number runs from 1 to the highest that the papers give
-  pub refusal-is : (q : ℕ) → outcome s l .answer ≡ refusing q → (1 ≤ q) × (q ≤ max-question)
 
 abbrev pub Answers-each : Type 0
 Answers-each = (s : Day) (l : List ℕ) → Answered s l
@@ -65,7 +86,19 @@ call-numbers (ask-tally i) = i ∷ []
 call-numbers close-day = []
 call-numbers (mark-campaign b i) = i ∷ []
 
--- each of the seven input forms makes a call, and hands it the numbers that stand in the line
+-- the word that begins a line which makes it; no line asks for one tally
+abbrev pub call-word : Call → List ℕ
+call-word (open-plan pl) = bytes "(plan "
+call-word (add-campaign t) = bytes "(campaign "
+call-word start-day = bytes "(start)"
+call-word (show-view w) = bytes "(view"
+call-word (ask-tally i) = bytes "(tally "
+call-word close-day = bytes "(close)"
+call-word (mark-campaign true i) = bytes "(pause "
+call-word (mark-campaign false i) = bytes "(resume "
+
+-- each of the seven input forms makes the call that its word names, and hands it the numbers that stand in the line
 abbrev pub Input-calls : Type 0
 Input-calls =
-    (r : Record) → is-output r ≡ false → (c : Call) × (request r ≡ makes c) × (call-numbers c ≡ numbers r)
+    (r : Record) → is-output r ≡ false
+    → (c : Call) × (request r ≡ makes c) × (call-numbers c ≡ numbers r) × Begins (call-word c) (text r)
