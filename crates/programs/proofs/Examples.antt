@@ -36,7 +36,7 @@ use Rattle.stream.specs.Stream.{finished, new-stream, session-of, silent, strea
 use Rattle.stream.specs.Stream.{consumed-bytes, Comes-to, Feeds, Finishes}
 use Rattle.stream.specs.Input.{joined, Plain, All-plain, Split, last-line, after-lines, replies}
 use Rattle.stream.specs.Chunking.{Feeding, In-blocks, stream-after}
-use Rattle.stream.proofs.Chunking.{fed-said, fed-lines, replies-append, any-input, any-chunking}
+use Rattle.stream.proofs.Chunking.{fed-said, fed-lines, replies-append, output-at-end, any-chunking}
 use Rattle.programs.specs.Examples.{in-one, blocks-of, Any-blocks}
 use Rattle.stream.specs.Listing.{lines-of, listing-lines, listing-answers, uneven-lines, uneven-answers}
 use Rattle.programs.specs.Examples.{Handed, first-block, second-block, answers, Day-in-two-blocks, two-lines}
@@ -272,7 +272,7 @@ answered ls rest told p e =
     let q = all-plain (rest ∷ ls) p in
     let i : Split (joined ls rest) =
     record { lines = ls; rest = rest; lines-plain = q .1; rest-plain = q .0; whole = refl } in
-    any-input (joined ls rest) i ∙ e
+    output-at-end (joined ls rest) i ∙ e
 
 pub listing-answered : Listing-answered
 unfolding upto

@@ -16,7 +16,7 @@ use Rattle.reply.specs.Session.{Session, reply-room, fed, consumed-count}
 use Rattle.stream.specs.declared.feed.Fed.{Fed}
 use Rattle.stream.specs.Stream.{finished, session-of, silent, Feeds}
 use Rattle.stream.specs.Input.{after-lines, replies, Split, all-lines}
-use Rattle.stream.proofs.Chunking.{finished-said, front-said, session-next, split, any-input, state-at-end}
+use Rattle.stream.proofs.Chunking.{finished-said, front-said, session-next, split, output-at-end, state-at-end}
 use Rattle.stream.proofs.Parts.{stream-more, said-more, part-fed, part-upto, part-inside, part-further, taken-further}
 use Rattle.programs.proofs.Lines.{lines-keep-the-demands}
 use Rattle.wire.specs.declared.Wire.{Wire}
@@ -225,7 +225,7 @@ module _ {w : Teller} {turns : ℕ} (a : Reached w turns) {l : List ℕ} {v : Te
             q .writes .told-is
             ∙ ap₂ (λ (j : ℕ) (z : Session). counted-on j (finished z .output)) told stream
             ∙ counted-more 0 (x .output) (finished (silent x) .output)
-            ∙ ap (counted-on 0) (sym (finished-said x) ∙ any-input input i ∙ ap (replies blank) every-line);
+            ∙ ap (counted-on 0) (sym (finished-said x) ∙ output-at-end input i ∙ ap (replies blank) every-line);
         all-answered = λ y h. refl;
         demands = lines-keep-the-demands (all-lines i);
       }

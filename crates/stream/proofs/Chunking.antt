@@ -19,7 +19,7 @@ use Rattle.stream.specs.declared.feed.Fed.{Fed}
 use Rattle.stream.specs.Input.{joined, Plain, All-plain, Split, last-line, all-lines, after-lines, replies}
 use Rattle.stream.specs.Stream.{finished, session, new-stream, session-of, silent, Comes-to, Feeds, Finishes}
 use Rattle.stream.specs.Chunking.{Feeding, In-blocks, stream-after, all-written, all-output}
-use Rattle.stream.specs.Chunking.{Any-input, Any-chunking}
+use Rattle.stream.specs.Chunking.{Last-line-counts, Any-input, Any-chunking}
 use Rattle.batch.proofs.Rests.{rest-fed}
 
 abbrev pub with-said : Session → List ℕ → Session
@@ -186,28 +186,42 @@ last-cut s [] = (refl, refl)
 last-cut s (b ∷ l) = (cut-next s (b ∷ l), ap (λ (w : List ℕ). w ++ []) (cut-reply s (b ∷ l)))
 
 -- the session at the end of an input
-at-end : (input : List ℕ) (i : Split input) → finished (fed (session-of new-stream) input)
-    ≡ record { day = after-lines blank (all-lines i); pending = []; output = replies blank (all-lines i) }
-unfolding finished
-at-end input i =
-    let s = after-lines blank (i .lines) in
-    let c = last-cut s (i .rest) in
-    ap (λ (m : List ℕ). finished (fed (session blank [] 0) m)) (sym (i .whole))
-    ∙ ap finished (fed-lines blank [] (i .lines) (i .rest) (i .lines-plain) (i .rest-plain))
-    ∙ ap₂ (λ (x : Day) (w : List ℕ). record { day = x; pending = []; output = w })
-    (c .0 ∙ after-append blank (i .lines) (last-line (i .rest)))
-    (ap (λ (w : List ℕ). replies blank (i .lines) ++ w) (c .1) ∙ replies-append blank (i .lines) (last-line (i .rest)))
-
 pub any-input : Any-input
-any-input input i = ap (λ (y : Session). y .output) (at-end input i)
+unfolding finished
+any-input s input i =
+    let c = last-cut (after-lines s (i .lines)) (i .rest) in
+    ap (λ (m : List ℕ). finished (fed (session s [] 0) m)) (sym (i .whole))
+    ∙ ap finished (fed-lines s [] (i .lines) (i .rest) (i .lines-plain) (i .rest-plain))
+    ∙ ap₂ (λ (x : Day) (w : List ℕ). record { day = x; pending = []; output = w })
+    (c .0 ∙ after-append s (i .lines) (last-line (i .rest)))
+    (ap (λ (w : List ℕ). replies s (i .lines) ++ w) (c .1) ∙ replies-append s (i .lines) (last-line (i .rest)))
+
+-- that of a new stream: its answers, and its state
+pub output-at-end : (input : List ℕ) (i : Split input) → all-output (session-of new-stream) input
+    ≡ replies blank (all-lines i)
+output-at-end input i = ap (λ (y : Session). y .output) (any-input blank input i)
 
 pub state-at-end : (input : List ℕ) (i : Split input) → finished (silent (fed (session-of new-stream) input)) .day
     ≡ after-lines blank (all-lines i)
 unfolding finished
-state-at-end input i = ap (λ (y : Session). y .day) (at-end input i)
+state-at-end input i = ap (λ (y : Session). y .day) (any-input blank input i)
+
+-- the end of input, by what is pending
+ends : (d : Day) (l w : List ℕ) → let x : Session = record { day = d; pending = l; output = w } in
+    (l ≡ [] → finished x ≡ x) × ((l ≡ [] → ⊥) → finished x ≡ fed x (10 ∷ []))
+unfolding finished after-lines replies fed after-byte
+ends d [] w =
+    (λ z. ap (λ (u : List ℕ). record { day = d; pending = []; output = u }) (append-nil w), λ n. absurd (n refl))
+ends d (b ∷ l) w =
+    (λ z. absurd (omega (arith, ap length z)),
+    λ n. ap (λ (u : List ℕ). record { day = next d (b ∷ l); pending = []; output = w ++ u })
+    (append-nil (reply d (b ∷ l))))
+
+pub last-line-counts : Last-line-counts
+last-line-counts x = ends (x .day) (x .pending) (x .output)
 
 pub any-chunking : Any-chunking
-any-chunking input fs t d e r room h i = all-written-is d e r room new-stream input fs t h ∙ any-input input i
+any-chunking input fs t d e r room h i = all-written-is d e r room new-stream input fs t h ∙ output-at-end input i
 
 -- and every input is lines and a rest
 plain-cons : (b : ℕ) (l : List ℕ) → eqb b 10 ≡ false → Plain l → Plain (b ∷ l)

@@ -3,12 +3,13 @@ use mathlib.Core.Path.{_≡_}
 use mathlib.Core.List.{List, [], _∷_, _++_}
 use Prim.Native.Nat.{ℕ, _≤_}
 use lib.ListN.{length, take, drop}
+use Rattle.day.specs.declared.Day.{Day}
 use Rattle.day.specs.Day.{blank}
 use Rattle.reply.specs.Session.{Session, reply-room, fed}
 use Rattle.stream.specs.declared.feed.Stream.{Stream}
 use Rattle.stream.specs.declared.feed.Fed.{Fed}
-use Rattle.stream.specs.Input.{Split, all-lines, replies}
-use Rattle.stream.specs.Stream.{finished, new-stream, session-of, Feeds, Finishes}
+use Rattle.stream.specs.Input.{Split, all-lines, after-lines, replies}
+use Rattle.stream.specs.Stream.{finished, session, new-stream, Feeds, Finishes}
 
 -- one call of `feed`: the bytes handed in, those of the input behind them, the buffer before and after, and what came
 -- back
@@ -38,9 +39,18 @@ all-written (f ∷ fs) = take (f .back .written) (f .after) ++ all-written fs
 abbrev pub all-output : Session → List ℕ → List ℕ
 all-output x l = finished (fed x l) .output
 
--- a new stream answers an input by the answers to its lines, from the blank state on, and nothing else
+-- at the end of input a line that has bytes is answered as if byte 10 followed, and nothing else is
+abbrev pub Last-line-counts : Type 0
+Last-line-counts =
+    (x : Session) → (x .pending ≡ [] → finished x ≡ x) × ((x .pending ≡ [] → ⊥) → finished x ≡ fed x (10 ∷ []))
+
+-- whatever the state, an input is answered by the answers to its lines, and nothing else, and leaves the state after
+-- them
 abbrev pub Any-input : Type 0
-Any-input = (input : List ℕ) (i : Split input) → all-output (session-of new-stream) input ≡ replies blank (all-lines i)
+Any-input =
+    (s : Day) (input : List ℕ) (i : Split input)
+    → finished (fed (session s [] 0) input)
+    ≡ record { day = after-lines s (all-lines i); pending = []; output = replies s (all-lines i) }
 
 -- a new stream that is handed an input in any blocks, each with any room, and then its end, with room for the longest
 -- answer, writes the answers to the lines of the input, from the blank state on, and nothing else
