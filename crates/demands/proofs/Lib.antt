@@ -8,6 +8,7 @@ pub mod SoundCampaign
 pub mod Marks
 pub mod Sound
 pub mod Refusals
+pub mod Door
 pub mod Cases
 pub mod Soundness
 pub mod Demands

@@ -58,7 +58,7 @@ pub record Whole (h : Head) (f : ℕ → Campaign) : Type 0 where
   pub phased : phase-holds (h .phase) (h .accepted) (takings (h .plan) (h .count) f) ≡ true
   pub covered : claims (h .plan) (h .count) f ≤ full (h .plan) (takings (h .plan) (h .count) f)
 
-whole-sound : (s : Day) → Whole (head-of s) (campaign s) → sound s ≡ true
+pub whole-sound : (s : Day) → Whole (head-of s) (campaign s) → sound s ≡ true
 unfolding sound sound-record
 whole-sound s h =
     all-of (sound-tests (head-of s) (campaign s)) (

@@ -2,4 +2,5 @@ pub mod Choice
 pub mod Transcript
 pub mod Cases
 pub mod Soundness
+pub mod Door
 pub mod Demands
