@@ -118,14 +118,14 @@ uncounted-means c =
     let n = eqb (c .named) 0 in
     record {
       holds = λ e.
-        let three = both-left (p && t && a) n e in
-        let two = both-left (p && t) a three in
-        record {
-          no-plays = eqb-true (c .plays) 0 (both-left p t two);
-          no-turns = eqb-true (c .turns) 0 (both-right p t two);
-          no-age = eqb-true (c .age) 0 (both-right (p && t) a three);
-          not-named = eqb-true (c .named) 0 (both-right (p && t && a) n e);
-        };
+          let three = both-left (p && t && a) n e in
+          let two = both-left (p && t) a three in
+          record {
+            no-plays = eqb-true (c .plays) 0 (both-left p t two);
+            no-turns = eqb-true (c .turns) 0 (both-right p t two);
+            no-age = eqb-true (c .age) 0 (both-right (p && t) a three);
+            not-named = eqb-true (c .named) 0 (both-right (p && t && a) n e);
+          };
       passes = λ h. rw (h .no-plays, h .no-turns, h .no-age, h .not-named);
     }
 
@@ -136,14 +136,15 @@ empty-means c =
     let b = eqb (c .budget) 0 in
     record {
       holds = λ e.
-        let pb = both-left (p && b) (uncounted c) e in
-        let h = uncounted-means c .holds (both-right (p && b) (uncounted c) e) in
-        zero (eqb-true (c .price) 0 (both-left p b pb)) (eqb-true (c .budget) 0 (both-right p b pb)) h;
+          let pb = both-left (p && b) (uncounted c) e in
+          let h = uncounted-means c .holds (both-right (p && b) (uncounted c) e) in
+          zero (eqb-true (c .price) 0 (both-left p b pb)) (eqb-true (c .budget) 0 (both-right p b pb)) h;
       passes = λ e. subst⁻¹ (λ (x : Campaign). empty x ≡ true) e zeros;
     }
   where
     zero : c .price ≡ 0 → c .budget ≡ 0 → No-counts c → c ≡ fresh no-terms
     zero x y h = rw (x, y, h .no-plays, h .no-turns, h .no-age, h .not-named)
+
     zeros : empty (fresh no-terms) ≡ true
     zeros = refl
 
@@ -240,10 +241,10 @@ sound-holds s e =
       budgets-fit = subst (λ (b : ℕ). b ≤ 2_000_000_000) (budgets-are s) (h .budgets);
       zero-past = λ i l m. empty-means (campaign s i) .holds (empty-at s h i l m);
       filling-counts = λ z i l.
-        let c = campaign s i in
-        let u : untouched (s .phase) c ≡ true =
-        both-right (priced c && counted (s .plan) (s .accepted) c) (untouched (s .phase) c) (sound-at s h i l) in
-        uncounted-means c .holds (subst (λ (p : Phase). untouched p c ≡ true) z u);
+          let c = campaign s i in
+          let u : untouched (s .phase) c ≡ true =
+          both-right (priced c && counted (s .plan) (s .accepted) c) (untouched (s .phase) c) (sound-at s h i l) in
+          uncounted-means c .holds (subst (λ (p : Phase). untouched p c ≡ true) z u);
       filling-views = phased .0;
       closed-holds = λ t z. phased .1 t z ∙ takings-are s;
       claim-covered =

@@ -9,6 +9,7 @@ pub mod Marks
 pub mod Sound
 pub mod Refusals
 pub mod Door
+pub mod Effects
 pub mod Cases
 pub mod Soundness
 pub mod Demands

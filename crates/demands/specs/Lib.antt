@@ -3,4 +3,5 @@ pub mod Transcript
 pub mod Cases
 pub mod Soundness
 pub mod Door
+pub mod Effects
 pub mod Demands

@@ -212,10 +212,11 @@ ends : (d : Day) (l w : List ℕ) → let x : Session = record { day = d; pendin
 unfolding finished after-lines replies fed after-byte
 ends d [] w =
     (λ z. ap (λ (u : List ℕ). record { day = d; pending = []; output = u }) (append-nil w), λ n. absurd (n refl))
-ends d (b ∷ l) w =
-    (λ z. absurd (omega (arith, ap length z)),
-    λ n. ap (λ (u : List ℕ). record { day = next d (b ∷ l); pending = []; output = w ++ u })
-    (append-nil (reply d (b ∷ l))))
+ends d (b ∷ l) w = (
+  λ z. absurd (omega (arith, ap length z)),
+  λ n. ap (λ (u : List ℕ). record { day = next d (b ∷ l); pending = []; output = w ++ u })
+      (append-nil (reply d (b ∷ l))),
+)
 
 pub last-line-counts : Last-line-counts
 last-line-counts x = ends (x .day) (x .pending) (x .output)
