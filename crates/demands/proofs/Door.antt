@@ -1,7 +1,7 @@
 -- The tests of soundness and of the questions are the propositions of `specs/Door`: each test passes exactly if its
 -- proposition holds, and the first that fails gives the number.
 use mathlib.Core.Path.{_≡_, refl, sym, ap, ap₂, _∙_, subst, subst⁻¹}
-use mathlib.Core.Bool.{Bool, true, false, not, _&&_, _||_}
+use mathlib.Core.Bool.{Bool, true, false, not, cond, _&&_, _||_}
 use mathlib.Core.List.{List, [], _∷_}
 use Prim.Native.Nat.{ℕ, _+_, _*_, _^_, _≤_, _<_}
 use native.Mathlib.Omega.{arith}
@@ -23,16 +23,17 @@ use Rattle.campaigns.specs.Phase.{is-filling, is-running, is-closed, phase-hold
 use Rattle.campaigns.specs.Campaign.{claim, depth-fits, width-fits, power-fits, price-fits, budget-fits, sound-plan}
 use Rattle.campaigns.specs.Campaign.{fresh, priced, counted, uncounted, empty, untouched, whole, sound-campaign}
 use Rattle.campaigns.proofs.Laws.{plays-within, spending-within}
-use Rattle.audit.specs.Sound.{marks-hold}
+use Rattle.audit.specs.Sound.{marks-hold, sound-record, sound-figures, not-sound, audit-of}
 use Rattle.audit.proofs.Totals.{Held}
 use Rattle.questions.specs.Questions.{Question, question, first-failed, width-holds}
 use Rattle.day.specs.declared.Day.{Day}
-use Rattle.day.specs.Day.{head-of, campaign, no-terms, total-takings, total-claim, total-budgets, sound}
+use Rattle.day.specs.Day.{head-of, campaign, no-terms, total-takings, total-claim, total-budgets, sound, audited}
 use Rattle.day.specs.Calls.{Call, questions, own-questions, found}
 use Rattle.day.specs.Calls.Call.{open-plan, add-campaign, start-day, show-view, ask-tally, close-day, mark-campaign}
 use Rattle.day.proofs.State.{Sound, sound-facts, sound-at, held-at, empty-at, filling-is, running-is}
 use Rattle.demands.specs.Door.{Depth-fits, Width-fits, Power-fits, Price-fits, Budget-fits, taken, claimed}
-use Rattle.demands.specs.Door.{Campaign-sound, No-counts, Is-sound, Sound-means, asks, accepts, unpaused}
+use Rattle.demands.specs.Door.{Campaign-sound, No-counts, Is-sound, Sound-means, Always-audited, asks}
+use Rattle.demands.specs.Door.{accepts, unpaused}
 use Rattle.demands.specs.Door.{own-door, Always-asks}
 use Rattle.demands.proofs.SoundCampaign.{campaign-sound}
 use Rattle.demands.proofs.Sound.{whole-sound}
@@ -272,6 +273,20 @@ sound-passes s h = whole-sound s (record {
 
 pub sound-means : Sound-means
 sound-means s = (sound-holds s, sound-passes s)
+
+pub always-audited : Always-audited
+unfolding audited audit-of sound claim share weight
+always-audited s = record {
+  sound-is = go (sound-record (head-of s) (campaign s));
+  budgets-are = λ e. ap (λ (b : Bool). cond b (sound-figures (head-of s) (campaign s)) not-sound .budgets) e;
+  takings-are = λ e. ap (λ (b : Bool). cond b (sound-figures (head-of s) (campaign s)) not-sound .takings) e;
+  claim-is = λ e. ap (λ (b : Bool). cond b (sound-figures (head-of s) (campaign s)) not-sound .claim) e;
+  full-is = λ e. ap (λ (b : Bool). cond b (sound-figures (head-of s) (campaign s)) not-sound .full) e;
+}
+  where
+    go : (b : Bool) → cond b (sound-figures (head-of s) (campaign s)) not-sound .sound ≡ b
+    go true = refl
+    go false = refl
 
 -- The door.
 

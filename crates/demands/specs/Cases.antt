@@ -166,7 +166,7 @@ cases =
     resumed (state Running 1 4_097) (view 0 gives Refused 1 ∷ view 1 gives Refused 1 ∷ close-day gives Refused 1 ∷
     ask-tally 0 gives Refused 1 ∷ []) ∷
     -- Pausing (document 02, request 3).
-    -- it is for Running alone, and that is asked before the number; twice is done twice; closing keeps the marks
+    -- it is for Running alone, and that is asked before the number; twice is done twice; a new plan has no marks
     answered (
     pause 0 gives Refused 11 ∷ plan 2 2 gives Done ∷ campaign-of 3 9 gives Done ∷ pause 0 gives Refused 11 ∷
     resume 9 gives Refused 11 ∷ start-day gives Done ∷ pause 1 gives Refused 15 ∷ resume 64 gives Refused 15 ∷

@@ -11,7 +11,7 @@ use Rattle.campaigns.specs.declared.Phase.the-variants.{Filling, Running, Close
 use Rattle.campaigns.specs.declared.Plan.{Plan}
 use Rattle.campaigns.specs.Campaign.{fresh}
 use Rattle.day.specs.declared.Day.{Day}
-use Rattle.day.specs.Day.{campaign, no-terms, sound}
+use Rattle.day.specs.Day.{campaign, no-terms, sound, audited}
 use Rattle.day.specs.Calls.{number, Call, call}
 use Rattle.day.specs.Calls.Call.{open-plan, add-campaign, start-day, show-view, ask-tally, close-day, mark-campaign}
 
@@ -84,6 +84,17 @@ pub record Is-sound (s : Day) : Type 0 where
 -- question 1 asks for that
 abbrev pub Sound-means : Type 0
 Sound-means = (s : Day) → (sound s ≡ true → Is-sound s) × (Is-sound s → sound s ≡ true)
+
+-- an audit tells whether it is so, and then its figures
+pub record Audit-tells (s : Day) : Type 0 where
+  pub sound-is : audited s .sound ≡ sound s
+  pub budgets-are : sound s ≡ true → audited s .budgets ≡ sum (s .count) (λ i. campaign s i .budget)
+  pub takings-are : sound s ≡ true → audited s .takings ≡ taken s
+  pub claim-is : sound s ≡ true → audited s .claim ≡ claimed (s .plan .depth) (s .plan .width) s
+  pub full-is : sound s ≡ true → audited s .full ≡ s .plan .width ^ s .plan .depth * taken s
+
+abbrev pub Always-audited : Type 0
+Always-audited = (s : Day) → Audit-tells s
 
 -- n is the number that is given where question q asks for P, and the rest is asked behind it
 abbrev pub asks : (q : ℕ) → (P : Type 0) → (rest : ℕ → Type 0) → (n : ℕ) → Type 0

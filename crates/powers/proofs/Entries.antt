@@ -2,14 +2,14 @@
 use mathlib.Core.Path.{_≡_, refl, ap, ap₂, _∙_, subst}
 use mathlib.Core.Bool.{Bool, true, false, cond}
 use mathlib.Core.List.{List, []}
-use Prim.Native.Nat.{ℕ, _+_, _-_, _*_, _^_, _≤_}
+use Prim.Native.Nat.{ℕ, _+_, _-_, _*_, _^_, _≤_, _<_}
 use native.Mathlib.Nat.{le-trans, one-le-pow, lt-irrefl, pow-le-pow-left, pow-le-pow-right, sub-le}
 use native.Mathlib.Omega.{arith}
 use lib.Dec.{leb}
-use lib.ListN.{getD}
-use borrow.Author.Tests.{le-leb}
-use Rattle.finite.proofs.Tables.{getD-table}
-use Rattle.powers.specs.Power.{entry, No-true-entry-is-0, row-of, grid, weight}
+use lib.ListN.{length, getD}
+use borrow.Author.Tests.{le-leb, lt-leb}
+use Rattle.finite.proofs.Tables.{getD-table, length-table}
+use Rattle.powers.specs.Power.{entry, No-true-entry-is-0, row-of, grid, Table-holds, weight}
 
 -- a column of a row, and a place of the table
 pub row-at : (b e : ℕ) → e ≤ 32 → getD (row-of b) e 0 ≡ entry b e
@@ -27,6 +27,25 @@ grid-at b e p q h =
 pub entry-is : (b e : ℕ) → b ^ e ≤ 4_294_967_296 → entry b e ≡ b ^ e
 unfolding entry
 entry-is b e h = rw (le-leb (b ^ e) 4_294_967_296 h)
+
+-- one that is above it is 0
+entry-zero : (b e : ℕ) → 4_294_967_296 < b ^ e → entry b e ≡ 0
+unfolding entry
+entry-zero b e h = rw (lt-leb (b ^ e) 4_294_967_296 h)
+
+row-length : (b : ℕ) → length (row-of b) ≡ 33
+unfolding row-of
+row-length b = length-table 33 (entry b)
+
+pub table-holds : Table-holds
+unfolding grid
+table-holds = record {
+  rows = length-table 16 (λ i. row-of (i + 1));
+  columns = λ w p q.
+      ap length (getD-table 16 (λ i. row-of (i + 1)) [] (w - 1) (omega (arith, p, q))) ∙ row-length (w - 1 + 1);
+  power-is = λ w e p q h l. grid-at w e p q h ∙ entry-is w e l;
+  above = λ w e p q h l. grid-at w e p q h ∙ entry-zero w e l;
+}
 
 pub entry-over : No-true-entry-is-0
 unfolding entry

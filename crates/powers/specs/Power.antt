@@ -1,9 +1,10 @@
 -- Powers as the table holds them, and the weights made of them, at depth k and width d.
 use mathlib.Core.Bool.{false, cond, _&&_}
-use mathlib.Core.List.{List}
+use mathlib.Core.List.{List, []}
 use mathlib.Core.Path.{_≡_}
-use Prim.Native.Nat.{ℕ, _+_, _-_, _*_, _^_, _≤_}
+use Prim.Native.Nat.{ℕ, _+_, _-_, _*_, _^_, _≤_, _<_}
 use lib.Dec.{leb}
+use lib.ListN.{length, getD}
 use Rattle.finite.specs.Finite.{table}
 use Rattle.powers.specs.Limits.{max-depth, max-width, max-power}
 
@@ -23,6 +24,15 @@ row-of base = table (max-depth + 1) (entry base)
 -- one row for each width from 1 to 16
 unfoldable pub grid : List (List ℕ)
 grid = table max-width (λ i. row-of (i + 1))
+
+-- the table has 528 numbers: at each width and exponent the power, or 0 where the power is above 4,294,967,296
+pub record Table-holds : Type 0 where
+  pub rows : length grid ≡ 16
+  pub columns : (width : ℕ) → 1 ≤ width → width ≤ 16 → length (getD grid (width - 1) []) ≡ 33
+  pub power-is : (width exponent : ℕ) → 1 ≤ width → width ≤ 16 → exponent ≤ 32 → width ^ exponent ≤ 4_294_967_296
+      → getD (getD grid (width - 1) []) exponent 0 ≡ width ^ exponent
+  pub above : (width exponent : ℕ) → 1 ≤ width → width ≤ 16 → exponent ≤ 32 → 4_294_967_296 < width ^ exponent
+      → getD (getD grid (width - 1) []) exponent 0 ≡ 0
 
 -- the entry for a width and an exponent, or 0 where the table has none
 unfoldable pub listed : ℕ → ℕ → ℕ
