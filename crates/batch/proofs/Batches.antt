@@ -10,8 +10,9 @@ use borrow.Author.Tests.{eqb-true, eqb-false}
 use Rattle.day.specs.declared.Day.{Day}
 use Rattle.day.specs.Day.{state-of}
 use Rattle.day.specs.Contracts.{Ready}
+use Rattle.lines.specs.Limits.{line-buffer}
 use Rattle.reply.specs.declared.line.Turn.{Turn}
-use Rattle.reply.specs.Session.{Session, upto}
+use Rattle.reply.specs.Session.{Session, reply-room, upto}
 use Rattle.reply.specs.Contracts.{Written}
 use Rattle.batch.specs.Contracts.{Position, line-of, Completed, Progress}
 use Rattle.batch.proofs.Turns.{line-stands}
@@ -39,8 +40,8 @@ pub record Going (l : List ℕ) (p : Position) (g₀ e₀ : List ℕ) (u : Turn)
     (h e : List ℕ) (end : ℕ) : Type 0 where
   pub moves : (x : Session) (d : List ℕ) → Progress x l d p g₀ e₀ → Progress x l d (at-line u t n kept from) h e
   pub ready : Ready (u .sound) (u .head) w t n
-  pub few : kept ≤ 201
-  pub wide : length h ≡ 201
+  pub few : kept ≤ line-buffer
+  pub wide : length h ≡ line-buffer
   pub inside : from ≤ length l
   pub fits : u .at ≤ length e
   pub end-is : end ≡ from + upto (drop from l)
@@ -49,7 +50,7 @@ pub record Going (l : List ℕ) (p : Position) (g₀ e₀ : List ℕ) (u : Turn)
 -- one line more, which ends at the place end
 module _ (l : List ℕ) (p : Position) (g₀ e₀ : List ℕ) (u : Turn) (w t n : List ℕ) (kept from : ℕ) (h e : List ℕ)
     (end : ℕ)
-    (g : Going l p g₀ e₀ u w t n kept from h e end) (inside : end < length l) (room : u .at + 16384 ≤ length e)
+    (g : Going l p g₀ e₀ u w t n kept from h e end) (inside : end < length l) (room : u .at + reply-room ≤ length e)
     (h′ : List ℕ) (m : ℕ) (c : Completed h kept (take (end - from) (drop from l)) h′ m) (r : Turn) (w′ t′ n′ f : List ℕ)
     (a : Written (state-of (u .head) t n) (cond (eqb kept 0) (take (end - from) (drop from l)) (take m h′)) e f (u .at)
     (state-of (r .head) t′ n′) (r .at)) where

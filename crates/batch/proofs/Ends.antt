@@ -6,6 +6,7 @@ use native.Mathlib.Omega.{arith}
 use lib.ListN.{take, drop}
 use Rattle.buffer.specs.Buffer.{Put}
 use Rattle.day.specs.declared.Day.{Day}
+use Rattle.lines.specs.Limits.{line-buffer}
 use Rattle.reply.specs.Reply.{reply, next}
 use Rattle.reply.specs.Contracts.{Written}
 use Rattle.reply.specs.Session.{upto}
@@ -16,7 +17,7 @@ use Rattle.reply.proofs.Sessions.{cut-reply, cut-next}
 pub uncut : (s : Day) (h l : List ℕ) (k : ℕ) {d e : List ℕ} {at to : ℕ} {r : Day} → k ≡ 0 → Written s l d e at r to
     → Written s (line-of h k l) d e at r to
 uncut s h l k {d} {e} {at} {to} {r} z p =
-    let q : line-of h k l ≡ take 201 l = ap (λ (i : ℕ). take 201 (take i h ++ l)) z in
+    let q : line-of h k l ≡ take line-buffer l = ap (λ (i : ℕ). take line-buffer (take i h ++ l)) z in
     record {
       day = p .day ∙ sym (ap (next s) q ∙ cut-next s l);
       put = subst (Put d e at to) (sym (ap (reply s) q ∙ cut-reply s l)) (p .put);

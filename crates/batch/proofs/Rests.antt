@@ -9,7 +9,8 @@ use lib.Dec.{ltb, eqb}
 use lib.ListN.{length, take, drop, getD, set, length-append}
 use lib.Seq.{take-all, take-length, take-suc, take-suc-set, take-append-add, length-take-le, drop-length}
 use borrow.Author.Tests.{lt-leb, ltb-true, ltb-false}
-use Rattle.reply.specs.Session.{Session, longer, fed, consumed-count, upto}
+use Rattle.lines.specs.Limits.{line-buffer}
+use Rattle.reply.specs.Session.{Session, reply-room, longer, fed, consumed-count, upto}
 use Rattle.batch.specs.Contracts.{line-of}
 use Rattle.reply.proofs.Sessions.{plain-fed, consumed-nil, consumed-plain}
 
@@ -23,19 +24,19 @@ upto-le (b ∷ l) = go (eqb b 10) (upto-le l)
     go false h = omega arith
 
 -- a line that does not end
-pub rest-fed : (x : Session) (l : List ℕ) → length (x .pending) ≤ 201 → upto l ≡ length l → fed x l ≡ longer x l
+pub rest-fed : (x : Session) (l : List ℕ) → length (x .pending) ≤ line-buffer → upto l ≡ length l → fed x l ≡ longer x l
 rest-fed x l h e =
     let q : take (upto l) l ≡ l = ap (λ (k : ℕ). take k l) e ∙ take-length l in
     ap (fed x) (sym q) ∙ plain-fed x l h ∙ ap (longer x) q
 
 -- none where there is no room
-pub consumed-stop : (n : ℕ) (x : Session) (l : List ℕ) → n < length (x .output) + 16384 → consumed-count n x l ≡ 0
+pub consumed-stop : (n : ℕ) (x : Session) (l : List ℕ) → n < length (x .output) + reply-room → consumed-count n x l ≡ 0
 unfolding consumed-count
 consumed-stop n x [] h = refl
-consumed-stop n x (b ∷ l) h = rw (lt-leb (length (x .output) + 16384) n h)
+consumed-stop n x (b ∷ l) h = rw (lt-leb (length (x .output) + reply-room) n h)
 
-pub consumed-rest : (n : ℕ) (x : Session) (l : List ℕ) → length (x .pending) ≤ 201 → length (x .output) + 16384 ≤ n
-    → upto l ≡ length l → consumed-count n x l ≡ length l
+pub consumed-rest : (n : ℕ) (x : Session) (l : List ℕ) → length (x .pending) ≤ line-buffer
+    → length (x .output) + reply-room ≤ n → upto l ≡ length l → consumed-count n x l ≡ length l
 consumed-rest n x l h r e =
     let y = longer x (take (upto l) l) in
     omega (
@@ -58,8 +59,8 @@ keep-more h g s k n i p q e =
     ∙ append-assoc (take k h) (take i s) (b ∷ [])
     ∙ ap (λ (l : List ℕ). take k h ++ l) (sym (ap (λ (m : ℕ). take m s) (add-one i) ∙ take-suc s i 0 p))
 
-pub keep-all : (h s : List ℕ) (k i : ℕ) → k ≤ length h → k + i ≤ 201 → i ≤ length s → (i < length s → 201 ≤ k + i)
-    → take k h ++ take i s ≡ line-of h k s
+pub keep-all : (h s : List ℕ) (k i : ℕ) → k ≤ length h → k + i ≤ line-buffer → i ≤ length s
+    → (i < length s → line-buffer ≤ k + i) → take k h ++ take i s ≡ line-of h k s
 keep-all h s k i p q r full = go (ltb i (length s)) refl
   where
     n : length (take k h) ≡ k
@@ -67,10 +68,10 @@ keep-all h s k i p q r full = go (ltb i (length s)) refl
 
     go : (t : Bool) → ltb i (length s) ≡ t → take k h ++ take i s ≡ line-of h k s
     go true e =
-        let f : 201 ≤ k + i = full (ltb-true i (length s) e) in
-        let m : length (take k h) + i ≡ 201 = omega (arith, n) in
+        let f : line-buffer ≤ k + i = full (ltb-true i (length s) e) in
+        let m : length (take k h) + i ≡ line-buffer = omega (arith, n) in
         sym (take-append-add (take k h) s i) ∙ ap (λ (j : ℕ). take j (take k h ++ s)) m
     go false e =
         let f : length s ≤ i = ltb-false i (length s) e in
         ap (λ (l : List ℕ). take k h ++ l) (take-all i s f)
-        ∙ sym (take-all 201 (take k h ++ s) (omega (arith, n, length-append (take k h) s)))
+        ∙ sym (take-all line-buffer (take k h ++ s) (omega (arith, n, length-append (take k h) s)))

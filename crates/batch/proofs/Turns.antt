@@ -7,9 +7,10 @@ use lib.ListN.{length, take, drop, length-take, length-drop}
 use lib.Seq.{take-add, drop-drop}
 use Rattle.buffer.specs.Buffer.{Put}
 use Rattle.day.specs.declared.Day.{Day}
+use Rattle.lines.specs.Limits.{line-buffer}
 use Rattle.reply.specs.Reply.{reply, next}
 use Rattle.buffer.proofs.Puts.{put-then}
-use Rattle.reply.specs.Session.{Session, longer, ended, fed, consumed-count, upto}
+use Rattle.reply.specs.Session.{Session, reply-room, longer, ended, fed, consumed-count, upto}
 use Rattle.batch.specs.Contracts.{Position, line-of, Line, Progress}
 use Rattle.reply.proofs.Sessions.{fed-append, line-fed, consumed-line}
 
@@ -19,19 +20,19 @@ fed-more x l i k = ap (fed x) (take-add i k l) ∙ fed-append x (take i l) (take
 
 -- y stands after the first bytes of l, and m are the bytes behind them
 module _ (x : Session) (l d : List ℕ) (t : Position) (h e : List ℕ) (st : Progress x l d t h e)
-    (room : t .at + 16384 ≤ length d) where
-  pub short : length (fed x (take (t .from) l) .pending) ≤ 201
+    (room : t .at + reply-room ≤ length d) where
+  pub short : length (fed x (take (t .from) l) .pending) ≤ line-buffer
   short = omega (arith, ap length (st .pending), length-take (t .kept) h, st .few)
 
-  pub roomy : length (fed x (take (t .from) l) .output) + 16384 ≤ length d
+  pub roomy : length (fed x (take (t .from) l) .output) + reply-room ≤ length d
   roomy = omega (arith, st .put .next)
 
   -- the line of the turn is the one whose front y holds
-  pub held-line : (w : List ℕ) → line-of h (t .kept) w ≡ take 201 (fed x (take (t .from) l) .pending ++ w)
-  held-line w = ap (λ (u : List ℕ). take 201 (u ++ w)) (st .pending)
+  pub held-line : (w : List ℕ) → line-of h (t .kept) w ≡ take line-buffer (fed x (take (t .from) l) .pending ++ w)
+  held-line w = ap (λ (u : List ℕ). take line-buffer (u ++ w)) (st .pending)
 
 module _ (x : Session) (l d : List ℕ) (t r : Position) (h g e f : List ℕ) (st : Progress x l d t h e)
-    (room : t .at + 16384 ≤ length d) (wide : length g ≡ 201) where
+    (room : t .at + reply-room ≤ length d) (wide : length g ≡ line-buffer) where
   pub line-stands : upto (drop (t .from) l) < length (drop (t .from) l) → Line t h (drop (t .from) l) e f r
       → Progress x l d r g f
   line-stands k p =
@@ -42,7 +43,7 @@ module _ (x : Session) (l d : List ℕ) (t r : Position) (h g e f : List ℕ) (s
       let z : fed x (take (r .from) l) ≡ ended (longer y w) =
       ap (λ (i : ℕ). fed x (take i l)) (p .from) ∙ fed-more x l (t .from) (suc u)
       ∙ line-fed y m (short x l d t h e st room) k in
-      let line : line-of h (t .kept) w ≡ take 201 (y .pending ++ w) = held-line x l d t h e st room w in
+      let line : line-of h (t .kept) w ≡ take line-buffer (y .pending ++ w) = held-line x l d t h e st room w in
       let q : y .output ++ reply (t .day) (line-of h (t .kept) w) ≡ fed x (take (r .from) l) .output =
       ap (λ (s : Day). y .output ++ reply s (line-of h (t .kept) w)) (st .day)
       ∙ ap (λ (v : List ℕ). y .output ++ reply (y .day) v) line ∙ sym (ap (λ (s : Session). s .output) z) in

@@ -100,15 +100,15 @@ answers-grow x l =
     omega (arith, same, length-append (x .output) (fed (silent x) l .output))
 
 -- with room for all answers every byte is taken
-all-consumed : (n : ℕ) (x : Session) (l : List ℕ) → length (fed x l .output) + 16384 ≤ n
+all-consumed : (n : ℕ) (x : Session) (l : List ℕ) → length (fed x l .output) + reply-room ≤ n
     → consumed-count n x l ≡ length l
 unfolding consumed-count fed
 all-consumed n x [] h = refl
 all-consumed n x (b ∷ l) h =
-    rw (le-leb (length (x .output) + 16384) n (omega (arith, h, answers-grow x (b ∷ l))))
+    rw (le-leb (length (x .output) + reply-room) n (omega (arith, h, answers-grow x (b ∷ l))))
     (ap suc (all-consumed n (after-byte x b) l h))
 
-module _ (k : Stream) (l d : List ℕ) (room : length (fed (session-of k) l .output) + 16384 ≤ length d) where
+module _ (k : Stream) (l d : List ℕ) (room : length (fed (session-of k) l .output) + reply-room ≤ length d) where
   abbrev fed-block : Session
   fed-block = fed (session-of k) l
 
@@ -123,12 +123,12 @@ module _ (k : Stream) (l d : List ℕ) (room : length (fed (session-of k) l .out
       (subst (λ (y : Session). Comes-to y (length l) d (answered-in fed-block d) (handed-back fed-block (length l)))
       all (come fed-block (length l) d))
 
-finishes-all : (k : Stream) (d : List ℕ) → 16384 ≤ length d
+finishes-all : (k : Stream) (d : List ℕ) → reply-room ≤ length d
     → Finishes k d (answered-in (finished (session-of k)) d) (handed-back (finished (session-of k)) 0)
 finishes-all k d room =
     let z = finished (session-of k) in
     subst⁻¹ (λ (b : Bool). Comes-to (cond b z (session-of k)) 0 d (answered-in z d) (handed-back z 0))
-    (le-leb 16384 (length d) room) (come z 0 d)
+    (le-leb reply-room (length d) room) (come z 0 d)
 
 -- Any blocks.
 
@@ -158,7 +158,8 @@ answers-add k b m =
     ∙ ap (λ (s : Session). length (y .output) + length (fed s m .output)) (sym (session-kept y))
 
 takes-all : (d : List ℕ) (k : Stream) (bs : List (List ℕ))
-    → length (fed (session-of k) (in-one bs) .output) + 16384 ≤ length d → In-blocks k (in-one bs) (feedings d k bs)
+    → length (fed (session-of k) (in-one bs) .output) + reply-room ≤ length d
+    → In-blocks k (in-one bs) (feedings d k bs)
 takes-all d k [] h = refl
 takes-all d k (b ∷ bs) h =
     let n = stream-of (fed (session-of k) b) in
@@ -175,10 +176,10 @@ any-blocks bs i d room =
     let fs = feedings d new-stream bs in
     let z = finished (session-of (stream-after new-stream fs)) in
     let f = fed-lines blank [] (i .lines) (i .rest) (i .lines-plain) (i .rest-plain) in
-    let all : length (fed (session-of new-stream) (in-one bs) .output) + 16384 ≤ length d =
-    subst (λ (l : List ℕ). length (fed (session-of new-stream) l .output) + 16384 ≤ length d) (i .whole)
-    (subst⁻¹ (λ (y : Session). length (y .output) + 16384 ≤ length d) f room) in
-    let some : 16384 ≤ length d = omega (arith, room) in
+    let all : length (fed (session-of new-stream) (in-one bs) .output) + reply-room ≤ length d =
+    subst (λ (l : List ℕ). length (fed (session-of new-stream) l .output) + reply-room ≤ length d) (i .whole)
+    (subst⁻¹ (λ (y : Session). length (y .output) + reply-room ≤ length d) f room) in
+    let some : reply-room ≤ length d = omega (arith, room) in
     let t = takes-all d new-stream bs all in
     let h = finishes-all (stream-after new-stream fs) d some in
     record {

@@ -8,6 +8,7 @@ use native.Mathlib.Omega.{arith}
 use lib.Dec.{eqb}
 use lib.ListN.{length, take, drop, length-drop, take-append-drop}
 use lib.Seq.{take-add, take-all}
+use Rattle.lines.specs.Limits.{line-buffer}
 use Rattle.reply.specs.Session.{Session, reply-room, fed, upto}
 use Rattle.stream.specs.declared.feed.Stream.{Stream}
 use Rattle.stream.specs.declared.feed.Fed.{Fed}
@@ -36,10 +37,10 @@ pub record Going (k : Stream) (v b : List ℕ) (s : Stream) (w : List ℕ) (from
   pub inside : from ≤ length b
   pub end-is : end ≡ from + upto (drop from b)
   pub end-inside : end ≤ length b
-  pub short : length (session-of s .pending) ≤ 201
+  pub short : length (session-of s .pending) ≤ line-buffer
   pub took : Took k v (take from b) s w
 
-pub going-begins : (k : Stream) (v b : List ℕ) (end : ℕ) → length (session-of k .pending) ≤ 201
+pub going-begins : (k : Stream) (v b : List ℕ) (end : ℕ) → length (session-of k .pending) ≤ line-buffer
     → end ≡ 0 + upto (drop 0 b) → end ≤ length b → Going k v b k v 0 end
 going-begins k v b end h e l =
     record { inside = omega arith; end-is = e; end-inside = l; short = h; took = took-none k v }

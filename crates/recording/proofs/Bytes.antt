@@ -9,6 +9,7 @@ use lib.Dec.{eqb}
 use lib.ListN.{length, take, length-take}
 use lib.Seq.{take-length, take-suc}
 use borrow.Author.Tests.{eqb-true}
+use Rattle.lines.specs.Limits.{line-buffer}
 use Rattle.reply.specs.Session.{Session, reply-room, longer, ended, after-byte, fed, consumed-count, upto}
 use Rattle.reply.proofs.Sessions.{fed-append, byte-plain, byte-end, consumed-nil, consumed-line, upto-at}
 use Rattle.batch.proofs.Rests.{rest-fed, consumed-rest}
@@ -81,7 +82,7 @@ took-more {k} {o} {q} {v} {w} {u} {l} {m} t s =
           ∙ sym (recorded-append x v l m);
     }
 
-module _ (k : Stream) (v d e : List ℕ) (r : Fed) (short : length (session-of k .pending) ≤ 201)
+module _ (k : Stream) (v d e : List ℕ) (r : Fed) (short : length (session-of k .pending) ≤ line-buffer)
     (room : reply-room ≤ length d) where
   pub took-plain : (l : List ℕ) → upto l ≡ length l → Feeds k l d e r → Took k v l (r .stream) v
   took-plain l p f =
@@ -110,18 +111,18 @@ module _ (k : Stream) (v d e : List ℕ) (r : Fed) (short : length (session-of k
       }
 
 -- no more is pending than tells that a line is too long
-pub short-after : {k m : Stream} {v w l : List ℕ} → length (session-of k .pending) ≤ 201 → upto l ≡ length l
-    → Took k v l m w → length (session-of m .pending) ≤ 201
+pub short-after : {k m : Stream} {v w l : List ℕ} → length (session-of k .pending) ≤ line-buffer → upto l ≡ length l
+    → Took k v l m w → length (session-of m .pending) ≤ line-buffer
 short-after {k} {m} {v} {w} {l} h p t =
     let x = session-of k in
     omega (
       arith,
       ap (λ (y : Session). length (y .pending)) (t .session-is),
       ap (λ (y : Session). length (y .pending)) (rest-fed x l h p),
-      length-take 201 (x .pending ++ l),
+      length-take line-buffer (x .pending ++ l),
     )
 
-pub short-stream : (k : Stream) → length (k .pending) ≡ 201 → length (session-of k .pending) ≤ 201
+pub short-stream : (k : Stream) → length (k .pending) ≡ line-buffer → length (session-of k .pending) ≤ line-buffer
 short-stream k h = omega (arith, length-take (k .kept) (k .pending))
 
 -- a line of the block b from a place on, with its byte 10
@@ -130,7 +131,7 @@ line-is b h = take-suc b (upto b) 0 h ∙ ap (λ (c : ℕ). take (upto b) b ++ (
 
 -- nothing is pending behind a byte 10
 pub ended-short : {k m : Stream} {v w : List ℕ} (l : List ℕ) → Took k v (l ++ (10 ∷ [])) m w
-    → length (session-of m .pending) ≤ 201
+    → length (session-of m .pending) ≤ line-buffer
 unfolding fed after-byte
 ended-short {k} {m} l t =
     let e : length (session-of m .pending) ≡ 0 =

@@ -13,6 +13,7 @@ use lib.Seq.{take-all, take-set-le, take-suc-set, take-append-le, set-out}
 use borrow.Author.Tests.{eq-eqb, leb-true, leb-false, ltb-true, ltb-false}
 use Rattle.sets.specs.Set.{without}
 use Rattle.lines.specs.declared.Reading.{Reading}
+use Rattle.lines.specs.Limits.{line-buffer}
 use Rattle.lines.specs.Reading.{reading}
 use Rattle.campaigns.specs.declared.View.{View}
 use Rattle.campaigns.specs.View.{unmarked}
@@ -178,7 +179,7 @@ noted-last s v (k ∷ ls) l = noted-last (next s k) (noted s k v) ls l
 
 -- Bytes.
 
-cut-noted : (s : Day) (l v : List ℕ) → noted s (take 201 l) v ≡ noted s l v
+cut-noted : (s : Day) (l v : List ℕ) → noted s (take line-buffer l) v ≡ noted s l v
 unfolding noted
 cut-noted s l v =
     ap (λ (r : Reading). set v (s .accepted) (without (shown-in (request-of r)) (s .paused))) (cut-reading l)
@@ -196,7 +197,7 @@ recorded-lines s p v [] rest a e = recorded-plain (record { day = s; pending = [
 recorded-lines s p v (l ∷ ls) rest a e =
     let x : Session = record { day = s; pending = []; output = p } in
     let m = joined ls rest in
-    let q = p ++ reply s (take 201 l) in
+    let q = p ++ reply s (take line-buffer l) in
     recorded-append x v l (10 ∷ m)
     ∙ ap₂ (λ (y : Session) (w : List ℕ). recorded y w (10 ∷ m)) (rest-fed x l (omega arith) (a .0))
     (recorded-plain x v l (a .0))
@@ -220,7 +221,7 @@ take-least k l = go (leb k (length l)) refl
 -- the state and the pending bytes after an input, and what is recorded of it
 module _ (input : List ℕ) (i : Split input) (v : List ℕ) where
   session-is : last-session input
-      ≡ record { day = after-lines blank (i .lines); pending = take 201 (i .rest); output = [] }
+      ≡ record { day = after-lines blank (i .lines); pending = take line-buffer (i .rest); output = [] }
   session-is =
       ap silent (ap (fed (session blank [] 0)) (sym (i .whole))
       ∙ fed-lines blank [] (i .lines) (i .rest) (i .lines-plain) (i .rest-plain))

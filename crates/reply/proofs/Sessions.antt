@@ -10,31 +10,32 @@ use lib.Seq.{take-all, take-suc, drop-cons}
 use borrow.Author.Tests.{le-leb, lt-ltb, leb-true, leb-false, eqb-true, ne-eqb}
 use Rattle.lines.specs.declared.Reading.{Reading}
 use Rattle.lines.specs.declared.Reading.the-variants.{Refusal}
+use Rattle.lines.specs.Limits.{max-line, line-buffer}
 use Rattle.lines.specs.Reading.{reading}
 use Rattle.day.specs.declared.Day.{Day}
 use Rattle.reply.specs.Reply.{request-of, executed, outcome, reply-records, record-lines, reply, next}
-use Rattle.reply.specs.Session.{Session, longer, ended, after-byte, fed, consumed-count, upto}
+use Rattle.reply.specs.Session.{Session, reply-room, longer, ended, after-byte, fed, consumed-count, upto}
 
--- A line cut at 201 bytes reads as the whole line does.
+-- A line cut at `line-buffer` bytes reads as the whole line does.
 
-cut-long : (l : List ℕ) → 200 < length l → reading l ≡ Refusal 16
+cut-long : (l : List ℕ) → max-line < length l → reading l ≡ Refusal 16
 unfolding reading
-cut-long l h = rw (lt-ltb 200 (length l) h)
+cut-long l h = rw (lt-ltb max-line (length l) h)
 
-pub cut-reading : (l : List ℕ) → reading (take 201 l) ≡ reading l
-cut-reading l = go (leb (length l) 201) refl
+pub cut-reading : (l : List ℕ) → reading (take line-buffer l) ≡ reading l
+cut-reading l = go (leb (length l) line-buffer) refl
   where
-    go : (t : Bool) → leb (length l) 201 ≡ t → reading (take 201 l) ≡ reading l
-    go true e = ap reading (take-all 201 l (leb-true (length l) 201 e))
+    go : (t : Bool) → leb (length l) line-buffer ≡ t → reading (take line-buffer l) ≡ reading l
+    go true e = ap reading (take-all line-buffer l (leb-true (length l) line-buffer e))
     go false e =
-        let h : 201 < length l = leb-false (length l) 201 e in
-        cut-long (take 201 l) (omega (arith, length-take 201 l)) ∙ sym (cut-long l (omega arith))
+        let h : line-buffer < length l = leb-false (length l) line-buffer e in
+        cut-long (take line-buffer l) (omega (arith, length-take line-buffer l)) ∙ sym (cut-long l (omega arith))
 
-pub cut-reply : (s : Day) (l : List ℕ) → reply s (take 201 l) ≡ reply s l
+pub cut-reply : (s : Day) (l : List ℕ) → reply s (take line-buffer l) ≡ reply s l
 unfolding reply outcome
 cut-reply s l = ap (λ (r : Reading). record-lines (reply-records (executed s (request-of r)))) (cut-reading l)
 
-pub cut-next : (s : Day) (l : List ℕ) → next s (take 201 l) ≡ next s l
+pub cut-next : (s : Day) (l : List ℕ) → next s (take line-buffer l) ≡ next s l
 unfolding next outcome
 cut-next s l = ap (λ (r : Reading). executed s (request-of r) .day) (cut-reading l)
 
@@ -50,16 +51,16 @@ take-cut zero a b = refl
 take-cut (suc n) [] b = refl
 take-cut (suc n) (x ∷ a) b = ap (λ (l : List ℕ). x ∷ l) (take-cut n a b)
 
-longer-none : (x : Session) → length (x .pending) ≤ 201 → longer x [] ≡ x
+longer-none : (x : Session) → length (x .pending) ≤ line-buffer → longer x [] ≡ x
 longer-none x h = ap (λ (l : List ℕ). record { day = x .day; pending = l; output = x .output })
-    (ap (take 201) (append-nil (x .pending)) ∙ take-all 201 (x .pending) h)
+    (ap (take line-buffer) (append-nil (x .pending)) ∙ take-all line-buffer (x .pending) h)
 
 longer-longer : (x : Session) (a b : List ℕ) → longer (longer x a) b ≡ longer x (a ++ b)
 longer-longer x a b = ap (λ (l : List ℕ). record { day = x .day; pending = l; output = x .output })
-    (take-cut 201 (x .pending ++ a) b ∙ ap (take 201) (append-assoc (x .pending) a b))
+    (take-cut line-buffer (x .pending ++ a) b ∙ ap (take line-buffer) (append-assoc (x .pending) a b))
 
-longer-short : (x : Session) (w : List ℕ) → length (longer x w .pending) ≤ 201
-longer-short x w = omega (arith, length-take 201 (x .pending ++ w))
+longer-short : (x : Session) (w : List ℕ) → length (longer x w .pending) ≤ line-buffer
+longer-short x w = omega (arith, length-take line-buffer (x .pending ++ w))
 
 pub byte-plain : (x : Session) (b : ℕ) → eqb b 10 ≡ false → after-byte x b ≡ longer x (b ∷ [])
 unfolding after-byte
@@ -81,7 +82,7 @@ upto-at (b ∷ l) h = go (eqb b 10) refl h (upto-at l)
     go true e k ih = eqb-true b 10 e
     go false e k ih = ih (omega arith)
 
-pub plain-fed : (x : Session) (l : List ℕ) → length (x .pending) ≤ 201 → fed x (take (upto l) l)
+pub plain-fed : (x : Session) (l : List ℕ) → length (x .pending) ≤ line-buffer → fed x (take (upto l) l)
     ≡ longer x (take (upto l) l)
 unfolding fed upto
 plain-fed x [] h = sym (longer-none x h)
@@ -99,7 +100,7 @@ unfolding fed
 fed-one x b = refl
 
 -- a line that ends
-pub line-fed : (x : Session) (l : List ℕ) → length (x .pending) ≤ 201 → upto l < length l
+pub line-fed : (x : Session) (l : List ℕ) → length (x .pending) ≤ line-buffer → upto l < length l
     → fed x (take (suc (upto l)) l) ≡ ended (longer x (take (upto l) l))
 line-fed x l h k =
     ap (fed x) (take-suc l (upto l) 0 k)
@@ -110,16 +111,17 @@ line-fed x l h k =
 
 -- How many bytes are taken.
 
-consumed-cons : (n : ℕ) (x : Session) (b : ℕ) (l : List ℕ) → length (x .output) + 16384 ≤ n
+consumed-cons : (n : ℕ) (x : Session) (b : ℕ) (l : List ℕ) → length (x .output) + reply-room ≤ n
     → consumed-count n x (b ∷ l) ≡ suc (consumed-count n (after-byte x b) l)
 unfolding consumed-count
-consumed-cons n x b l h = rw (le-leb (length (x .output) + 16384) n h)
+consumed-cons n x b l h = rw (le-leb (length (x .output) + reply-room) n h)
 
 pub consumed-nil : (n : ℕ) (x : Session) → consumed-count n x [] ≡ 0
 unfolding consumed-count
 consumed-nil n x = refl
 
-pub consumed-plain : (n : ℕ) (x : Session) (l : List ℕ) → length (x .pending) ≤ 201 → length (x .output) + 16384 ≤ n
+pub consumed-plain : (n : ℕ) (x : Session) (l : List ℕ) → length (x .pending) ≤ line-buffer
+    → length (x .output) + reply-room ≤ n
     → consumed-count n x l ≡ upto l + consumed-count n (longer x (take (upto l) l)) (drop (upto l) l)
 unfolding upto
 consumed-plain n x [] h r = omega (arith, consumed-nil n x, consumed-nil n (longer x []))
@@ -139,8 +141,8 @@ consumed-plain n x (b ∷ l) h r = go (eqb b 10) refl (consumed-plain n (longer 
           ap (λ (y : Session). consumed-count n y (drop (upto l) l)) (longer-longer x (b ∷ []) (take (upto l) l)),
         )
 
-pub consumed-line : (n : ℕ) (x : Session) (l : List ℕ) → length (x .pending) ≤ 201 → length (x .output) + 16384 ≤ n
-    → upto l < length l
+pub consumed-line : (n : ℕ) (x : Session) (l : List ℕ) → length (x .pending) ≤ line-buffer
+    → length (x .output) + reply-room ≤ n → upto l < length l
     → consumed-count n x l ≡ suc (upto l) + consumed-count n (ended (longer x (take (upto l) l)))
     (drop (suc (upto l)) l)
 consumed-line n x l h r k =

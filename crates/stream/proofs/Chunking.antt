@@ -106,14 +106,14 @@ written-inside {y} {n} {d} h =
     omega (arith, w, e, length-append (y .output) (drop (length (y .output)) d))
 
 -- all that is written, with the end of input, is what the whole input says
-module _ (d e : List ℕ) (r : Fed) (room : 16384 ≤ length d) where
+module _ (d e : List ℕ) (r : Fed) (room : reply-room ≤ length d) where
   all-written-is : (k : Stream) (l : List ℕ) (fs : List Feeding) → In-blocks k l fs → Finishes (stream-after k fs) d e r
       → all-written fs ++ take (r .written) e ≡ all-output (session-of k) l
   unfolding fed
   all-written-is k l [] t h =
       front-said
       (subst (λ (b : Bool). Comes-to (cond b (finished (session-of k)) (session-of k)) 0 d e r)
-      (le-leb 16384 (length d) room) h)
+      (le-leb reply-room (length d) room) h)
       ∙ ap (all-output (session-of k)) (sym t)
   all-written-is k l (f ∷ fs) t h =
       let x = session-of k in
@@ -144,23 +144,23 @@ line-said s p l e =
     fed-append x l (10 ∷ [])
     ∙ ap (λ (y : Session). fed y (10 ∷ [])) (rest-fed x l (omega arith) e)
     ∙ byte-end (longer x l) 10 refl
-    ∙ ap (λ (d : Day). record { day = d; pending = []; output = p ++ reply s (take 201 l) }) (cut-next s l)
+    ∙ ap (λ (d : Day). record { day = d; pending = []; output = p ++ reply s (take line-buffer l) }) (cut-next s l)
     ∙ ap (λ (w : List ℕ). record { day = next s l; pending = []; output = p ++ w }) (cut-reply s l)
 
--- the whole input: each line is answered as the whole line is, and of the rest at most 201 bytes are held
+-- the whole input: each line is answered as the whole line is, and of the rest at most `line-buffer` bytes are held
 pub fed-lines : (s : Day) (p : List ℕ) (ls : List (List ℕ)) (rest : List ℕ) → All-plain ls → Plain rest
     → fed (record { day = s; pending = []; output = p }) (joined ls rest)
-    ≡ record { day = after-lines s ls; pending = take 201 rest; output = p ++ replies s ls }
+    ≡ record { day = after-lines s ls; pending = take line-buffer rest; output = p ++ replies s ls }
 unfolding joined after-lines replies
 fed-lines s p [] rest a e = rest-fed (record { day = s; pending = []; output = p }) rest (omega arith) e
-    ∙ ap (λ (w : List ℕ). record { day = s; pending = take 201 rest; output = w }) (sym (append-nil p))
+    ∙ ap (λ (w : List ℕ). record { day = s; pending = take line-buffer rest; output = w }) (sym (append-nil p))
 fed-lines s p (l ∷ ls) rest a e =
     let x : Session = record { day = s; pending = []; output = p } in
     ap (fed x) (sym (append-assoc l (10 ∷ []) (joined ls rest)))
     ∙ fed-append x (l ++ (10 ∷ [])) (joined ls rest)
     ∙ ap (λ (y : Session). fed y (joined ls rest)) (line-said s p l (a .0))
     ∙ fed-lines (next s l) (p ++ reply s l) ls rest (a .1) e
-    ∙ ap (λ (w : List ℕ). record { day = after-lines (next s l) ls; pending = take 201 rest; output = w })
+    ∙ ap (λ (w : List ℕ). record { day = after-lines (next s l) ls; pending = take line-buffer rest; output = w })
     (append-assoc p (reply s l) (replies (next s l) ls))
 
 -- lines and then lines
@@ -177,10 +177,10 @@ replies-append s (l ∷ ls) ms =
     append-assoc (reply s l) (replies (next s l) ls) (replies (after-lines (next s l) ls) ms)
     ∙ ap (λ (w : List ℕ). reply s l ++ w) (replies-append (next s l) ls ms)
 
--- the end of input: a last line of which at most 201 bytes are held is answered as the whole
+-- the end of input: a last line of which at most `line-buffer` bytes are held is answered as the whole
 last-cut : (s : Day) (rest : List ℕ)
-    → (after-lines s (last-line (take 201 rest)) ≡ after-lines s (last-line rest))
-    × (replies s (last-line (take 201 rest)) ≡ replies s (last-line rest))
+    → (after-lines s (last-line (take line-buffer rest)) ≡ after-lines s (last-line rest))
+    × (replies s (last-line (take line-buffer rest)) ≡ replies s (last-line rest))
 unfolding after-lines replies
 last-cut s [] = (refl, refl)
 last-cut s (b ∷ l) = (cut-next s (b ∷ l), ap (λ (w : List ℕ). w ++ []) (cut-reply s (b ∷ l)))

@@ -11,7 +11,8 @@ use lib.ListN.{length, take, drop, length-drop, drop-of-length-le}
 use lib.Seq.{take-length}
 use Rattle.buffer.specs.Buffer.{Put}
 use Rattle.day.specs.declared.Day.{Day}
-use Rattle.reply.specs.Session.{Session, longer, fed, consumed-count, upto}
+use Rattle.lines.specs.Limits.{line-buffer}
+use Rattle.reply.specs.Session.{Session, reply-room, longer, fed, consumed-count, upto}
 use Rattle.buffer.proofs.Over.{part-is}
 use Rattle.buffer.proofs.Puts.{put-none}
 use Rattle.reply.proofs.Sessions.{consumed-nil}
@@ -23,9 +24,9 @@ use Rattle.stream.specs.Contracts.{Processed}
 
 -- no line ends in what is left, and the n bytes of g are what was pending with it behind
 module _ (x : Session) (l d : List ℕ) (t : Position) (h e : List ℕ) (st : Progress x l d t h e)
-    (room : t .at + 16384 ≤ length d)
-    (none : upto (drop (t .from) l) ≡ length (drop (t .from) l)) (g : List ℕ) (n : ℕ) (few : n ≤ 201)
-    (wide : length g ≡ 201)
+    (room : t .at + reply-room ≤ length d)
+    (none : upto (drop (t .from) l) ≡ length (drop (t .from) l)) (g : List ℕ) (n : ℕ) (few : n ≤ line-buffer)
+    (wide : length g ≡ line-buffer)
     (kept : take n g ≡ line-of h (t .kept) (take (length l - t .from) (drop (t .from) l))) where
   pub rest-stands : Progress x l d (record { day = t .day; kept = n; from = length l; at = t .at }) g e
   rest-stands =
@@ -59,7 +60,7 @@ module _ (x : Session) (l d : List ℕ) (t : Position) (h e : List ℕ) (st : Pr
 
 module _ (s : Day) (h : List ℕ) (kept : ℕ) (l d : List ℕ) where
   -- before the first turn
-  pub stands-first : kept ≤ 201 → length h ≡ 201 → Progress (session s h kept) l d
+  pub stands-first : kept ≤ line-buffer → length h ≡ line-buffer → Progress (session s h kept) l d
       (record { day = s; kept = kept; from = 0; at = 0 }) h d
   unfolding fed
   stands-first few wide = record {
@@ -95,7 +96,7 @@ module _ (x : Session) (l d : List ℕ) (t : Position) (h e : List ℕ) (st : Pr
         consumed-nil (length d) (fed x (take (t .from) l)),
       ))
 
-  runs-full : length d < t .at + 16384 → Processed x l d e t h
+  runs-full : length d < t .at + reply-room → Processed x l d e t h
   runs-full k =
       runs (omega (
         arith,
@@ -104,10 +105,10 @@ module _ (x : Session) (l d : List ℕ) (t : Position) (h e : List ℕ) (st : Pr
             (omega (arith, st .put .next)),
       ))
 
-  pub runs-ended : (eqb (t .from) (length l) || ltb (length e - t .at) 16384) ≡ true → Processed x l d e t h
+  pub runs-ended : (eqb (t .from) (length l) || ltb (length e - t .at) reply-room) ≡ true → Processed x l d e t h
   runs-ended q = go (eqb (t .from) (length l)) refl q
     where
-      go : (b : Bool) → eqb (t .from) (length l) ≡ b → (b || ltb (length e - t .at) 16384) ≡ true
+      go : (b : Bool) → eqb (t .from) (length l) ≡ b → (b || ltb (length e - t .at) reply-room) ≡ true
           → Processed x l d e t h
       go true p r = runs-through (omega (arith, eqb-true (t .from) (length l) p))
-      go false p r = runs-full (omega (arith, ltb-true (length e - t .at) 16384 r, st .put .same, st .fits))
+      go false p r = runs-full (omega (arith, ltb-true (length e - t .at) reply-room r, st .put .same, st .fits))

@@ -16,7 +16,7 @@ use Rattle.day.specs.declared.Day.{Day}
 use Rattle.day.specs.Day.{head-of}
 use Rattle.batch.specs.Contracts.{Position}
 use Rattle.reply.specs.Reply.{reply, next}
-use Rattle.reply.specs.Session.{Session, ended, fed, consumed-count}
+use Rattle.reply.specs.Session.{Session, reply-room, ended, fed, consumed-count}
 use Rattle.reply.proofs.Sessions.{byte-end}
 use Rattle.stream.specs.declared.feed.Stream.{Stream}
 use Rattle.stream.specs.declared.feed.Fed.{Fed}
@@ -25,19 +25,19 @@ use Rattle.stream.specs.Stream.{finished, session, session-of, buffered,
 use Rattle.stream.specs.Stream.{stream-at, Feeds, Finishes}
 use Rattle.stream.specs.Contracts.{Processed}
 
--- no more than 201 bytes are held
-pub take-least : (h : List ℕ) (k : ℕ) → length h ≡ 201 → take (min k 201) h ≡ take k h
-take-least h k e = go (leb k 201) refl
+-- no more than `line-buffer` bytes are held
+pub take-least : (h : List ℕ) (k : ℕ) → length h ≡ line-buffer → take (min k line-buffer) h ≡ take k h
+take-least h k e = go (leb k line-buffer) refl
   where
-    go : (t : Bool) → leb k 201 ≡ t → take (min k 201) h ≡ take k h
-    go true q = let m : min k 201 ≡ k = omega (arith, leb-true k 201 q) in ap (λ (i : ℕ). take i h) m
+    go : (t : Bool) → leb k line-buffer ≡ t → take (min k line-buffer) h ≡ take k h
+    go true q = let m : min k line-buffer ≡ k = omega (arith, leb-true k line-buffer q) in ap (λ (i : ℕ). take i h) m
     go false q =
-        let l : 201 < k = leb-false k 201 q in
-        let m : min k 201 ≡ 201 = omega arith in
-        ap (λ (i : ℕ). take i h) m ∙ take-all 201 h (omega arith) ∙ sym (take-all k h (omega arith))
+        let l : line-buffer < k = leb-false k line-buffer q in
+        let m : min k line-buffer ≡ line-buffer = omega arith in
+        ap (λ (i : ℕ). take i h) m ∙ take-all line-buffer h (omega arith) ∙ sym (take-all k h (omega arith))
 
-session-is : (k : Stream) (n : ℕ) → n ≡ min (k .kept) 201 → length (k .pending) ≡ 201 → session (k .day) (k .pending) n
-    ≡ session-of k
+session-is : (k : Stream) (n : ℕ) → n ≡ min (k .kept) line-buffer → length (k .pending) ≡ line-buffer
+    → session (k .day) (k .pending) n ≡ session-of k
 session-is k n q e = ap (λ (h : List ℕ). record { day = k .day; pending = h; output = [] })
     (ap (λ (i : ℕ). take i (k .pending)) q ∙ take-least (k .pending) (k .kept) e)
 
@@ -46,7 +46,7 @@ front-is : {d e w : List ℕ} {to : ℕ} → Put d e 0 to w → to ≤ length d 
 front-is {d} {e} {w} p h = p .here ∙ over-front d w (omega (arith, p .next))
 
 -- as many bytes are held as are kept
-kept-length : (n : ℕ) (h w : List ℕ) → n ≤ 201 → length h ≡ 201 → take n h ≡ w → n ≡ length w
+kept-length : (n : ℕ) (h w : List ℕ) → n ≤ line-buffer → length h ≡ line-buffer → take n h ≡ w → n ≡ length w
 kept-length n h w few e q = sym (ap (λ (l : List ℕ). length l) (sym q) ∙ length-take-le n h (omega arith))
 
 -- and zero bytes stand behind them
@@ -64,8 +64,8 @@ back-from y n a b e f h = rw (a, b, e, f, h)
 
 -- a run over the block l from the state that k holds
 module _ (k : Stream) (l d e : List ℕ) (n : ℕ) (t : Position) (g : List ℕ) where
-  pub feeds : n ≡ min (k .kept) 201 → length (k .pending) ≡ 201 → length g ≡ 201 → (x : Day) → x ≡ k .day
-      → Processed (session x (k .pending) n) l d e t g → {p : List ℕ}
+  pub feeds : n ≡ min (k .kept) line-buffer → length (k .pending) ≡ line-buffer → length g ≡ line-buffer
+      → (x : Day) → x ≡ k .day → Processed (session x (k .pending) n) l d e t g → {p : List ℕ}
       → p ≡ take (t .kept) g ++ replicate (line-buffer - t .kept) 0
       → Feeds k l d e (back (t .day) p (t .kept) (t .from) (t .at))
   feeds q h w x f a c =
@@ -100,8 +100,8 @@ finished-some x h = go (x .pending) h
 -- The end of input.
 
 -- a byte 10 that is fed is taken where there is room
-end-counted : (x : Session) (n : ℕ) (b : Bool) → leb (length (x .output) + 16384) n ≡ b → consumed-count n x (10 ∷ [])
-    ≡ cond b 1 0
+end-counted : (x : Session) (n : ℕ) (b : Bool) → leb (length (x .output) + reply-room) n ≡ b
+    → consumed-count n x (10 ∷ []) ≡ cond b 1 0
 unfolding consumed-count
 end-counted x n b q = rw q
 
@@ -133,8 +133,8 @@ module _ (k : Stream) (d : List ℕ) where
       either true = ap finished same ∙ finished-none (k .day)
       either false = same
 
-      come : cond (leb 16384 (length d)) (finished (session-of k)) (session-of k) ≡ idle
-      come = either (leb 16384 (length d))
+      come : cond (leb reply-room (length d)) (finished (session-of k)) (session-of k) ≡ idle
+      come = either (leb reply-room (length d))
 
   -- else byte 10 ends the line
   pub finishes-fed : {e : List ℕ} (r : Fed) → 0 < length (session-of k .pending) → Feeds k (10 ∷ []) d e r
@@ -151,7 +151,7 @@ module _ (k : Stream) (d : List ℕ) where
       none-taken : Fed → Fed
       none-taken r = record { stream = r .stream; consumed = 0; written = r .written }
 
-      come : {b : Bool} → leb 16384 (length d) ≡ b
+      come : {b : Bool} → leb reply-room (length d) ≡ b
           → fed x (take (consumed-count (length d) x (10 ∷ [])) (10 ∷ [])) ≡ cond b (finished x) x
       come {b} q = ap (λ (i : ℕ). fed x (take i (10 ∷ []))) (end-counted x (length d) b q) ∙ ending b
         where

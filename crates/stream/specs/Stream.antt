@@ -42,7 +42,7 @@ buffered l = l ++ replicate (line-buffer - length l) 0
 abbrev pub stream-of : Session → Stream
 stream-of y = record { day = y .day; pending = buffered (y .pending); kept = length (y .pending) }
 
--- the stream that a program begins with: the blank state, and a line buffer of 201 zero bytes
+-- the stream that a program begins with: the blank state, and a line buffer of zero bytes
 abbrev pub new-stream : Stream
 new-stream = stream-of (session blank [] 0)
 

@@ -4,13 +4,14 @@ use mathlib.Core.List.{_++_, append-nil}
 use Prim.Native.Nat.{_+_, _-_, _≤_}
 use native.Mathlib.Omega.{arith}
 use lib.ListN.{length, take, getD, length-set}
+use Rattle.lines.specs.Limits.{line-buffer}
 use Rattle.batch.proofs.Rests.{keep-more, keep-all}
 use Rattle.batch.proofs.keep.Statement.{statement}
 use Rattle.batch.proofs.keep.Tie as tie
 
 abbrev Inv-loop : tie.InvT-loop
-Inv-loop held₀ kept s n₀ i₀ held n i = (n ≡ kept + i) × (i ≤ length s) × (n ≤ 201)
-    × (take n held ≡ take kept held₀ ++ take i s) × (length held ≡ 201)
+Inv-loop held₀ kept s n₀ i₀ held n i = (n ≡ kept + i) × (i ≤ length s) × (n ≤ line-buffer)
+    × (take n held ≡ take kept held₀ ++ take i s) × (length held ≡ line-buffer)
 
 abbrev μ-loop : tie.MeasureT-loop
 μ-loop held₀ kept s n₀ i₀ held n i = length s - i

@@ -10,7 +10,7 @@ use borrow.Author.Needs.{needs}
 use borrow.Author.Tests.{ltb-true, ltb-false, leb-true, le-leb}
 use Rattle.finite.proofs.Tests.{both-left, both-right, never}
 use Rattle.day.specs.Day.{state-of}
-use Rattle.reply.specs.Session.{upto}
+use Rattle.reply.specs.Session.{reply-room, upto}
 use Rattle.batch.specs.Contracts.{Position, position}
 use Rattle.batch.proofs.Batches.{Going, same-line, going-next}
 use Rattle.batch.proofs.run_batch.Statement.{statement}
@@ -58,14 +58,14 @@ ends : (c : tie.Then1 Inv-loop μ-loop) → at-loop c .loop .end < length (at-st
 ends c =
     let l = at-loop c .loop in
     let n = length (at-start (at-loop c) .args .input .now) in
-    ltb-true (l .end) n (both-left (ltb (l .end) n) (leb 16384 (length (l .out) - l .turn .at)) (c .if1 .taken))
+    ltb-true (l .end) n (both-left (ltb (l .end) n) (leb reply-room (length (l .out) - l .turn .at)) (c .if1 .taken))
 
-room : (c : tie.Then1 Inv-loop μ-loop) → at-loop c .loop .turn .at + 16384 ≤ length (at-loop c .loop .out)
+room : (c : tie.Then1 Inv-loop μ-loop) → at-loop c .loop .turn .at + reply-room ≤ length (at-loop c .loop .out)
 room c =
     let l = at-loop c .loop in
     let n = length (at-start (at-loop c) .args .input .now) in
-    let q = leb-true 16384 (length (l .out) - l .turn .at)
-    (both-right (ltb (l .end) n) (leb 16384 (length (l .out) - l .turn .at)) (c .if1 .taken)) in
+    let q = leb-true reply-room (length (l .out) - l .turn .at)
+    (both-right (ltb (l .end) n) (leb reply-room (length (l .out) - l .turn .at)) (c .if1 .taken)) in
     omega arith
 
 first-line-end-requires : tie.Need-first-line-end-requires Inv-loop μ-loop
@@ -176,12 +176,12 @@ not-both true b e h = absurd (never b e h)
 -- where there is room, no line ends in what is left
 no-line : (c : tie.Else1 Inv-loop μ-loop) → let l = c .before .before .loop in
     let i = at-start (c .before .before) .args .input .now in
-    l .turn .at + 16384 ≤ length (l .out) → upto (drop (l .from) i) ≡ length (drop (l .from) i)
+    l .turn .at + reply-room ≤ length (l .out) → upto (drop (l .from) i) ≡ length (drop (l .from) i)
 no-line c h =
     let l = c .before .before .loop in
     let i = at-start (c .before .before) .args .input .now in
-    let more = not-both (ltb (l .end) (length i)) (leb 16384 (length (l .out) - l .turn .at)) (c .if1 .left)
-    (le-leb 16384 (length (l .out) - l .turn .at) (omega arith)) in
+    let more = not-both (ltb (l .end) (length i)) (leb reply-room (length (l .out) - l .turn .at)) (c .if1 .left)
+    (le-leb reply-room (length (l .out) - l .turn .at) (omega arith)) in
     omega (arith, ltb-false (l .end) (length i) more, l .inv .0 .end-is, l .inv .0 .end-most, length-drop (l .from) i)
 
 returns : tie.Need-returns Inv-loop μ-loop

@@ -7,6 +7,7 @@ use lib.ListN.{length, take, set}
 use lib.Seq.{length-take-le, set-out}
 use borrow.Author.Needs.{needs}
 use Rattle.sets.specs.Set.{without}
+use Rattle.lines.specs.Limits.{line-buffer}
 use Rattle.lines.specs.Reading.{reading}
 use Rattle.reply.specs.Reply.{request-of}
 use Rattle.stream.proofs.Streams.{take-least}
@@ -15,7 +16,7 @@ use Rattle.recording.proofs.note.Statement.{statement}
 use Rattle.recording.proofs.note.Tie as tie
 
 -- the bytes that a stream has room for
-held : (c : tie.Start) → length (c .args .stream .pending) ≡ 201
+held : (c : tie.Start) → length (c .args .stream .pending) ≡ line-buffer
 held c = search needs
 
 inside : tie.Need-array-share-prefix-pending

@@ -4,6 +4,7 @@ use Prim.Native.Nat.{_-_, _≤_, _<_}
 use native.Mathlib.Omega.{arith}
 use lib.ListN.{length}
 use borrow.Author.Needs.{needs}
+use Rattle.lines.specs.Limits.{line-buffer}
 use Rattle.recording.proofs.Bytes.{short-stream}
 use Rattle.recording.proofs.Blocks.{Going, going-begins, line-plain, going-line, going-ends}
 use Rattle.recording.proofs.take_block.Statement.{statement}
@@ -16,7 +17,7 @@ Inv-loop block views₀ out₀ s₀ from₀ end₀ views out s from end =
 abbrev μ-loop : tie.MeasureT-loop
 μ-loop block views₀ out₀ s₀ from₀ end₀ views out s from end = length block - from
 
-held : (c : tie.Start Inv-loop μ-loop) → length (c .args .stream .pending) ≡ 201
+held : (c : tie.Start Inv-loop μ-loop) → length (c .args .stream .pending) ≡ line-buffer
 held c = search needs
 
 loop-holds : tie.Need-loop-holds Inv-loop μ-loop

@@ -3,11 +3,12 @@ use mathlib.Core.Path.{_≡_}
 use native.Mathlib.Omega.{arith}
 use lib.ListN.{length}
 use borrow.Author.Needs.{needs}
+use Rattle.lines.specs.Limits.{line-buffer}
 use Rattle.recording.proofs.Bytes.{took-more, took-plain, took-end, short-after, short-stream}
 use Rattle.recording.proofs.take_line.Statement.{statement}
 use Rattle.recording.proofs.take_line.Tie as tie
 
-held : (c : tie.Start) → length (c .args .stream .pending) ≡ 201
+held : (c : tie.Start) → length (c .args .stream .pending) ≡ line-buffer
 held c = search needs
 
 returns : tie.Need-returns

@@ -1,4 +1,4 @@
--- Each answer's arm writes the record of its line, at most 201 bytes; a tally writes nothing.
+-- Each answer's arm writes the record of its line, at most `answer-room` bytes; a tally writes nothing.
 use mathlib.Core.Path.{_≡_, refl, sym, ap, _∙_, subst}
 use mathlib.Core.Bool.{true}
 use mathlib.Core.List.{List, [], _∷_}
@@ -6,6 +6,7 @@ use Prim.Native.Nat.{ℕ, _+_, _≤_}
 use native.Mathlib.Omega.{arith}
 use borrow.Author.Needs.{needs}
 use Rattle.lines.specs.declared.Record.{Record}
+use Rattle.lines.specs.Limits.{answer-room}
 use Rattle.writer.specs.Writing.{line}
 use Rattle.buffer.specs.Buffer.{Put}
 use Rattle.day.specs.declared.Answer.{Answer}
@@ -21,7 +22,7 @@ ranged : {a b : Answer} {m n : ℕ} → a ≡ b → (answer-in-range a ≡ true)
 ranged {a} {b} e p = (sym (ap answer-in-range e) ∙ p .0, p .1)
 
 said : {a b : Answer} {r : Record} {d e : List ℕ} {at to : ℕ} → a ≡ b → answer-records b ≡ r ∷ []
-    → Put d e at to (line r) → Put d e at to (record-lines (answer-records a)) × (to ≤ at + 201)
+    → Put d e at to (line r) → Put d e at to (record-lines (answer-records a)) × (to ≤ at + answer-room)
 said {a} {b} {r} {d} {e} {at} {to} q h p = (
   subst (Put d e at to) (sym (ap (λ (x : Answer). record-lines (answer-records x)) q ∙ ap record-lines h ∙ one-line r))
       p,
@@ -29,7 +30,7 @@ said {a} {b} {r} {d} {e} {at} {to} q h p = (
 )
 
 none-said : {a b : Answer} (d : List ℕ) (at : ℕ) → a ≡ b → answer-records b ≡ []
-    → Put d d at at (record-lines (answer-records a)) × (at ≤ at + 201)
+    → Put d d at at (record-lines (answer-records a)) × (at ≤ at + answer-room)
 none-said {a} {b} d at q h = (
   subst (Put d d at at) (sym (ap (λ (x : Answer). record-lines (answer-records x)) q ∙ ap record-lines h ∙ no-lines))
       (put-none d at),

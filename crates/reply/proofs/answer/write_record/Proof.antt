@@ -8,6 +8,7 @@ use native.Mathlib.Omega.{arith}
 use lib.ListN.{length, take, drop, length-drop, drop-of-length-le}
 use borrow.Author.Needs.{needs}
 use Rattle.lines.specs.declared.Record.{Record}
+use Rattle.lines.specs.Limits.{answer-room}
 use Rattle.lines.specs.Form.{in-range}
 use Rattle.writer.specs.declared.Writing.{Writing}
 use Rattle.writer.specs.declared.Writing.the-variants.{Length, Refusal}
@@ -19,7 +20,7 @@ use Rattle.reply.proofs.answer.write_record.Statement.{statement}
 use Rattle.reply.proofs.answer.write_record.Tie as tie
 
 -- the record r is in its ranges, and o has room for its line from the place at on
-module _ (r : Record) (o : List ℕ) (at : ℕ) (z : Writing) (p : (in-range r ≡ true) × (at + 201 ≤ length o))
+module _ (r : Record) (o : List ℕ) (at : ℕ) (z : Writing) (p : (in-range r ≡ true) × (at + answer-room ≤ length o))
     (q : z ≡ writing r (take (length o - at) (drop at o))) where
   answer-is : z ≡ Length (length (line r))
   answer-is = q ∙ ap (writing r) (part-is o at) ∙ writing-is r (drop at o) (p .0)

@@ -1,10 +1,11 @@
--- The loop keeps: the tallies of the first i campaigns stand from `at` to `to`, at most 201 bytes each.
+-- The loop keeps: the tallies of the first i campaigns stand from `at` to `to`, at most `answer-room` bytes each.
 use mathlib.Core.Path.{_≡_, sym, ap, _∙_, subst}
 use mathlib.Core.List.{List, [], _∷_, _++_}
 use Prim.Native.Nat.{ℕ, _+_, _-_, _*_, _≤_}
 use native.Mathlib.Omega.{arith}
 use native.Mathlib.Numerals.{add-one}
 use Rattle.lines.specs.declared.Record.{Record}
+use Rattle.lines.specs.Limits.{answer-room}
 use Rattle.writer.specs.Writing.{line}
 use Rattle.buffer.specs.Buffer.{Put}
 use Rattle.campaigns.specs.declared.Campaign.{Campaign}
@@ -16,7 +17,7 @@ use Rattle.reply.proofs.answer.write_tallies.Statement.{statement}
 use Rattle.reply.proofs.answer.write_tallies.Tie as tie
 
 abbrev Inv-loop : tie.InvT-loop
-Inv-loop n terms counts out₀ at i₀ to₀ out i to = (i ≤ n) × (to ≤ at + 201 * i)
+Inv-loop n terms counts out₀ at i₀ to₀ out i to = (i ≤ n) × (to ≤ at + answer-room * i)
     × Put out₀ out at to (record-lines (tally-records (campaign-at terms counts) i))
 
 abbrev μ-loop : tie.MeasureT-loop

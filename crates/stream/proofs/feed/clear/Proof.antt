@@ -7,6 +7,7 @@ use lib.ListN.{length, set, take, drop, replicate, length-replicate, replicate-a
 use lib.ListN.{length-set, drop-of-length-le}
 use Rattle.buffer.specs.Buffer.{over}
 use Rattle.buffer.proofs.Over.{over-none, over-snoc, over-front, over-part}
+use Rattle.lines.specs.Limits.{line-buffer}
 use Rattle.stream.proofs.feed.clear.Statement.{statement}
 use Rattle.stream.proofs.feed.clear.Tie as tie
 
@@ -23,10 +24,12 @@ one-more h n i p =
     ∙ over-snoc h n w 0
     ∙ ap (over h n) (replicate-append-replicate (i - n) 1 0 ∙ ap (λ (j : ℕ). replicate j 0) k)
 
-all-zeroed : (h : List ℕ) (n : ℕ) → n ≤ 201 → length h ≡ 201 → zeroed h n (201 - n) ≡ take n h ++ replicate (201 - n) 0
+all-zeroed : (h : List ℕ) (n : ℕ) → n ≤ line-buffer → length h ≡ line-buffer
+    → zeroed h n (line-buffer - n) ≡ take n h ++ replicate (line-buffer - n) 0
 all-zeroed h n p q =
-    let w : List ℕ = replicate (201 - n) 0 in
-    let m : length w ≡ length (drop n h) = omega (arith, length-replicate {A = ℕ} (201 - n) 0, length-drop n h) in
+    let w : List ℕ = replicate (line-buffer - n) 0 in
+    let m : length w ≡ length (drop n h) =
+    omega (arith, length-replicate {A = ℕ} (line-buffer - n) 0, length-drop n h) in
     sym (over-part h n w (omega arith))
     ∙ ap (λ (l : List ℕ). take n h ++ l)
     (over-front (drop n h) w (omega (arith, m))
@@ -35,10 +38,10 @@ all-zeroed h n p q =
 
 abbrev Inv-loop : tie.InvT-loop
 Inv-loop pending₀ n i₀ pending i =
-    (n ≤ i) × (i ≤ 201) × (length pending ≡ 201) × (pending ≡ zeroed pending₀ n (i - n))
+    (n ≤ i) × (i ≤ line-buffer) × (length pending ≡ line-buffer) × (pending ≡ zeroed pending₀ n (i - n))
 
 abbrev μ-loop : tie.MeasureT-loop
-μ-loop pending₀ n i₀ pending i = 201 - i
+μ-loop pending₀ n i₀ pending i = line-buffer - i
 
 loop-holds : tie.Need-loop-holds Inv-loop μ-loop
 loop-holds c =
@@ -68,7 +71,7 @@ returns c =
     let a = c .before .before .args in
     let o = c .before .loop in
     let p = c .before .before .pre in
-    let i : o .i - a .n ≡ 201 - a .n = omega arith in
+    let i : o .i - a .n ≡ line-buffer - a .n = omega arith in
     o .inv .3 ∙ ap (zeroed (a .pending .now) (a .n)) i ∙ all-zeroed (a .pending .now) (a .n) (p .0) (p .1)
 
 pub clear-spec : {M : Type 1} → statement M

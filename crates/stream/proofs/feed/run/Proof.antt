@@ -9,7 +9,7 @@ use borrow.Author.Needs.{needs}
 use borrow.Author.Tests.{ltb-false}
 use Rattle.finite.proofs.Tests.{never}
 use Rattle.day.specs.Day.{state-of}
-use Rattle.reply.specs.Session.{Session}
+use Rattle.reply.specs.Session.{Session, reply-room}
 use Rattle.batch.specs.Contracts.{position, Progress}
 use Rattle.stream.specs.Stream.{session}
 use Rattle.stream.proofs.Runs.{rest-stands, stands-first, runs-through, runs-ended}
@@ -86,10 +86,10 @@ returns-2 c =
     let i = e .moves (began s) (s .args .out .now) (started s) in
     let k = c .before .before .keep .ensures in
     let f = length (b .last .1 .1 .1 .0) in
-    let left = neither (eqb (b .result .from) (length (s .args .input .now))) (ltb (f - b .result .turn .at) 16384)
+    let left = neither (eqb (b .result .from) (length (s .args .input .now))) (ltb (f - b .result .turn .at) reply-room)
     (more .if1 .left) in
-    let roomy : b .result .turn .at + 16384 ≤ f = omega
-    (arith, ltb-false (f - b .result .turn .at) 16384 (left .1), e .fits) in
+    let roomy : b .result .turn .at + reply-room ≤ f = omega
+    (arith, ltb-false (f - b .result .turn .at) reply-room (left .1), e .fits) in
     let kept = rest-stands (began s) (s .args .input .now) (s .args .out .now) (position (b .result) _ _) _ _ i
     (omega (arith, roomy, i .put .same)) (e .ends roomy) _ _ (k .0 .0) (k .1) (k .0 .1) in
     (runs-through (began s) (s .args .input .now) (s .args .out .now) _ _ _ kept (omega arith), k .1)
