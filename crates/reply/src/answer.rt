@@ -8,7 +8,7 @@ ghost use mathlib.Core.Bool.{true};
 ghost use Prim.Native.Nat.{_+_, _≤_, _<_};
 ghost use lib.ListN.{length};
 ghost use Rattle.lines.specs.Limits.{answer-room};
-ghost use Rattle.lines.specs.Form.{in-range};
+ghost use Rattle.lines.specs.Form.{is-output, in-range};
 ghost use Rattle.writer.specs.Writing.{line};
 ghost use Rattle.buffer.specs.Buffer.{Put};
 ghost use Rattle.campaigns.specs.Limits.{max-campaigns};
@@ -16,9 +16,9 @@ ghost use Rattle.campaigns.specs.Campaign.{campaign-at};
 ghost use Rattle.reply.specs.Reply.{tally-record, tally-records, answer-records, is-closing, record-lines};
 ghost use Rattle.reply.specs.Contracts.{answer-in-range, tallies-room};
 
-// The line of a record that is in its ranges, at the place at.
+// The line of an output form that is in its ranges, at the place at.
 fn write_record(r: Record, out: &mut [u8], at: usize) -> usize
-    requires { ⌜ (in-range r ≡ true) × (at + answer-room ≤ length (now out)) ⌝ }
+    requires { ⌜ (in-range r ≡ true) × (is-output r ≡ true) × (at + answer-room ≤ length (now out)) ⌝ }
     ensures { λ to. ⌜ Put (now (out .entry)) (now (out .exit)) at to (line r) ⌝ }
 {
     match writer::write_line(r, &mut out[at..]) {

@@ -7,6 +7,7 @@ use native.Mathlib.Omega.{arith}
 use borrow.Author.Needs.{needs}
 use Rattle.lines.specs.declared.Record.{Record}
 use Rattle.lines.specs.Limits.{answer-room}
+use Rattle.lines.specs.Form.{is-output}
 use Rattle.writer.specs.Writing.{line}
 use Rattle.buffer.specs.Buffer.{Put}
 use Rattle.day.specs.declared.Answer.{Answer}
@@ -17,16 +18,18 @@ use Rattle.reply.proofs.Writes.{line-most, no-lines, one-line}
 use Rattle.reply.proofs.answer.write_answer.Statement.{statement}
 use Rattle.reply.proofs.answer.write_answer.Tie as tie
 
--- the answer a is b
-ranged : {a b : Answer} {m n : ℕ} → a ≡ b → (answer-in-range a ≡ true) × (m ≤ n) → (answer-in-range b ≡ true) × (m ≤ n)
-ranged {a} {b} e p = (sym (ap answer-in-range e) ∙ p .0, p .1)
+-- the answer a is b, whose record is an output form
+ranged : {a b : Answer} {m n : ℕ} → a ≡ b → (answer-in-range a ≡ true) × (m ≤ n)
+    → (answer-in-range b ≡ true) × (true ≡ true) × (m ≤ n)
+ranged {a} {b} e p = (sym (ap answer-in-range e) ∙ p .0, refl, p .1)
 
 said : {a b : Answer} {r : Record} {d e : List ℕ} {at to : ℕ} → a ≡ b → answer-records b ≡ r ∷ []
-    → Put d e at to (line r) → Put d e at to (record-lines (answer-records a)) × (to ≤ at + answer-room)
-said {a} {b} {r} {d} {e} {at} {to} q h p = (
+    → is-output r ≡ true → Put d e at to (line r)
+    → Put d e at to (record-lines (answer-records a)) × (to ≤ at + answer-room)
+said {a} {b} {r} {d} {e} {at} {to} q h o p = (
   subst (Put d e at to) (sym (ap (λ (x : Answer). record-lines (answer-records x)) q ∙ ap record-lines h ∙ one-line r))
       p,
-  omega (arith, p .next, line-most r),
+  omega (arith, p .next, line-most r o),
 )
 
 none-said : {a b : Answer} (d : List ℕ) (at : ℕ) → a ≡ b → answer-records b ≡ []
@@ -47,7 +50,7 @@ returns : tie.Need-returns
 returns c =
     let sent = c .before .before in
     let arm = sent .before .before .before in
-    said (arm .answer .given .1) refl (sent .write-record .ensures)
+    said (arm .answer .given .1) refl refl (sent .write-record .ensures)
 
 write-record-requires-2 : tie.Need-write-record-requires-2
 write-record-requires-2 c κs =
@@ -58,7 +61,7 @@ returns-2 : tie.Need-returns-2
 returns-2 c =
     let sent = c .before .before in
     let arm = sent .before .before in
-    said (arm .enum-told .given .1) refl (sent .write-record2 .ensures)
+    said (arm .enum-told .given .1) refl refl (sent .write-record2 .ensures)
 
 write-record-requires-3 : tie.Need-write-record-requires-3
 write-record-requires-3 c κs =
@@ -69,7 +72,7 @@ returns-3 : tie.Need-returns-3
 returns-3 c =
     let sent = c .before .before in
     let arm = sent .before .before .before in
-    said (arm .answer2 .given .1) refl (sent .write-record3 .ensures)
+    said (arm .answer2 .given .1) refl refl (sent .write-record3 .ensures)
 
 write-record-requires-4 : tie.Need-write-record-requires-4
 write-record-requires-4 c κs =
@@ -80,7 +83,7 @@ returns-4 : tie.Need-returns-4
 returns-4 c =
     let sent = c .before .before in
     let arm = sent .before .before in
-    said (arm .enum-told2 .given .1) refl (sent .write-record4 .ensures)
+    said (arm .enum-told2 .given .1) refl refl (sent .write-record4 .ensures)
 
 write-record-requires-5 : tie.Need-write-record-requires-5
 write-record-requires-5 c κs =
@@ -91,7 +94,7 @@ returns-6 : tie.Need-returns-6
 returns-6 c =
     let sent = c .before .before in
     let arm = sent .before .before .before in
-    said (arm .answer3 .given .1) refl (sent .write-record5 .ensures)
+    said (arm .answer3 .given .1) refl refl (sent .write-record5 .ensures)
 
 pub write-answer-spec : {M : Type 1} → statement M
 write-answer-spec =

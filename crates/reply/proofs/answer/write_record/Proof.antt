@@ -9,7 +9,7 @@ use lib.ListN.{length, take, drop, length-drop, drop-of-length-le}
 use borrow.Author.Needs.{needs}
 use Rattle.lines.specs.declared.Record.{Record}
 use Rattle.lines.specs.Limits.{answer-room}
-use Rattle.lines.specs.Form.{in-range}
+use Rattle.lines.specs.Form.{is-output, in-range}
 use Rattle.writer.specs.declared.Writing.{Writing}
 use Rattle.writer.specs.declared.Writing.the-variants.{Length, Refusal}
 use Rattle.writer.specs.Writing.{line, writing, written}
@@ -19,12 +19,13 @@ use Rattle.reply.proofs.Writes.{line-most, writing-is, written-is}
 use Rattle.reply.proofs.answer.write_record.Statement.{statement}
 use Rattle.reply.proofs.answer.write_record.Tie as tie
 
--- the record r is in its ranges, and o has room for its line from the place at on
-module _ (r : Record) (o : List ℕ) (at : ℕ) (z : Writing) (p : (in-range r ≡ true) × (at + answer-room ≤ length o))
+-- the record r is an output form in its ranges, and o has room for its line from the place at on
+module _ (r : Record) (o : List ℕ) (at : ℕ) (z : Writing)
+    (p : (in-range r ≡ true) × (is-output r ≡ true) × (at + answer-room ≤ length o))
     (q : z ≡ writing r (take (length o - at) (drop at o))) where
   answer-is : z ≡ Length (length (line r))
-  answer-is = q ∙ ap (writing r) (part-is o at) ∙ writing-is r (drop at o) (p .0)
-      (omega (arith, p .1, length-drop at o))
+  answer-is = q ∙ ap (writing r) (part-is o at) ∙ writing-is r (drop at o) (p .0) (p .1)
+      (omega (arith, p .2, length-drop at o))
 
   length-is : (n : ℕ) → z ≡ Length n → n ≡ length (line r)
   length-is n e = let f = answer-is in cc
@@ -36,12 +37,12 @@ module _ (r : Record) (o : List ℕ) (at : ℕ) (z : Writing) (p : (in-range r �
       → Put o (take at o ++ (e ++ drop (length o - at) (drop at o))) at (at + n) (line r)
   sent n f e g =
       let h : e ≡ over (drop at o) 0 (line r) = g ∙ ap (written r) (part-is o at)
-      ∙ written-is r (drop at o) (p .0) (omega (arith, p .1, length-drop at o)) in
+      ∙ written-is r (drop at o) (p .0) (p .1) (omega (arith, p .2, length-drop at o)) in
       let k : drop (length o - at) (drop at o) ≡ [] = drop-of-length-le (drop at o) {i = length o - at}
       (omega (arith, length-drop at o)) in
       let m : take at o ++ (e ++ drop (length o - at) (drop at o)) ≡ over o at (line r) =
       ap (λ (l : List ℕ). take at o ++ (e ++ l)) k ∙ ap (λ (l : List ℕ). take at o ++ l) (append-nil e ∙ h)
-      ∙ over-part o at (line r) (omega (arith, p .1)) in
+      ∙ over-part o at (line r) (omega (arith, p .2)) in
       record {
         next = ap (λ (i : ℕ). at + i) (length-is n f);
         here = m;
@@ -65,7 +66,7 @@ add-result c =
       arith,
       length-is (a .r) (a .out .now) (a .at) (w .result) (s .pre) (w .ensures .0) (c .before .n .given .0 .0)
           (c .before .n .given .1),
-      line-most (a .r),
+      line-most (a .r) (s .pre .1),
     )
 
 returns : tie.Need-returns

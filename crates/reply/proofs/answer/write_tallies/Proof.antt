@@ -6,6 +6,7 @@ use native.Mathlib.Omega.{arith}
 use native.Mathlib.Numerals.{add-one}
 use Rattle.lines.specs.declared.Record.{Record}
 use Rattle.lines.specs.Limits.{answer-room}
+use Rattle.lines.specs.Form.{is-output}
 use Rattle.writer.specs.Writing.{line}
 use Rattle.buffer.specs.Buffer.{Put}
 use Rattle.campaigns.specs.declared.Campaign.{Campaign}
@@ -47,7 +48,8 @@ loop-holds c = (
 write-record-requires : tie.Need-write-record-requires Inv-loop μ-loop
 write-record-requires c κs =
     let o = c .before .before .before .loop in
-    (c .before .tally-record .ensures .1, omega (arith, o .inv .2 .same))
+    let t = c .before .tally-record .ensures in
+    (t .1, ap is-output (t .0), omega (arith, o .inv .2 .same))
 
 loop-again : tie.Need-loop-again Inv-loop μ-loop
 loop-again c =
@@ -59,7 +61,7 @@ loop-again c =
     let p = sent .write-record .ensures in
     let r = told .tally-record .result in (
       omega arith,
-      omega (arith, p .next, line-most r),
+      omega (arith, p .next, line-most r (ap is-output (told .tally-record .ensures .0))),
       subst (Put (a .out .now) (sent .write-record .last .1 .0) (a .at)
           (sent .write-record .result)) (tallies-next (campaign-at (a .terms .now) (a .counts .now))
           (o .i) r (told .tally-record .ensures .0)) (put-then (o .inv .2) p),
