@@ -12,10 +12,10 @@ use Rattle.sets.proofs.Bounds.{within-of, within-member, within-without}
 use Rattle.campaigns.specs.declared.Head.{Head}
 use Rattle.campaigns.specs.declared.Phase.{Phase}
 use Rattle.campaigns.specs.declared.Phase.the-variants.{Filling, Running, Closed}
+use Rattle.campaigns.specs.Limits.{max-campaigns}
 use Rattle.campaigns.specs.Phase.{is-filling, is-running}
 use Rattle.audit.specs.Sound.{marks-hold}
 use Rattle.day.specs.Calls.{marked}
-use Rattle.demands.specs.Demands.{Marks-one}
 
 -- a phase that is Running is not Filling
 pub running-not-filling : (p : Phase) → is-running p ≡ true → is-filling p ≡ false
@@ -54,7 +54,9 @@ unfolding marked
 within-marked true n i set e l = within-including n set i e l
 within-marked false n i set e l = within-without n set (including 0 i) e
 
-pub marks-one : Marks-one
+-- a pausing sets and a resuming clears the mark of campaign i; the other marks stay
+pub marks-one : (b : Bool) (i marks j : ℕ) → j < max-campaigns
+    → member (marked b i marks) j ≡ cond (eqb j i) b (member marks j)
 unfolding marked
 marks-one true i m j l = including-member m i j l ∙ go (member m j) (eqb j i)
   where

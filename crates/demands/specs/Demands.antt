@@ -2,11 +2,10 @@
 -- that a view is rule 1's choice. That no call stops or reads and writes elsewhere is what the prover says of every
 -- function.
 use mathlib.Core.Path.{_≡_}
-use mathlib.Core.Bool.{Bool, true, cond}
+use mathlib.Core.Bool.{true}
 use mathlib.Core.List.{List, [], _∷_}
 use Prim.Native.Nat.{ℕ, _<_}
-use lib.Dec.{eqb}
-use Rattle.sets.specs.Set.{member, within}
+use Rattle.sets.specs.Set.{within}
 use Rattle.campaigns.specs.declared.Phase.the-variants.{Running}
 use Rattle.campaigns.specs.declared.View.{View}
 use Rattle.campaigns.specs.Limits.{max-campaigns, max-views}
@@ -17,7 +16,7 @@ use Rattle.day.specs.declared.Day.{Day}
 use Rattle.day.specs.declared.Answer.the-variants.{Nobody}
 use Rattle.day.specs.Day.{head-of, campaign, total-takings, total-claim, sound}
 use Rattle.questions.specs.Questions.{first-failed}
-use Rattle.day.specs.Calls.{number, values, Call, questions, found, player, offers, marked, head-shown, call}
+use Rattle.day.specs.Calls.{number, values, Call, questions, found, player, offers, head-shown, call}
 use Rattle.day.specs.Calls.Call.{open-plan, add-campaign, start-day, show-view, ask-tally, close-day, mark-campaign}
 use Rattle.demands.specs.Choice.{Right}
 
@@ -78,8 +77,3 @@ Nobody-found =
 abbrev pub Nobody-named : Type 0
 Nobody-named =
     (s : Day) → sound s ≡ true → s .phase ≡ Running → s .accepted < max-views → Counts-alone s (record { set = 0 })
-
--- Pausing and resuming (document 02, request 3) set and clear the mark of campaign i; the other marks stay.
-abbrev pub Marks-one : Type 0
-Marks-one =
-    (b : Bool) (i marks j : ℕ) → j < max-campaigns → member (marked b i marks) j ≡ cond (eqb j i) b (member marks j)
