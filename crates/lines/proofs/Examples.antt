@@ -9,6 +9,7 @@ pub examples : Examples
 unfolding template in-slot reading first-of forms held-or ended-or made numbers-of rest-of step strip slot-at set-at
     numeral-at digits is-digit
 examples = record {
+  text-bytes = refl;
   rising-names = refl;
   no-names = refl;
   name-twice = refl;

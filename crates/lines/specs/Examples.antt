@@ -13,6 +13,12 @@ abbrev pub read : String → Reading
 read s = reading (bytes s)
 
 pub record Examples : Type 0 where
+  -- the bytes of text
+  pub text-bytes : bytes "abcdefghijklmnopqrstuvwxyz0123456789 ()./\n" ≡
+      97 ∷ 98 ∷ 99 ∷ 100 ∷ 101 ∷ 102 ∷ 103 ∷ 104 ∷ 105 ∷ 106 ∷ 107 ∷ 108 ∷ 109 ∷
+      110 ∷ 111 ∷ 112 ∷ 113 ∷ 114 ∷ 115 ∷ 116 ∷ 117 ∷ 118 ∷ 119 ∷ 120 ∷ 121 ∷ 122 ∷
+      48 ∷ 49 ∷ 50 ∷ 51 ∷ 52 ∷ 53 ∷ 54 ∷ 55 ∷ 56 ∷ 57 ∷
+      32 ∷ 40 ∷ 41 ∷ 46 ∷ 47 ∷ 10 ∷ []
   -- names rise strictly and are from 0 to 63; a view may name nobody
   pub rising-names : read "(view 0 1 63)" ≡ Got (View 9223372036854775811)
   pub no-names : read "(view)" ≡ Got (View 0)

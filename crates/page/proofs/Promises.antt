@@ -6,8 +6,9 @@ use mathlib.Core.List.{List, [], _∷_}
 use Prim.Native.Nat.{ℕ, zero, suc, _+_, _*_, _≤_, _<_}
 use native.Mathlib.Omega.{arith}
 use lib.Dec.{leb, eqb}
-use lib.ListN.{length, take, drop}
-use borrow.Author.Tests.{leb-true, eqb-true}
+use lib.ListN.{length, drop}
+use lib.Seq.{take-at, drop-at}
+use borrow.Author.Tests.{leb-true, eqb-true, le-leb, lt-leb}
 use Rattle.finite.specs.Finite.{table}
 use Rattle.finite.proofs.Sums.{sum-le}
 use Rattle.finite.proofs.Tables.{getD-table, length-table}
@@ -18,15 +19,15 @@ use Rattle.campaigns.proofs.Laws.{spending-within}
 use Rattle.day.specs.declared.Day.{Day}
 use Rattle.day.specs.Day.{campaign, total-takings, total-budgets}
 use Rattle.day.specs.Day.{sound}
+use Rattle.questions.specs.Questions.{first-failed}
 use Rattle.day.proofs.State.{Sound, sound-facts, held-at}
 use Rattle.page.specs.declared.Printing.the-variants.{Length, Refusal}
-use Rattle.lines.specs.Form.{bytes}
-use Rattle.page.specs.Page.{Row, Row-fits, All-fit, Figures-fit, line-length, page, figure-in, read-page}
+use Rattle.page.specs.Page.{Row, Row-fits, All-fit, Figures-fit, line-length, page, read-page}
 use Rattle.page.specs.Figures.{page-row, figures}
-use Rattle.page.specs.Printing.{page-of, page-question, printing, number, values, Tells}
-use Rattle.page.specs.Promises.{Line-shows, Page-shows, Promises}
-use Rattle.page.proofs.ReadBack.{no-row, page-length, page-back, page-numbers, page-rows, page-total}
-use Rattle.page.proofs.ReadBack.{page-takings, page-ended}
+use Rattle.page.specs.Printing.{page-of, page-question, printing, printed, number, values, Tells}
+use Rattle.page.specs.Promises.{Line-shows, Total-shows, Page-shows, Promises}
+use Rattle.page.proofs.ReadBack.{Row-shows, no-row, page-length, page-back, page-row-shows, page-total-shows}
+use Rattle.page.proofs.ReadBack.{page-ended}
 
 -- the budget of a priced campaign
 priced-budget : (c : Campaign) → priced c ≡ true → c .budget ≤ 2_000_000_000
@@ -76,22 +77,22 @@ sound-fits s e =
       takings-fit = omega (arith, takings-fit s h);
     }
 
--- line i of a sound state's page is read as campaign i's
+-- line i of a sound state's page shows campaign i
 line-shows : (s : Day) → sound s ≡ true → (i : ℕ) → i < s .count
     → Line-shows i (campaign s i) (drop (line-length * i) (page-of s))
 unfolding figures
 line-shows s e i l =
     let f = figures s in
-    let fits = sound-fits s e in
     let row : ℕ → Row = λ j. page-row (campaign s j) in
     let n : i < length (f .rows) = omega (arith, length-table (s .count) row, l) in
-    let is = page-rows f fits i n ∙ getD-table (s .count) row no-row i l in
+    let shown = subst (λ (r : Row). Row-shows i r (drop (line-length * i) (page f)))
+    (getD-table (s .count) row no-row i l) (page-row-shows f (sound-fits s e) i n) in
     record {
-      number-is = page-numbers f fits i n;
-      plays-are = ap (λ (r : Row). r .plays) is;
-      price-is = ap (λ (r : Row). r .price) is;
-      paid-is = ap (λ (r : Row). r .paid) is;
-      named-is = ap (λ (r : Row). r .named) is;
+      number-is = shown .number-is;
+      plays-are = shown .plays-are;
+      price-is = shown .price-is;
+      paid-is = shown .paid-is;
+      named-is = shown .named-is;
     }
 
 shows : (s : Day) → sound s ≡ true → Page-shows s (page-of s)
@@ -103,14 +104,22 @@ shows s e =
     record {
       length-is = page-length f fits ∙ ap (λ (k : ℕ). line-length * (k + 1)) n;
       campaigns-are = line-shows s e;
-      total-is = subst (λ (k : ℕ). take 5 (drop (line-length * k) (page f)) ≡ bytes "total") n (page-total f fits);
-      takings-are =
-          subst (λ (k : ℕ). figure-in 21 34 (drop (line-length * k) (page f)) ≡ f .takings) n (page-takings f fits);
+      total-is =
+          subst (λ (k : ℕ). Total-shows (f .takings) (drop (line-length * k) (page f))) n (page-total-shows f fits);
     }
 
 tells : (s : Day) (d : List ℕ) → Tells s d
-unfolding printing
-tells s d = record { number-is = numbered (eqb q 0) refl; values-are = valued (eqb q 0) }
+unfolding printing printed page-question first-failed
+tells s d = record {
+  number-is = numbered (eqb q 0) refl;
+  values-are = valued (eqb q 0);
+  unsound = λ e. (rw e, rw e);
+  no-room = λ e l. let f = lt-leb (length (page-of s)) (length d) l in (rw (e, f), rw (e, f));
+  fills = λ e l.
+      let n = length (page-of s) in
+      let f = le-leb n (length d) l in
+      (rw (e, f), rw (e, f) (take-at (page-of s) (drop n d) n refl), rw (e, f) (drop-at (page-of s) (drop n d) n refl));
+}
   where
     q : ℕ
     q = page-question s d

@@ -1,6 +1,6 @@
--- The figures and the campaign numbers are read back from the bytes of a page, those of line i from that line alone, and
--- byte 10 ends each line and stands nowhere else. All go line by line from the front: a line has 41 bytes, and its
--- columns stand at fixed places.
+-- The figures and the campaign numbers stand flush right in their columns and are read back from the bytes of a page,
+-- those of line i from that line alone, and byte 10 ends each line and stands nowhere else. All go line by line from
+-- the front: a line has 41 bytes, and its columns stand at fixed places.
 use mathlib.Core.Path.{_≡_, refl, sym, ap, ap₂, _∙_, subst}
 use mathlib.Core.Bool.{Bool, true, false}
 use mathlib.Core.List.{List, [], _∷_, _++_, append-assoc}
@@ -14,10 +14,11 @@ use Rattle.lines.specs.Numeral.{numeral}
 use Rattle.lines.specs.Form.{bytes}
 use Rattle.lines.proofs.Plain.{plain, plain-at}
 use Rattle.page.specs.Page.{Row, Figures, line-length, flush, spaces, cents, row-text, total-text, row-lines}
-use Rattle.page.specs.Page.{page, Row-fits, All-fit, Figures-fit, number-in}
-use Rattle.page.specs.Page.{figure-in, read-row, with-row, read-lines, read-page}
+use Rattle.page.specs.Page.{page, Row-fits, All-fit, Figures-fit, text-in}
+use Rattle.page.specs.Page.{read-row, with-row, read-lines, read-page}
+use Rattle.page.specs.Promises.{Number, Amount, Total-shows}
 use Rattle.page.proofs.Texts.{flush-length, number-3, number-6, cents-11, cents-14, row-length, total-length}
-use Rattle.page.proofs.Texts.{row-plain, total-plain, value-number, value-amount}
+use Rattle.page.proofs.Texts.{row-plain, total-plain, shows-number, shows-amount}
 
 -- the bytes t behind p
 column-at : (p t q : List ℕ) (k w : ℕ) → length p ≡ k → length t ≡ w → take w (drop k (p ++ (t ++ q))) ≡ t
@@ -25,14 +26,22 @@ column-at p t q k w e f = ap (take w) (drop-at p (t ++ q) k e) ∙ take-at t q w
 
 -- A line of a campaign.
 
+-- the line at the front of l shows the row r of campaign i
+pub record Row-shows (i : ℕ) (r : Row) (l : List ℕ) : Type 0 where
+  pub number-is : Number 1 3 i l
+  pub plays-are : Number 4 9 (r .plays) l
+  pub price-is : Amount 10 20 (r .price) l
+  pub paid-is : Amount 21 34 (r .paid) l
+  pub named-is : Number 35 40 (r .named) l
+
 same-row : (r : Row) {a b c d : ℕ} → a ≡ r .plays → b ≡ r .price → c ≡ r .paid → d ≡ r .named
     → record { plays = a; price = b; paid = c; named = d } ≡ r
 same-row r e f g h = rw (e, f, g, h)
 
 module _ (i : ℕ) (r : Row) (k : i < 10 ^ 3) (h : Row-fits r) (m : List ℕ) where
-  read-back : read-row (row-text i r ++ m) ≡ r
+  row-shows : Row-shows i r (row-text i r ++ m)
   unfolding row-text
-  read-back =
+  row-shows =
       let number = flush 1 3 (numeral i) in
       let plays = flush 4 9 (numeral (r .plays)) in
       let price = flush 10 20 (cents (r .price)) in
@@ -47,46 +56,46 @@ module _ (i : ℕ) (r : Row) (k : i < 10 ^ 3) (h : Row-fits r) (m : List ℕ) wh
       let n₃ : length ((number ++ plays) ++ price) ≡ 20 = omega (arith, n₂, length-append (number ++ plays) price) in
       let n₄ : length (((number ++ plays) ++ price) ++ paid) ≡ 34 =
       omega (arith, n₃, length-append ((number ++ plays) ++ price) paid) in
-      let e₂ : row-text i r ++ m ≡ number ++ (plays ++ (price ++ (paid ++ (named ++ m)))) = simp append-assoc in
+      let e₁ : row-text i r ++ m ≡ number ++ (plays ++ (price ++ (paid ++ (named ++ m)))) = simp append-assoc in
       let e₃ : row-text i r ++ m ≡ (number ++ plays) ++ (price ++ (paid ++ (named ++ m))) = simp append-assoc in
       let e₄ : row-text i r ++ m ≡ ((number ++ plays) ++ price) ++ (paid ++ (named ++ m)) = simp append-assoc in
       let e₅ : row-text i r ++ m ≡ (((number ++ plays) ++ price) ++ paid) ++ (named ++ m) = simp append-assoc in
-      let c₂ : figure-in 4 9 (row-text i r ++ m) ≡ r .plays =
-      ap (figure-in 4 9) e₂ ∙ ap (number-in 0) (column-at number plays (price ++ (paid ++ (named ++ m))) 3 6 l₁ l₂)
-      ∙ value-number 4 9 (r .plays) (omega (arith, h .plays-fit)) in
-      let c₃ : figure-in 10 20 (row-text i r ++ m) ≡ r .price =
-      ap (figure-in 10 20) e₃ ∙ ap (number-in 0) (column-at (number ++ plays) price (paid ++ (named ++ m)) 9 11 n₂ l₃)
-      ∙ value-amount 10 20 (r .price) (omega (arith, h .price-fits)) in
-      let c₄ : figure-in 21 34 (row-text i r ++ m) ≡ r .paid =
-      ap (figure-in 21 34) e₄
-      ∙ ap (number-in 0) (column-at ((number ++ plays) ++ price) paid (named ++ m) 20 14 n₃ l₄)
-      ∙ value-amount 21 34 (r .paid) (omega (arith, h .paid-fits)) in
-      let c₅ : figure-in 35 40 (row-text i r ++ m) ≡ r .named =
-      ap (figure-in 35 40) e₅
-      ∙ ap (number-in 0) (column-at (((number ++ plays) ++ price) ++ paid) named m 34 6 n₄ l₅)
-      ∙ value-number 35 40 (r .named) (omega (arith, h .named-fit)) in
-      same-row r c₂ c₃ c₄ c₅
+      let c₁ = ap (text-in 1 3) e₁ ∙ column-at [] number (plays ++ (price ++ (paid ++ (named ++ m)))) 0 3 refl l₁ in
+      let c₂ = ap (text-in 4 9) e₁ ∙ column-at number plays (price ++ (paid ++ (named ++ m))) 3 6 l₁ l₂ in
+      let c₃ = ap (text-in 10 20) e₃ ∙ column-at (number ++ plays) price (paid ++ (named ++ m)) 9 11 n₂ l₃ in
+      let c₄ = ap (text-in 21 34) e₄ ∙ column-at ((number ++ plays) ++ price) paid (named ++ m) 20 14 n₃ l₄ in
+      let c₅ = ap (text-in 35 40) e₅ ∙ column-at (((number ++ plays) ++ price) ++ paid) named m 34 6 n₄ l₅ in
+      record {
+        number-is = shows-number 1 3 i (omega arith) c₁;
+        plays-are = shows-number 4 9 (r .plays) (omega (arith, h .plays-fit)) c₂;
+        price-is = shows-amount 10 20 (r .price) (omega (arith, h .price-fits)) c₃;
+        paid-is = shows-amount 21 34 (r .paid) (omega (arith, h .paid-fits)) c₄;
+        named-is = shows-number 35 40 (r .named) (omega (arith, h .named-fit)) c₅;
+      }
 
-  number-back : figure-in 1 3 (row-text i r ++ m) ≡ i
-  unfolding row-text
-  number-back =
-      let number = flush 1 3 (numeral i) in
-      ap (figure-in 1 3) (append-assoc number _ m)
-      ∙ ap (number-in 0) (column-at [] number _ 0 3 refl (flush-length 1 3 (numeral i) (number-3 i k)))
-      ∙ value-number 1 3 i (omega arith)
+  read-back : read-row (row-text i r ++ m) ≡ r
+  read-back =
+      let s = row-shows in
+      same-row r (s .plays-are .figure-is) (s .price-is .figure-is) (s .paid-is .figure-is) (s .named-is .figure-is)
 
 -- The last line.
 
-total-back : (t : ℕ) (m : List ℕ) → t < 10 ^ 13 → figure-in 21 34 (total-text t ++ m) ≡ t
+total-shows : (t : ℕ) (m : List ℕ) → t < 10 ^ 13 → Total-shows t (total-text t ++ m)
 unfolding total-text
-total-back t m h =
+total-shows t m h =
     let front = bytes "total" ++ spaces 6 20 in
     let amount = flush 21 34 (cents t) in
+    let l = flush-length 21 34 (cents t) (cents-14 t h) in
+    let n : length (front ++ amount) ≡ 34 = omega (arith, length-append front amount) in
     let e : total-text t ++ m ≡ front ++ (amount ++ (spaces 35 40 ++ m)) = simp append-assoc in
-    ap (figure-in 21 34) e
-    ∙ ap (number-in 0)
-    (column-at front amount (spaces 35 40 ++ m) 20 14 refl (flush-length 21 34 (cents t) (cents-14 t h)))
-    ∙ value-amount 21 34 t (omega arith)
+    let f : total-text t ++ m ≡ (front ++ amount) ++ (spaces 35 40 ++ m) = simp append-assoc in
+    record {
+      word-is = refl;
+      takings-are =
+          shows-amount 21 34 t (omega arith)
+          (ap (text-in 21 34) e ∙ column-at front amount (spaces 35 40 ++ m) 20 14 refl l);
+      spaces-are = (refl, ap (text-in 35 40) f ∙ column-at (front ++ amount) (spaces 35 40) m 34 6 n refl);
+    }
 
 -- All lines.
 
@@ -110,7 +119,8 @@ rows-next i r rs m k h =
 lines-back : (i : ℕ) (rs : List Row) (t : ℕ) (m : List ℕ) → i + length rs ≤ 10 ^ 3 → All-fit rs → t < 10 ^ 13
     → read-lines (length rs) (row-lines i rs ++ (total-text t ++ m)) ≡ record { rows = rs; takings = t }
 unfolding read-lines row-lines
-lines-back i [] t m k h b = ap (λ (x : ℕ). record { rows = []; takings = x }) (total-back t m b)
+lines-back i [] t m k h b =
+    ap (λ (x : ℕ). record { rows = []; takings = x }) (total-shows t m b .takings-are .figure-is)
 lines-back i (r ∷ rs) t m k h b =
     let tail = total-text t ++ m in
     let i-fits : i < 10 ^ 3 = omega arith in
@@ -194,11 +204,10 @@ module _ (f : Figures) (h : Figures-fit f) (i : ℕ) (b : i < length (f .rows)) 
       ∙ ap (λ (rs : List Row). row-lines i rs ++ tail) (drop-cons (f .rows) i no-row b)
       ∙ rows-then i (getD (f .rows) i no-row) (drop (suc i) (f .rows)) tail
 
-  pub page-numbers : figure-in 1 3 (drop (line-length * i) (page f)) ≡ i
-  page-numbers = ap (figure-in 1 3) line-is ∙ number-back i (getD (f .rows) i no-row) i-fits row-fits behind
-
-  pub page-rows : read-row (drop (line-length * i) (page f)) ≡ getD (f .rows) i no-row
-  page-rows = ap read-row line-is ∙ read-back i (getD (f .rows) i no-row) i-fits row-fits behind
+  pub page-row-shows : Row-shows i (getD (f .rows) i no-row) (drop (line-length * i) (page f))
+  page-row-shows =
+      subst (Row-shows i (getD (f .rows) i no-row)) (sym line-is)
+      (row-shows i (getD (f .rows) i no-row) i-fits row-fits behind)
 
 -- The last line of a page.
 
@@ -209,14 +218,10 @@ last-is f h =
     drop-at (row-lines 0 (f .rows)) (total-text (f .takings) ++ (10 ∷ [])) (line-length * length (f .rows))
     (rows-length 0 (f .rows) (omega (arith, h .few)) (h .rows-fit))
 
-pub page-total : (f : Figures) → Figures-fit f
-    → take 5 (drop (line-length * length (f .rows)) (page f)) ≡ bytes "total"
-unfolding total-text
-page-total f h = ap (take 5) (last-is f h)
-
-pub page-takings : (f : Figures) → Figures-fit f
-    → figure-in 21 34 (drop (line-length * length (f .rows)) (page f)) ≡ f .takings
-page-takings f h = ap (figure-in 21 34) (last-is f h) ∙ total-back (f .takings) (10 ∷ []) (h .takings-fit)
+pub page-total-shows : (f : Figures) → Figures-fit f
+    → Total-shows (f .takings) (drop (line-length * length (f .rows)) (page f))
+page-total-shows f h =
+    subst (Total-shows (f .takings)) (sym (last-is f h)) (total-shows (f .takings) (10 ∷ []) (h .takings-fit))
 
 -- Byte 10.
 

@@ -1,21 +1,23 @@
--- The texts of a page: how long they are, that no byte of them is 10, and that the digits of a figure in its columns
--- give the figure. Lengths and plain bytes go column by column; values go digit by digit from the last.
-use mathlib.Core.Path.{_≡_, refl, ap, _∙_}
+-- The texts of a page: how long they are, that no byte of them is 10, that the digits of a figure in its columns give
+-- the figure, and that nothing but spaces stands before it. Lengths and plain bytes go column by column; values go
+-- digit by digit from the last.
+use mathlib.Core.Path.{_≡_, refl, sym, ap, _∙_}
 use mathlib.Core.Bool.{Bool, true, false, cond}
-use mathlib.Core.List.{List, [], _∷_, _++_}
+use mathlib.Core.List.{List, [], _∷_, _++_, append-nil}
 use Prim.Native.Nat.{ℕ, zero, suc, _+_, _*_, _-_, _/_, _%_, _^_, _≤_, _<_}
 use native.Mathlib.Nat.{pow-suc, div-lt-iff-lt-mul}
 use native.Mathlib.Omega.{arith}
-use lib.Dec.{ltb, lit<}
+use lib.Dec.{ltb, eqb, lit<}
 use lib.ListN.{length, replicate, length-append, length-replicate}
-use borrow.Author.Tests.{ltb-true, ltb-false}
+use borrow.Author.Tests.{ltb-true, ltb-false, eqb-true}
 use Rattle.lines.specs.Numeral.{numeral}
-use Rattle.lines.specs.Reading.{is-digit}
-use Rattle.lines.proofs.Digits.{digit-yes}
-use Rattle.lines.proofs.Numerals.{numeral-one, numeral-more}
+use Rattle.lines.specs.Reading.{seen, unseen, is-digit, numeral-at}
+use Rattle.lines.proofs.Digits.{clash, digit-yes}
+use Rattle.lines.proofs.Numerals.{numeral-one, numeral-more, numeral-back}
 use Rattle.lines.proofs.Plain.{plain, append-plain, digit-plain, numeral-plain}
 use Rattle.print.proofs.Lengths.{len-within}
-use Rattle.page.specs.Page.{Row, Row-fits, flush, spaces, cents, row-text, total-text, number-in}
+use Rattle.page.specs.Page.{Row, Row-fits, flush, spaces, cents, row-text, total-text, number-in, text-in}
+use Rattle.page.specs.Promises.{behind-spaces, Number, Amount}
 
 -- Lengths.
 
@@ -147,11 +149,49 @@ value-cents n h =
     ∙ value-digit (n / 100 * 10 + n / 10 % 10) (n % 10) (omega arith) ∙ whole
 
 -- a figure is read from its columns
-pub value-number : (a b n : ℕ) → n < 2 ^ 64 → number-in 0 (flush a b (numeral n)) ≡ n
+value-number : (a b n : ℕ) → n < 2 ^ 64 → number-in 0 (flush a b (numeral n)) ≡ n
 unfolding flush
 value-number a b n h =
     value-spaces (b + 1 - a - length (numeral n)) 0 (numeral n) ∙ value-in 19 n (omega arith) h
 
-pub value-amount : (a b n : ℕ) → n < 2 ^ 64 → number-in 0 (flush a b (cents n)) ≡ n
+value-amount : (a b n : ℕ) → n < 2 ^ 64 → number-in 0 (flush a b (cents n)) ≡ n
 unfolding flush
 value-amount a b n h = value-spaces (b + 1 - a - length (cents n)) 0 (cents n) ∙ value-cents n h
+
+-- Flush right.
+
+-- a numeral that is seen at the front of t is seen behind spaces
+seen-behind : (k n : ℕ) (t m : List ℕ) → numeral-at t ≡ seen n m
+    → numeral-at (behind-spaces (replicate k 32 ++ t)) ≡ seen n m
+unfolding numeral-at is-digit
+seen-behind (suc k) n t m e = seen-behind k n t m e
+seen-behind zero n [] m e = e
+seen-behind zero n (b ∷ t) m e = go (eqb b 32) refl
+  where
+    go : (x : Bool) → eqb b 32 ≡ x → numeral-at (cond x (behind-spaces t) (b ∷ t)) ≡ seen n m
+    go true z =
+        let none : unseen ≡ seen n m = ap (λ (c : ℕ). numeral-at (c ∷ t)) (sym (eqb-true b 32 z)) ∙ e in
+        clash (cc)
+    go false z = e
+
+pub shows-number : {l : List ℕ} (a b n : ℕ) → n < 2 ^ 64 → text-in a b l ≡ flush a b (numeral n) → Number a b n l
+unfolding flush
+shows-number a b n h e = record {
+  figure-is = ap (number-in 0) e ∙ value-number a b n h;
+  flush-right =
+      ap (λ (t : List ℕ). numeral-at (behind-spaces t)) e
+      ∙ seen-behind (b + 1 - a - length (numeral n)) n (numeral n) []
+      (ap numeral-at (sym (append-nil (numeral n))) ∙ numeral-back n [] h refl);
+}
+
+pub shows-amount : {l : List ℕ} (a b n : ℕ) → n < 2 ^ 64 → text-in a b l ≡ flush a b (cents n) → Amount a b n l
+unfolding flush cents is-digit
+shows-amount a b n h e =
+    let decimals : List ℕ = 46 ∷ (48 + n / 10 % 10) ∷ (48 + n % 10) ∷ [] in
+    record {
+      figure-is = ap (number-in 0) e ∙ value-amount a b n h;
+      flush-right =
+          ap (λ (t : List ℕ). numeral-at (behind-spaces t)) e
+          ∙ seen-behind (b + 1 - a - length (cents n)) (n / 100) (cents n) decimals
+          (numeral-back (n / 100) decimals (omega arith) refl);
+    }

@@ -77,9 +77,13 @@ unfoldable pub number-in : ℕ → List ℕ → ℕ
 number-in a [] = a
 number-in a (b ∷ l) = number-in (cond (is-digit b) (a * 10 + (b - 48)) a) l
 
--- the figure in the columns from first to last of the line at the front of l
+-- the characters in the columns from first to last of the line at the front of l
+abbrev pub text-in : (first last : ℕ) → List ℕ → List ℕ
+text-in first last l = take (last + 1 - first) (drop (first - 1) l)
+
+-- the figure in these columns
 abbrev pub figure-in : (first last : ℕ) → List ℕ → ℕ
-figure-in first last l = number-in 0 (take (last + 1 - first) (drop (first - 1) l))
+figure-in first last l = number-in 0 (text-in first last l)
 
 abbrev pub read-row : List ℕ → Row
 read-row l = record {

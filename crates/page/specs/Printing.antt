@@ -1,10 +1,10 @@
 -- What printing a state's page answers, and what it leaves in the lent buffer.
-use Prim.Native.Nat.{ℕ}
+use Prim.Native.Nat.{ℕ, _≤_, _<_}
 use mathlib.Core.Path.{_≡_}
-use mathlib.Core.Bool.{cond}
+use mathlib.Core.Bool.{true, false, cond}
 use mathlib.Core.List.{List, [], _∷_, _++_}
 use lib.Dec.{leb, eqb}
-use lib.ListN.{length, drop}
+use lib.ListN.{length, take, drop}
 use Rattle.day.specs.declared.Day.{Day}
 use Rattle.questions.specs.Questions.{Question, question, first-failed}
 use Rattle.day.specs.Day.{sound}
@@ -42,8 +42,16 @@ abbrev pub values : Printing → List ℕ
 values (Length n) = n ∷ []
 values (Refusal q) = q ∷ []
 
--- what they say of printing the page of s into d
+-- what they say of printing the page of s into d; and what is answered and left in d, case by case
 pub record Tells (s : Day) (d : List ℕ) : Type 0 where
   pub number-is : number (printing s d) ≡ page-question s d
   pub values-are : values (printing s d)
       ≡ cond (eqb (page-question s d) 0) (length (page-of s) ∷ []) (page-question s d ∷ [])
+  -- "Is the state sound? No: 1." A refusal leaves the buffer as it was.
+  pub unsound : sound s ≡ false → (printing s d ≡ Refusal 1) × (printed s d ≡ d)
+  -- "The lent buffer follows question 18."
+  pub no-room : sound s ≡ true → length d < length (page-of s) → (printing s d ≡ Refusal 18) × (printed s d ≡ d)
+  -- the page fills the front of the buffer and its length is returned; later bytes keep their values
+  pub fills : sound s ≡ true → length (page-of s) ≤ length d
+      → let n = length (page-of s) in
+      (printing s d ≡ Length n) × (take n (printed s d) ≡ page-of s) × (drop n (printed s d) ≡ drop n d)

@@ -1,33 +1,57 @@
 -- What is promised of every page: "No figure that the limits allow overflows its columns. The figures can be read back
 -- from a page alone, and no two different sets print alike."
-use Prim.Native.Nat.{ℕ, _+_, _*_, _%_, _<_}
+use Prim.Native.Nat.{ℕ, _+_, _*_, _/_, _%_, _<_}
 use mathlib.Core.Path.{_≡_}
-use mathlib.Core.Bool.{true}
-use mathlib.Core.List.{List}
+use mathlib.Core.Bool.{true, cond}
+use mathlib.Core.List.{List, [], _∷_}
 use lib.Dec.{eqb}
-use lib.ListN.{length, take, drop, getD}
+use lib.ListN.{length, drop, replicate, getD}
 use Rattle.campaigns.specs.declared.Campaign.{Campaign}
 use Rattle.day.specs.declared.Day.{Day}
 use Rattle.day.specs.Day.{campaign, total-takings, sound}
 use Rattle.lines.specs.Form.{bytes}
-use Rattle.page.specs.Page.{Figures, line-length, Figures-fit, page, figure-in, read-page}
+use Rattle.lines.specs.Reading.{seen, numeral-at}
+use Rattle.page.specs.Page.{Figures, line-length, Figures-fit, page, text-in, figure-in, read-page}
 use Rattle.page.specs.Figures.{figures}
 use Rattle.page.specs.Printing.{page-of, Tells}
 
+-- l without the spaces at its front
+abbrev pub behind-spaces : List ℕ → List ℕ
+behind-spaces [] = []
+behind-spaces (b ∷ l) = cond (eqb b 32) (behind-spaces l) (b ∷ l)
+
+-- the number n in the columns from first to last of the line at the front of l, "flush right, filled with spaces": it
+-- is read from them, and behind spaces they hold its numeral and nothing else
+pub record Number (first last n : ℕ) (l : List ℕ) : Type 0 where
+  pub figure-is : figure-in first last l ≡ n
+  pub flush-right : numeral-at (behind-spaces (text-in first last l)) ≡ seen n []
+
+-- n cents there in the same manner, with "a point, two decimals and at least one digit before it, with no needless
+-- zeros in front": behind spaces the numeral of n / 100, byte 46, two digits and nothing else
+pub record Amount (first last n : ℕ) (l : List ℕ) : Type 0 where
+  pub figure-is : figure-in first last l ≡ n
+  pub flush-right : numeral-at (behind-spaces (text-in first last l))
+      ≡ seen (n / 100) (46 ∷ (48 + n / 10 % 10) ∷ (48 + n % 10) ∷ [])
+
 -- the line at the front of l shows campaign i, which is c
 pub record Line-shows (i : ℕ) (c : Campaign) (l : List ℕ) : Type 0 where
-  pub number-is : figure-in 1 3 l ≡ i
-  pub plays-are : figure-in 4 9 l ≡ c .plays
-  pub price-is : figure-in 10 20 l ≡ c .price
-  pub paid-is : figure-in 21 34 l ≡ c .price * c .plays
-  pub named-is : figure-in 35 40 l ≡ c .named
+  pub number-is : Number 1 3 i l
+  pub plays-are : Number 4 9 (c .plays) l
+  pub price-is : Amount 10 20 (c .price) l
+  pub paid-is : Amount 21 34 (c .price * c .plays) l
+  pub named-is : Number 35 40 (c .named) l
+
+-- the last line, at the front of l, shows the takings t, with spaces elsewhere
+pub record Total-shows (t : ℕ) (l : List ℕ) : Type 0 where
+  pub word-is : text-in 1 5 l ≡ bytes "total"
+  pub takings-are : Amount 21 34 t l
+  pub spaces-are : (text-in 6 20 l ≡ replicate 15 32) × (text-in 35 40 l ≡ replicate 6 32)
 
 -- the page l of a state: a line for each campaign in number order, and the last line with the takings
 pub record Page-shows (s : Day) (l : List ℕ) : Type 0 where
   pub length-is : length l ≡ line-length * (s .count + 1)
   pub campaigns-are : (i : ℕ) → i < s .count → Line-shows i (campaign s i) (drop (line-length * i) l)
-  pub total-is : take 5 (drop (line-length * s .count) l) ≡ bytes "total"
-  pub takings-are : figure-in 21 34 (drop (line-length * s .count) l) ≡ total-takings s
+  pub total-is : Total-shows (total-takings s) (drop (line-length * s .count) l)
 
 pub record Promises : Type 0 where
   -- the page of every sound state shows that state

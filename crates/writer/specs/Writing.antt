@@ -1,10 +1,10 @@
 -- What writing a record answers, and what it leaves in the lent buffer.
-use Prim.Native.Nat.{ℕ}
+use Prim.Native.Nat.{ℕ, _≤_, _<_}
 use mathlib.Core.Path.{_≡_}
-use mathlib.Core.Bool.{cond}
+use mathlib.Core.Bool.{true, false, cond}
 use mathlib.Core.List.{List, [], _∷_, _++_}
 use lib.Dec.{leb, eqb}
-use lib.ListN.{length, drop}
+use lib.ListN.{length, take, drop}
 use Rattle.lines.specs.Form.{text, in-range}
 use Rattle.lines.specs.declared.Record.{Record}
 use Rattle.writer.specs.declared.Writing.{Writing}
@@ -35,11 +35,19 @@ abbrev pub values : Writing → List ℕ
 values (Length n) = n ∷ []
 values (Refusal q) = q ∷ []
 
--- what they say of writing r into d
+-- what they say of writing r into d; and what is answered and left in d, case by case
 pub record Number-and-values (r : Record) (d : List ℕ) : Type 0 where
   pub number-is : number (writing r d) ≡ write-question r d
   pub values-are : values (writing r d)
       ≡ cond (eqb (write-question r d) 0) (length (line r) ∷ []) (write-question r d ∷ [])
+  -- "Is every number of the record in its range below? No: 17." A refusal leaves the buffer as it was.
+  pub out-of-range : in-range r ≡ false → (writing r d ≡ Refusal 17) × (written r d ≡ d)
+  -- "Is the lent buffer at least as long as the line with its byte 10? No: 18."
+  pub no-room : in-range r ≡ true → length d < length (line r) → (writing r d ≡ Refusal 18) × (written r d ≡ d)
+  -- "A written line fills the front of the buffer and its length is returned; later bytes keep their values."
+  pub fills : in-range r ≡ true → length (line r) ≤ length d
+      → let n = length (line r) in
+      (writing r d ≡ Length n) × (take n (written r d) ≡ line r) × (drop n (written r d) ≡ drop n d)
 
 abbrev pub Always-number-and-values : Type 0
 Always-number-and-values = (r : Record) (d : List ℕ) → Number-and-values r d
