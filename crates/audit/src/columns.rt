@@ -1,7 +1,11 @@
 // Soundness of the campaigns by columns: each test runs over whole columns in the arrays' own widths and without a
 // branch, so that several entries are tested at once. `columns_hold` makes them all, of at most 64 campaigns.
+use campaigns::AGES;
+use campaigns::BUDGETS;
 use campaigns::Head;
+use campaigns::NAMED;
 use campaigns::Phase;
+use campaigns::TURNS;
 ghost use mathlib.Core.Path.{_≡_};
 ghost use Prim.Native.Nat.{_≤_};
 ghost use Rattle.powers.specs.Limits.{max-depth};
@@ -23,7 +27,7 @@ fn priced_all<'a>(n: usize, terms: &'a [u32; 128], counts: &'a [u16; 256]) -> bo
     let mut fit = true;
     for i in 0..n {
         let price = terms[i];
-        let budget = terms[i + 64];
+        let budget = terms[i + BUDGETS];
         fit = fit
             & (1 <= price)
             & (price <= MAX_PRICE)
@@ -46,10 +50,10 @@ fn ordered_all<'a>(
 {
     let mut fit = true;
     for i in 0..n {
-        let turns = counts[i + 64];
-        let named = counts[i + 192];
+        let turns = counts[i + TURNS];
+        let named = counts[i + NAMED];
         fit = fit
-            & (counts[i + 128] < depth)
+            & (counts[i + AGES] < depth)
             & (counts[i] <= turns)
             & (turns <= named)
             & (named <= accepted);
@@ -64,7 +68,7 @@ fn no_terms_from<'a>(n: usize, terms: &'a [u32; 128], counts: &'a [u16; 256]) ->
 {
     let mut any: u32 = 0;
     for i in n..64 {
-        any = any | terms[i] | terms[i + 64];
+        any = any | terms[i] | terms[i + BUDGETS];
     }
     any == 0
 }
@@ -76,7 +80,7 @@ fn no_counts_in<'a>(n: usize, m: usize, terms: &'a [u32; 128], counts: &'a [u16;
 {
     let mut any: u16 = 0;
     for i in n..m {
-        any = any | counts[i] | counts[i + 64] | counts[i + 128] | counts[i + 192];
+        any = any | counts[i] | counts[i + TURNS] | counts[i + AGES] | counts[i + NAMED];
     }
     any == 0
 }

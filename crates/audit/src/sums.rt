@@ -1,5 +1,8 @@
 // The sums that soundness compares, over campaigns whose tests by columns pass.
+use campaigns::AGES;
+use campaigns::BUDGETS;
 use campaigns::Plan;
+use campaigns::TURNS;
 use campaigns::entry::wide16;
 use campaigns::entry::wide32;
 use campaigns::weights::weigh;
@@ -54,7 +57,7 @@ fn spend_all<'a>(n: usize, terms: &'a [u32; 128], counts: &'a [u16; 256]) -> Spe
     let mut turned: u64 = 0;
     for i in 0..n {
         let price = wide32(terms[i]);
-        let budget = wide32(terms[i + 64]);
+        let budget = wide32(terms[i + BUDGETS]);
         let spent = price * wide16(counts[i]);
         if budget < spent {
             return Spent {
@@ -66,7 +69,7 @@ fn spend_all<'a>(n: usize, terms: &'a [u32; 128], counts: &'a [u16; 256]) -> Spe
         }
         all = all + budget;
         takings = takings + spent;
-        turned = turned + price * wide16(counts[i + 64]);
+        turned = turned + price * wide16(counts[i + TURNS]);
     }
     Spent {
         within: true,
@@ -92,7 +95,7 @@ fn wait_all<'a>(
     let low = weigh(0, plan, weights);
     let mut sum: u64 = 0;
     for i in 0..n {
-        let weight = weigh(wide16(counts[i + 128]), plan, weights);
+        let weight = weigh(wide16(counts[i + AGES]), plan, weights);
         sum = sum + wide32(terms[i]) * (weight - low);
     }
     sum

@@ -1,5 +1,9 @@
 // Reading one campaign out of the arrays.
+use crate::AGES;
+use crate::BUDGETS;
 use crate::Campaign;
+use crate::NAMED;
+use crate::TURNS;
 ghost use mathlib.Core.Path.{_≡_};
 ghost use Prim.Native.Nat.{_<_};
 ghost use Rattle.campaigns.specs.Limits.{max-campaigns};
@@ -24,11 +28,11 @@ pub fn entry<'a>(i: usize, terms: &'a [u32; 128], counts: &'a [u16; 256]) -> Cam
     ensures { λ r. ⌜ (r ≡ campaign-at (now (terms .entry)) (now (counts .entry)) i) × Fits-arrays r ⌝ }
 {
     let price = wide32(terms[i]);
-    let budget = wide32(terms[i + 64]);
+    let budget = wide32(terms[i + BUDGETS]);
     let play = wide16(counts[i]);
-    let turn = wide16(counts[i + 64]);
-    let age = wide16(counts[i + 128]);
-    let name = wide16(counts[i + 192]);
+    let turn = wide16(counts[i + TURNS]);
+    let age = wide16(counts[i + AGES]);
+    let name = wide16(counts[i + NAMED]);
     Campaign {
         price: price,
         budget: budget,

@@ -1,9 +1,20 @@
 // A plan, its phases and its campaigns: the rules for one campaign. Campaigns stand by columns in two flat arrays of
-// small integers, which are lent: `terms` has the prices at i and the budgets at i + 64; `counts` has the plays, turns,
-// ages and named at i, i + 64, i + 128 and i + 192.
+// small integers, which are lent: `terms` has the prices and the budgets; `counts` has the plays, the turns, the ages
+// and how often each was named.
 pub mod entry;
 pub mod rules;
 pub mod weights;
+
+// Where the columns behind the first begin in `terms`: campaign i's price is `terms[i]`, its budget
+// `terms[i + BUDGETS]`.
+pub const BUDGETS: usize = 64;
+
+// The same in `counts`: its plays are `counts[i]`.
+pub const TURNS: usize = 64;
+
+pub const AGES: usize = 128;
+
+pub const NAMED: usize = 192;
 
 // What is handed to an opening.
 pub struct Plan {

@@ -1,6 +1,9 @@
 // The walk over the campaigns that a view names: the choice, and what the view makes of their counts.
+use campaigns::AGES;
 use campaigns::Campaign;
+use campaigns::NAMED;
 use campaigns::Plan;
+use campaigns::TURNS;
 use campaigns::View;
 use campaigns::entry::entry;
 use campaigns::weights::weigh;
@@ -53,9 +56,9 @@ fn store(i: usize, c: Campaign, counts: &mut [u16; 256])
     ensures { λ _. ⌜ now (counts .exit) ≡ put (now (counts .entry)) i c ⌝ }
 {
     counts[i] = c.plays as u16;
-    counts[i + 64] = c.turns as u16;
-    counts[i + 128] = c.age as u16;
-    counts[i + 192] = c.named as u16;
+    counts[i + TURNS] = c.turns as u16;
+    counts[i + AGES] = c.age as u16;
+    counts[i + NAMED] = c.named as u16;
 }
 
 // One walk over the named campaigns, from the least to the next: each is compared with the best so far, and each is

@@ -6,6 +6,7 @@ use crate::Call;
 use crate::Step;
 use crate::view::show_sound;
 use audit::Audit;
+use campaigns::BUDGETS;
 use campaigns::Head;
 use campaigns::Phase;
 use campaigns::Plan;
@@ -82,7 +83,7 @@ fn total_budgets<'a>(n: usize, terms: &'a [u32; 128], counts: &'a [u16; 256]) ->
 {
     let mut all: u64 = 0;
     for i in 0..n {
-        all = all + wide32(terms[i + 64]);
+        all = all + wide32(terms[i + BUDGETS]);
     }
     all
 }
@@ -105,7 +106,7 @@ pub fn add_sound<'a>(
         return Step::refused(head, question);
     }
     terms[at] = t.price as u32;
-    terms[at + 64] = t.budget as u32;
+    terms[at + BUDGETS] = t.budget as u32;
     let plan = head.plan;
     Step {
         head: Head {

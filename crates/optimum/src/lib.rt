@@ -1,5 +1,6 @@
 // What the day could have earned: the search for an allotment with the greatest takings, and its check, for a state of
 // any phase by its head and its two arrays.
+use campaigns::BUDGETS;
 use campaigns::Head;
 use day::ops::audited;
 ghost use mathlib.Core.Path.{_≡_};
@@ -82,7 +83,7 @@ fn whole_plays(count: u64, terms: &[u32; 128]) -> [u32; 64]
     let n = count as usize;
     let mut wholes = [0u32; 64];
     for i in 0..n {
-        wholes[i] = terms[i + 64] / terms[i];
+        wholes[i] = terms[i + BUDGETS] / terms[i];
     }
     wholes
 }
