@@ -1,7 +1,7 @@
 -- The encodings are undone case by case, each closed by computing.
 use mathlib.Core.Path.{_≡_, refl, ap, ap₂, sym, _∙_}
 use mathlib.Core.Bool.{Bool, true, false, cond, _&&_, _||_}
-use mathlib.Core.List.{List, [], _∷_}
+use mathlib.Core.List.{List, [], _∷_, _++_}
 use Prim.Native.Nat.{ℕ, zero, suc}
 use native.Mathlib.Omega.{arith}
 use lib.Dec.{leb, eqb}
@@ -18,7 +18,7 @@ use Rattle.lines.specs.declared.Record.the-variants as form
 use Rattle.lines.specs.Form.{numbers}
 use Rattle.lines.specs.Reading.{forms, made}
 use Rattle.encoding.specs.Encoding.{padded, tag-of, held-by, is-head, phase-of, head-in, head-words, answer-after}
-use Rattle.encoding.specs.Encoding.{is-form, record-of, record-words}
+use Rattle.encoding.specs.Encoding.{form-of, is-form, record-of, record-words}
 use Rattle.encoding.specs.Faithful.{Faithful, seven}
 
 -- heads
@@ -91,20 +91,21 @@ answer-once a b n e = sym (answer-back a) ∙ ap₂ answer-of n (e (0 ∷ [])) �
 
 -- records: their words are those of a form, and give them back
 record-kept : (r : Record) → (is-form (record-words r) ≡ true) × (record-of (record-words r) ≡ r)
+    × ((rest : List ℕ) → record-of (form-of r ∷ (numbers r ++ rest)) ≡ r)
 unfolding record-words padded numbers record-of forms made
-record-kept (form.Plan _ _) = (refl, refl)
-record-kept (form.Campaign _ _) = (refl, refl)
-record-kept form.Start = (refl, refl)
-record-kept (form.View _) = (refl, refl)
-record-kept form.Close = (refl, refl)
-record-kept form.Done = (refl, refl)
-record-kept (form.Play _ _) = (refl, refl)
-record-kept form.Nobody = (refl, refl)
-record-kept (form.Refused _) = (refl, refl)
-record-kept (form.Closed _ _ _) = (refl, refl)
-record-kept (form.Tally _ _ _ _ _) = (refl, refl)
-record-kept (form.Pause _) = (refl, refl)
-record-kept (form.Resume _) = (refl, refl)
+record-kept (form.Plan _ _) = (refl, refl, λ rest. refl)
+record-kept (form.Campaign _ _) = (refl, refl, λ rest. refl)
+record-kept form.Start = (refl, refl, λ rest. refl)
+record-kept (form.View _) = (refl, refl, λ rest. refl)
+record-kept form.Close = (refl, refl, λ rest. refl)
+record-kept form.Done = (refl, refl, λ rest. refl)
+record-kept (form.Play _ _) = (refl, refl, λ rest. refl)
+record-kept form.Nobody = (refl, refl, λ rest. refl)
+record-kept (form.Refused _) = (refl, refl, λ rest. refl)
+record-kept (form.Closed _ _ _) = (refl, refl, λ rest. refl)
+record-kept (form.Tally _ _ _ _ _) = (refl, refl, λ rest. refl)
+record-kept (form.Pause _) = (refl, refl, λ rest. refl)
+record-kept (form.Resume _) = (refl, refl, λ rest. refl)
 
 pub faithful : Faithful
 faithful = record {
@@ -114,4 +115,5 @@ faithful = record {
   answer-once = answer-once;
   form-is = λ r. record-kept r .0;
   record-back = λ r. record-kept r .1;
+  rest-ignored = λ r. record-kept r .2;
 }

@@ -1,3 +1,3 @@
 pub mod Faithful
 pub mod Forms
-pub mod Examples
+pub mod Words

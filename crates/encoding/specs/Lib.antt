@@ -1,3 +1,3 @@
 pub mod Encoding
 pub mod Faithful
-pub mod Examples
+pub mod Words

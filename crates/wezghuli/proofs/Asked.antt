@@ -6,7 +6,9 @@ use mathlib.Core.List.{List, [], _∷_}
 use mathlib.Core.Logic.{_⊎_, inl, inr}
 use Prim.Native.Nat.{ℕ, zero, suc, _<_}
 use native.Mathlib.Omega.{arith}
+use lib.Dec.{eqb}
 use lib.ListN.{length, take}
+use borrow.Author.Tests.{ne-eqb}
 use Rattle.day.specs.declared.Day.{Day}
 use Rattle.questions.specs.Questions.{first-failed}
 use Rattle.optimum.specs.declared.Optimum.the-variants.{Takings}
@@ -36,6 +38,15 @@ number-small : (q t : ℕ) → q < 100 → number (answer-of q t) < 100
 number-small zero t p = p
 number-small (suc q) t p = p
 
+number-is : (q t : ℕ) → number (answer-of q t) ≡ q
+number-is zero t = refl
+number-is (suc q) t = refl
+
+verdict-is : (q : ℕ) (b : Bool) → verdict-status (verdict-of q b) ≡ cond (eqb q 0) (cond b 0 no-fit) q
+verdict-is zero true = refl
+verdict-is zero false = refl
+verdict-is (suc q) b = rw (ne-eqb (suc q) 0 (λ z. omega (arith, z)))
+
 verdict-small : (q : ℕ) (b : Bool) → q < 100 → (verdict-status (verdict-of q b) ≡ no-fit) ⊎ (verdict-status
     (verdict-of q b) < 100)
 verdict-small zero true p = inr p
@@ -61,6 +72,15 @@ module _ (h t n views a u v : List ℕ) where
   pub search-refusal : is-head h ≡ true → search-status h t n views a u v < 100
   unfolding search-status s
   search-refusal e = rw e (number-small (failed s views a u v) (most-of s views) (failed-small s views a u v))
+
+  pub search-told : is-head h ≡ true → search-status h t n views a u v ≡ failed (lent-state h t n) views a u v
+  unfolding search-status s
+  search-told e = rw e (number-is (failed s views a u v) (most-of s views))
+
+  pub check-told : is-head h ≡ true → let s = lent-state h t n in check-status h t n views a u v
+      ≡ cond (eqb (failed s views a u v) 0) (cond (fits s views a u v) 0 no-fit) (failed s views a u v)
+  unfolding check-status s
+  check-told e = rw e (verdict-is (failed s views a u v) (fits s views a u v))
 
   pub check-refusal : is-head h ≡ true
       → (check-status h t n views a u v ≡ no-fit) ⊎ (check-status h t n views a u v < 100)
@@ -103,3 +123,10 @@ module _ (h t n views a a' u u' v v' : List ℕ) (e : search-status h t n views 
 
 pub takings-refusal : (h t n a : List ℕ) → is-head h ≡ true → takings-status h t n a < 100
 takings-refusal h t n a e = rw e (taken-small (lent-state h t n) a)
+
+pub takings-told : (h t n a : List ℕ) → is-head h ≡ true
+    → takings-status h t n a ≡ first-failed (takings-questions (lent-state h t n) a)
+unfolding takings-answer
+takings-told h t n a e =
+    let s = lent-state h t n in
+    rw e (number-is (first-failed (takings-questions s a)) (allotment-takings s (length a) a))

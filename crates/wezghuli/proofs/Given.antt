@@ -1,5 +1,5 @@
 -- What stands in lent memory where what is asked for is given: each by its definition.
-use mathlib.Core.Path.{_≡_}
+use mathlib.Core.Path.{_≡_, ap}
 use mathlib.Core.Bool.{true}
 use mathlib.Core.List.{List, [], _∷_}
 use Prim.Native.Nat.{ℕ, _≤_}
@@ -10,12 +10,16 @@ use Rattle.day.specs.Calls.{Call, call}
 use Rattle.day.specs.Day as states
 use Rattle.questions.specs.Questions.{first-failed}
 use Rattle.noon.specs.Noon as noon
+use Rattle.lines.specs.declared.Record.{Record}
+use Rattle.lines.specs.declared.Reading.{Reading}
+use Rattle.lines.specs.declared.Reading.the-variants.{Got}
+use Rattle.lines.specs.Reading.{reading}
 use Rattle.writer.specs.Writing as writer
 use Rattle.page.specs.Printing as page
 use Rattle.allotments.specs.Allotment.{at}
-use Rattle.encoding.specs.Encoding.{answer-after, is-head, is-form, record-of}
+use Rattle.encoding.specs.Encoding.{answer-after, is-head, is-form, record-of, record-words}
 use Rattle.wezghuli.specs.Library.{Memory, state, memory-after, lent-state, figures-after, line-after}
-use Rattle.wezghuli.specs.Library.{length-after, page-after, page-length-after}
+use Rattle.wezghuli.specs.Library.{read-into, record-after, length-after, page-after, page-length-after}
 use Rattle.wezghuli.specs.Search.{Search-leaves}
 
 pub answer-is : (k : Call) (m : Memory) → is-head (m .head) ≡ true
@@ -28,6 +32,9 @@ pub noon-is : (h t n l : List ℕ) → is-head h ≡ true → let s = lent-state
     ≡ full (s .plan) (states.total-takings s) ∷ states.total-claim s ∷ noon.floor-figure s ∷ []
 unfolding noon.at-noon first-failed
 noon-is h t n l e q = rw (e, q)
+
+pub read-is : (l w : List ℕ) (r : Record) → reading l ≡ Got r → record-after l w ≡ record-words r
+read-is l w r e = ap (λ (x : Reading). read-into x w) e
 
 pub write-is : (w d l : List ℕ) → is-form w ≡ true → writer.write-question (record-of w) d ≡ 0
     → (line-after w d ≡ writer.written (record-of w) d)

@@ -3,11 +3,11 @@
 use mathlib.Core.Path.{_≡_, refl, ap, sym, _∙_, subst}
 use mathlib.Core.Bool.{Bool, true, false, cond}
 use mathlib.Core.List.{List, [], _∷_, map}
-use Prim.Native.Nat.{ℕ, zero, suc, _<_}
+use Prim.Native.Nat.{ℕ, zero, suc, _≤_, _<_}
 use native.Mathlib.Omega.{arith}
 use lib.Dec.{leb}
-use lib.ListN.{length, replicate}
-use borrow.Author.Tests.{eq-eqb, lt-leb}
+use lib.ListN.{length, getD, replicate}
+use borrow.Author.Tests.{eq-eqb, lt-ltb, le-ltb, le-leb, lt-leb}
 use Rattle.campaigns.specs.declared.Head.{Head}
 use Rattle.campaigns.specs.Choice.{Choice}
 use Rattle.campaigns.specs.Choice.Choice.{nobody, plays}
@@ -23,9 +23,11 @@ use Rattle.questions.specs.Questions.{first-failed}
 use Rattle.day.specs.Calls.Call.{open-plan, add-campaign, start-day, show-view, ask-tally, close-day, mark-campaign}
 use Rattle.day.specs.Day as states
 use Rattle.noon.specs.Noon as noon
+use Rattle.noon.proofs.Numbers as noons
 use Rattle.lines.specs.declared.Record.{Record}
 use Rattle.lines.specs.Limits.{line-buffer}
 use Rattle.lines.specs.Form.{in-range}
+use Rattle.lines.specs.Reading.{forms, reading}
 use Rattle.lines.specs.OneText as read
 use Rattle.lines.proofs.Inverse.{one-text}
 use Rattle.page.specs.Printing as page
@@ -35,23 +37,24 @@ use Rattle.writer.proofs.Numbers.{number-and-values}
 use Rattle.reply.specs.Session.{Session, reply-room, fed, consumed-count}
 use Rattle.stream.specs.Stream.{new-stream, finished, session-of, stream-at, stream-of, consumed-bytes, handed-back}
 use Rattle.stream.specs.Stream.{Comes-to, Feeds, Finishes}
-use Rattle.encoding.specs.Encoding.{no-head, no-stream, no-room, is-head, head-in, head-words, answer-after, is-form}
-use Rattle.encoding.specs.Encoding.{record-of, is-stream}
+use Rattle.encoding.specs.Encoding.{no-head, no-form, no-stream, no-room, is-head, head-in, head-words, answer-after}
+use Rattle.encoding.specs.Encoding.{is-form, record-of}
 use Rattle.encoding.specs.Faithful.{seven}
 use Rattle.encoding.proofs.Faithful.{faithful}
 use Rattle.wezghuli.specs.Library.{Memory, memory, state, outcome, stored, status, memory-after, noon-status}
-use Rattle.wezghuli.specs.Library.{write-status}
+use Rattle.wezghuli.specs.Library.{read-status, write-status}
 use Rattle.wezghuli.specs.Library.{Lent, stream-in, stream-status, status-in, come-to, feed-after, finish-after}
 use Rattle.wezghuli.specs.Library.{lent-state, page-status}
 use Rattle.wezghuli.specs.Search.{search-status, check-status}
 use Rattle.wezghuli.specs.Promises.{Promises, left-by, statuses, blank-lent, handed-in}
-use Rattle.wezghuli.proofs.Streamed.{has-room, fed-misused, finish-misused}
+use Rattle.wezghuli.proofs.Streamed.{has-room, fed-misused, finish-misused, stream-taken, feed-stays}
+use Rattle.wezghuli.proofs.Streamed.{finish-stays}
 use Rattle.wezghuli.proofs.Kept.{noon-keeps, read-keeps, write-keeps, page-keeps, search-keeps, takings-keeps}
-use Rattle.wezghuli.proofs.Given.{answer-is, noon-is, write-is, page-is, search-beyond}
+use Rattle.wezghuli.proofs.Given.{answer-is, noon-is, read-is, write-is, page-is, search-beyond}
 use Rattle.wezghuli.proofs.Low.{small, Low, low-small}
 use Rattle.wezghuli.proofs.Low.Low.{none, then}
 use Rattle.wezghuli.proofs.Asked.{search-refusal, check-refusal, takings-refusal, search-checked}
-use Rattle.wezghuli.proofs.Asked.{search-takings, check-best}
+use Rattle.wezghuli.proofs.Asked.{search-takings, check-best, search-told, check-told, takings-told}
 
 -- operations in turn
 after-is : (k : Call) (m : Memory) → is-head (m .head) ≡ true → memory-after k m ≡ stored (outcome k m) (m .answer)
@@ -210,7 +213,14 @@ noon-small s = go (states.sound s)
 noon-refusal : (h t n : List ℕ) → is-head h ≡ true → noon-status h t n < 100
 noon-refusal h t n e = rw e (noon-small (state-of (head-in h) t n))
 
+noon-told : (h t n : List ℕ) → is-head h ≡ true
+    → noon-status h t n ≡ first-failed (noon.noon-questions (lent-state h t n))
+noon-told h t n e = rw e (noons.tells (lent-state h t n) .number-is)
+
 -- reading and writing
+read-told : (l : List ℕ) → read.Says l (read-status l) (read.values (reading l))
+read-told l = one-text .says l
+
 says-small : {l : List ℕ} {q : ℕ} {v : List ℕ} → read.Says l q v → q < 100
 says-small (read.a-text r i) = omega arith
 says-small (read.too-long p) = omega arith
@@ -223,8 +233,15 @@ write-small r d =
     subst (λ (q : ℕ). q < 100) (sym (number-and-values r d .number-is))
     (small (in-range r) (cond fits 0 18) 17 (small fits 0 18 (omega arith) (omega arith)) (omega arith))
 
-write-refusal : (w d : List ℕ) → is-form w ≡ true → write-status w d < 100
-write-refusal w d e = rw e (write-small (record-of w) d)
+a-form : (w : List ℕ) → getD w 0 0 ≤ 12 → is-form w ≡ true
+unfolding forms
+a-form w k = lt-ltb (getD w 0 0) 13 (omega arith)
+
+write-refusal : (w d : List ℕ) → getD w 0 0 ≤ 12 → write-status w d < 100
+write-refusal w d k = rw (a-form w k) (write-small (record-of w) d)
+
+write-told : (w d : List ℕ) → getD w 0 0 ≤ 12 → write-status w d ≡ writer.write-question (record-of w) d
+write-told w d k = rw (a-form w k) (number-and-values (record-of w) d .number-is)
 
 -- printing a page
 page-small : (s : Day) (d : List ℕ) → page.number (page.printing s d) < 100
@@ -236,6 +253,9 @@ page-small s d =
 
 page-refusal : (h t n d : List ℕ) → is-head h ≡ true → page-status h t n d < 100
 page-refusal h t n d e = rw e (page-small (lent-state h t n) d)
+
+page-told : (h t n d : List ℕ) → is-head h ≡ true → page-status h t n d ≡ page.page-question (lent-state h t n) d
+page-told h t n d e = rw e (pages.promises .tells (lent-state h t n) d .number-is)
 
 blank-words : head-words (states.head-of blank) ≡ seven 2 0 1 1 0 0 0
 unfolding blank
@@ -258,14 +278,19 @@ stream-misuse : (m : Lent) → is-head (m .head) ≡ false → status-in m ≡ n
 unfolding stream-status
 stream-misuse m e = rw e
 
-words-misuse : (m : Lent) → is-head (m .head) ≡ true → is-stream (m .words) ≡ false → status-in m ≡ no-stream
-unfolding stream-status
-words-misuse m e q = rw (e, q)
+write-misuse : (w d : List ℕ) → 12 < getD w 0 0 → write-status w d ≡ no-form
+unfolding forms
+write-misuse w d k = rw (le-ltb (getD w 0 0) 13 k)
 
-room-misuse : (m : Lent) → is-head (m .head) ≡ true → is-stream (m .words) ≡ true → length (m .out) < reply-room
-    → status-in m ≡ no-room
+words-misuse : (m : Lent) → is-head (m .head) ≡ true → line-buffer < getD (m .words) 0 0 → status-in m ≡ no-stream
 unfolding stream-status
-room-misuse m e q l = rw (e, q, lt-leb reply-room (length (m .out)) l)
+words-misuse m e k = rw (e, lt-leb (getD (m .words) 0 0) line-buffer k)
+
+room-misuse : (m : Lent) → is-head (m .head) ≡ true → getD (m .words) 0 0 ≤ line-buffer
+    → length (m .out) < reply-room → status-in m ≡ no-room
+unfolding stream-status
+room-misuse m e k r =
+    rw (e, le-leb (getD (m .words) 0 0) line-buffer k, lt-leb reply-room (length (m .out)) r)
 
 pub promises : Promises
 promises = record {
@@ -286,15 +311,28 @@ promises = record {
   takings-keeps = takings-keeps;
   answer-is = answer-is;
   noon-is = noon-is;
-  write-is = write-is;
+  read-is = read-is;
+  write-is = λ w d l k. write-is w d l (a-form w k);
   page-is = page-is;
   blank-words = λ a. blank-words;
+  columns = λ h t n i. (refl, refl, refl, refl, refl, refl);
+  stream-taken = stream-taken;
+  feed-stays = λ l m e. feed-stays m e l;
+  finish-stays = finish-stays;
   stream-from-blank = stream-from-blank;
   feeds = feeds;
   finishes = finishes;
+  noon-told = noon-told;
+  read-told = read-told;
+  write-told = write-told;
+  page-told = page-told;
+  search-told = search-told;
+  check-told = check-told;
+  takings-told = takings-told;
+  misuse-numbers = (refl, refl, refl, refl, refl);
   call-misuse = call-misuse;
   noon-misuse = λ h t n e. rw e;
-  write-misuse = λ w d e. rw e;
+  write-misuse = write-misuse;
   page-misuse = λ h t n d e. rw e;
   search-misuse = search-misuse;
   check-misuse = check-misuse;
@@ -304,7 +342,7 @@ promises = record {
   room-misuse = room-misuse;
   call-refusal = call-refusal;
   noon-refusal = noon-refusal;
-  read-refusal = λ l. says-small (one-text .says l);
+  read-refusal = λ l. says-small (read-told l);
   write-refusal = write-refusal;
   page-refusal = page-refusal;
   search-checked = search-checked;

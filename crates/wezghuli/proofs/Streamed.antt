@@ -1,34 +1,93 @@
 -- What feeding and finishing leave in the lent memory: everything as it was where the status is not 0, and else what
--- the stream in place has become, stored (`fed-stored`, `finish-stored`).
+-- the stream in place has become, stored (`fed-stored`, `finish-stored`), which has status 0 again.
 use mathlib.Core.Path.{_≡_, refl, sym, ap, ap₂, _∙_, subst}
 use mathlib.Core.Bool.{Bool, true, false, cond}
-use mathlib.Core.List.{List}
-use Prim.Native.Nat.{ℕ}
+use mathlib.Core.List.{List, [], _∷_, _++_}
+use Prim.Native.Nat.{ℕ, _≤_}
 use native.Mathlib.Omega.{arith}
 use lib.Dec.{leb, eqb}
-use lib.ListN.{length, getD}
-use borrow.Author.Tests.{eq-eqb, ne-eqb}
+use lib.ListN.{length, getD, drop, length-take, length-drop, length-append}
+use borrow.Author.Tests.{eq-eqb, ne-eqb, le-leb, leb-true}
 use Rattle.campaigns.specs.declared.Head.{Head}
 use Rattle.day.specs.Day as states
-use Rattle.reply.specs.Session.{Session, reply-room, fed, consumed-count}
+use Rattle.lines.specs.Limits.{line-buffer}
+use Rattle.reply.specs.Session.{Session, reply-room, longer, ended, after-byte, fed, consumed-count}
 use Rattle.stream.specs.declared.feed.Fed.{Fed}
 use Rattle.stream.specs.declared.feed.Moved.{Moved}
 use Rattle.stream.specs.declared.feed.Stream.{Stream}
 use Rattle.stream.specs.Stream.{finished, session-of, consumed-bytes, stream-at, fed-at, Comes-to, Feeds, Finishes}
 use Rattle.encoding.specs.Encoding.{no-head, no-stream, no-room, is-head, is-stream, head-in, head-words, stream-words}
+use Rattle.encoding.proofs.Faithful.{faithful}
 use Rattle.wezghuli.specs.Library.{Lent, lent, stream-in, stream-status, status-in, come-to, feed-after}
 use Rattle.wezghuli.specs.Library.{finish-after}
 
--- A status of 0 says that there is room.
-conds-room : (a b c : Bool) → cond a (cond b (cond c 0 no-room) no-stream) no-head ≡ 0 → c ≡ true
-conds-room true true true e = refl
-conds-room true true false e = absurd (omega (arith, e))
-conds-room true false c e = absurd (omega (arith, e))
-conds-room false b c e = absurd (omega (arith, e))
+-- A status of 0 says that no more bytes are kept than fit, and that there is room.
+conds-0 : (a b c : Bool) → cond a (cond b (cond c 0 no-room) no-stream) no-head ≡ 0 → (b ≡ true) × (c ≡ true)
+conds-0 true true true e = (refl, refl)
+conds-0 true true false e = absurd (omega (arith, e))
+conds-0 true false c e = absurd (omega (arith, e))
+conds-0 false b c e = absurd (omega (arith, e))
+
+is-taken : (m : Lent) → status-in m ≡ 0
+    → (is-stream (m .words) ≡ true) × (leb reply-room (length (m .out)) ≡ true)
+unfolding stream-status
+is-taken m e = conds-0 (is-head (m .head)) (is-stream (m .words)) (leb reply-room (length (m .out))) e
 
 pub has-room : (m : Lent) → status-in m ≡ 0 → leb reply-room (length (m .out)) ≡ true
+has-room m e = is-taken m e .1
+
+-- And they are enough, beside a head.
+pub stream-taken : (m : Lent) → is-head (m .head) ≡ true → getD (m .words) 0 0 ≤ line-buffer
+    → reply-room ≤ length (m .out) → status-in m ≡ 0
 unfolding stream-status
-has-room m e = conds-room (is-head (m .head)) (is-stream (m .words)) (leb reply-room (length (m .out))) e
+stream-taken m e k r =
+    rw (e, le-leb (getD (m .words) 0 0) line-buffer k, le-leb reply-room (length (m .out)) r)
+
+-- What a block and the end of input leave is a stream again.
+byte-short : (x : Session) (b : ℕ) → length (after-byte x b .pending) ≤ line-buffer
+unfolding after-byte
+byte-short x b = go (eqb b 10)
+  where
+    go : (t : Bool) → length (cond t (ended x) (longer x (b ∷ [])) .pending) ≤ line-buffer
+    go true = omega arith
+    go false = omega (arith, length-take line-buffer (x .pending ++ (b ∷ [])))
+
+fed-short : (x : Session) (l : List ℕ) → length (x .pending) ≤ line-buffer → length (fed x l .pending) ≤ line-buffer
+unfolding fed
+fed-short x [] h = h
+fed-short x (b ∷ l) h = fed-short (after-byte x b) l (byte-short x b)
+
+come-stays : (y : Session) (n : ℕ) (d : List ℕ) → length (y .pending) ≤ line-buffer → reply-room ≤ length d
+    → status-in (come-to y n d) ≡ 0
+come-stays y n d h r =
+    let k = length (y .output) in
+    stream-taken (come-to y n d) (faithful .head-is (states.head-of (y .day))) h
+    (omega (arith, length-append (y .output) (drop k d), length-drop k d))
+
+module _ (m : Lent) (e : status-in m ≡ 0) where
+  abbrev begun : Session
+  begun = session-of (stream-in m)
+
+  begun-short : length (begun .pending) ≤ line-buffer
+  begun-short =
+      let k = getD (m .words) 0 0 in
+      omega (arith, length-take k (m .pending), leb-true k line-buffer (is-taken m e .0))
+
+  room : reply-room ≤ length (m .out)
+  room = leb-true reply-room (length (m .out)) (has-room m e)
+
+  pub feed-stays : (l : List ℕ) → status-in (feed-after l m) ≡ 0
+  unfolding feed-after
+  feed-stays l =
+      let taken = consumed-bytes begun l (m .out) in
+      rw (eq-eqb (status-in m) 0 e)
+      (come-stays (fed begun taken) (consumed-count (length (m .out)) begun l) (m .out)
+      (fed-short begun taken begun-short) room)
+
+  pub finish-stays : status-in (finish-after m) ≡ 0
+  unfolding finish-after finished
+  finish-stays =
+      rw (eq-eqb (status-in m) 0 e) (come-stays (finished begun) 0 (m .out) (omega arith) room)
 
 -- Misuse: the memory stays.
 module _ (m : Lent) {r : ℕ} (told : r ≡ status-in m) (misuse : r ≡ 0 → ⊥) where

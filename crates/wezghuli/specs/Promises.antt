@@ -1,28 +1,35 @@
 -- What the functions promise to a caller, besides their contracts: operations in turn are calls in turn, a refusal and
 -- a misuse leave all lent memory, what is given is stored, blocks in turn are handed to one stream, the check accepts
--- what the search leaves and its takings are the greatest, and misuse is told apart from every refusal.
+-- what the search leaves and its takings are the greatest, each status is the number of the first question that fails,
+-- and misuse is told apart from every refusal.
 use mathlib.Core.Path.{_≡_}
-use mathlib.Core.Bool.{true, false}
+use mathlib.Core.Bool.{true, false, cond}
 use mathlib.Core.List.{List, [], _∷_, map}
 use mathlib.Core.Logic.{_⊎_}
-use Prim.Native.Nat.{ℕ, _≤_, _<_}
+use Prim.Native.Nat.{ℕ, _+_, _≤_, _<_}
+use lib.Dec.{eqb}
 use lib.ListN.{length, getD, take, replicate}
 use Rattle.campaigns.specs.View.{full}
 use Rattle.day.specs.Day.{blank}
 use Rattle.day.specs.Day as states
 use Rattle.day.specs.Calls.{number, Call, call}
-use Rattle.noon.specs.Noon.{floor-figure}
+use Rattle.questions.specs.Questions.{first-failed}
+use Rattle.noon.specs.Noon.{floor-figure, noon-questions}
 use Rattle.demands.specs.Transcript.{transcript, final}
+use Rattle.lines.specs.declared.Record.{Record}
+use Rattle.lines.specs.declared.Reading.the-variants.{Got}
 use Rattle.lines.specs.Limits.{line-buffer}
+use Rattle.lines.specs.OneText as read
+use Rattle.lines.specs.Reading.{reading}
 use Rattle.writer.specs.Writing as writer
 use Rattle.page.specs.Printing as page
 use Rattle.reply.specs.Session.{reply-room}
 use Rattle.stream.specs.declared.feed.Fed.{Fed}
 use Rattle.stream.specs.Stream.{new-stream, Feeds, Finishes}
 use Rattle.allotments.specs.Allotment.{at}
-use Rattle.optimum.specs.Optimum.{most-of, Best-allotment}
-use Rattle.encoding.specs.Encoding.{no-head, no-form, no-stream, no-room, no-fit, is-head, head-words, is-form}
-use Rattle.encoding.specs.Encoding.{answer-after, record-of, is-stream, stream-words}
+use Rattle.optimum.specs.Optimum.{failed, fits, takings-questions, most-of, Best-allotment}
+use Rattle.encoding.specs.Encoding.{no-head, no-form, no-stream, no-room, no-fit, is-head, head-words}
+use Rattle.encoding.specs.Encoding.{answer-after, record-words, record-of, stream-words}
 use Rattle.encoding.specs.Faithful.{seven}
 use Rattle.wezghuli.specs.Library.{Memory, memory, state, status, memory-after, noon-status, figures-after}
 use Rattle.wezghuli.specs.Library.{read-status, record-after, write-status, line-after, length-after}
@@ -86,15 +93,16 @@ pub record Promises : Type 0 where
       → (a' ≡ a) × (u' ≡ u) × (v' ≡ v)
   pub takings-keeps : (head terms counts a takings : List ℕ) → (takings-status head terms counts a ≡ 0 → ⊥)
       → takings-after head terms counts a takings ≡ takings
-  -- the answer of a call is stored, and so is what else was asked for: full, claim and the floor's figure; a line or a
-  -- page, and its length
+  -- the answer of a call is stored, and so is what else was asked for: full, claim and the floor's figure; the record
+  -- of a line; a line or a page, and its length
   pub answer-is : (k : Call) (m : Memory) → is-head (m .head) ≡ true
       → memory-after k m .answer ≡ answer-after (call (state m) k .answer) (m .answer)
   pub noon-is : (head terms counts figures : List ℕ) → is-head head ≡ true
       → let s = lent-state head terms counts in states.sound s ≡ true
       → figures-after head terms counts figures
       ≡ full (s .plan) (states.total-takings s) ∷ states.total-claim s ∷ floor-figure s ∷ []
-  pub write-is : (words out written : List ℕ) → is-form words ≡ true → writer.write-question (record-of words) out ≡ 0
+  pub read-is : (line words : List ℕ) (r : Record) → reading line ≡ Got r → record-after line words ≡ record-words r
+  pub write-is : (words out written : List ℕ) → getD words 0 0 ≤ 12 → writer.write-question (record-of words) out ≡ 0
       → (line-after words out ≡ writer.written (record-of words) out)
       × (length-after words out written ≡ length (writer.line (record-of words)) ∷ [])
   pub page-is : (head terms counts out written : List ℕ) → is-head head ≡ true
@@ -103,6 +111,16 @@ pub record Promises : Type 0 where
       × (page-length-after head terms counts out written ≡ length (page.page-of s) ∷ [])
   -- the words of the blank state: Closed, takings 0, depth 1, width 1, no campaigns, no views, no marks
   pub blank-words : (a : List ℕ) → blank-memory a .head ≡ seven 2 0 1 1 0 0 0
+  -- campaign i of the arrays: its price and budget; its plays, turns, age and named
+  pub columns : (head terms counts : List ℕ) (i : ℕ) → let c = states.campaign (lent-state head terms counts) i in
+      (c .price ≡ getD terms i 0) × (c .budget ≡ getD terms (i + 64) 0) × (c .plays ≡ getD counts i 0)
+      × (c .turns ≡ getD counts (i + 64) 0) × (c .age ≡ getD counts (i + 128) 0) × (c .named ≡ getD counts (i + 192) 0)
+  -- a head, no more bytes kept than a line buffer has and room for the longest answer are a stream, and what a block
+  -- and the end of input leave is one again
+  pub stream-taken : (m : Lent) → is-head (m .head) ≡ true → getD (m .words) 0 0 ≤ line-buffer
+      → reply-room ≤ length (m .out) → status-in m ≡ 0
+  pub feed-stays : (l : List ℕ) (m : Lent) → status-in m ≡ 0 → status-in (feed-after l m) ≡ 0
+  pub finish-stays : (m : Lent) → status-in m ≡ 0 → status-in (finish-after m) ≡ 0
   -- from the blank memory on it is a new stream, and a block and the end of input leave what the stream hands back, so
   -- that `Chunking.Any-chunking` speaks of them
   pub stream-from-blank : (out : List ℕ) → stream-in (blank-lent out) ≡ new-stream
@@ -127,10 +145,29 @@ pub record Promises : Type 0 where
   -- what the check accepts is an allotment that none exceeds
   pub check-best : (head terms counts views a u v : List ℕ) → check-status head terms counts views a u v ≡ 0
       → Best-allotment (lent-state head terms counts) views a
-  -- misuse is told by its status, whatever else is lent: words that are no head, no record, no stream; too little room
+  -- where nothing is misused, a status is 0 or the number of the first question that fails: of a line that is read as
+  -- `Says` has it; of a check by which none fails 0 where the figures fit, and `no-fit` where they do not
+  pub noon-told : (head terms counts : List ℕ) → is-head head ≡ true
+      → noon-status head terms counts ≡ first-failed (noon-questions (lent-state head terms counts))
+  pub read-told : (line : List ℕ) → read.Says line (read-status line) (read.values (reading line))
+  pub write-told : (words out : List ℕ) → getD words 0 0 ≤ 12
+      → write-status words out ≡ writer.write-question (record-of words) out
+  pub page-told : (head terms counts out : List ℕ) → is-head head ≡ true
+      → page-status head terms counts out ≡ page.page-question (lent-state head terms counts) out
+  pub search-told : (head terms counts views a u v : List ℕ) → is-head head ≡ true
+      → search-status head terms counts views a u v ≡ failed (lent-state head terms counts) views a u v
+  pub check-told : (head terms counts views a u v : List ℕ) → is-head head ≡ true
+      → let s = lent-state head terms counts in check-status head terms counts views a u v
+      ≡ cond (eqb (failed s views a u v) 0) (cond (fits s views a u v) 0 no-fit) (failed s views a u v)
+  pub takings-told : (head terms counts a : List ℕ) → is-head head ≡ true
+      → takings-status head terms counts a ≡ first-failed (takings-questions (lent-state head terms counts) a)
+  -- misuse is told by its status, whatever else is lent: words that are no head, no record (12 is the last form), no
+  -- stream; too little room
+  pub misuse-numbers :
+      (no-head ≡ 100) × (no-form ≡ 101) × (no-stream ≡ 102) × (no-room ≡ 103) × (no-fit ≡ 104)
   pub call-misuse : (k : Call) (m : Memory) → is-head (m .head) ≡ false → status k m ≡ no-head
   pub noon-misuse : (head terms counts : List ℕ) → is-head head ≡ false → noon-status head terms counts ≡ no-head
-  pub write-misuse : (words out : List ℕ) → is-form words ≡ false → write-status words out ≡ no-form
+  pub write-misuse : (words out : List ℕ) → 12 < getD words 0 0 → write-status words out ≡ no-form
   pub page-misuse : (head terms counts out : List ℕ) → is-head head ≡ false
       → page-status head terms counts out ≡ no-head
   pub search-misuse : (head terms counts views a u v : List ℕ) → is-head head ≡ false
@@ -140,14 +177,15 @@ pub record Promises : Type 0 where
   pub takings-misuse : (head terms counts a : List ℕ) → is-head head ≡ false
       → takings-status head terms counts a ≡ no-head
   pub stream-misuse : (m : Lent) → is-head (m .head) ≡ false → status-in m ≡ no-head
-  pub words-misuse : (m : Lent) → is-head (m .head) ≡ true → is-stream (m .words) ≡ false → status-in m ≡ no-stream
-  pub room-misuse : (m : Lent) → is-head (m .head) ≡ true → is-stream (m .words) ≡ true → length (m .out) < reply-room
-      → status-in m ≡ no-room
+  pub words-misuse : (m : Lent) → is-head (m .head) ≡ true → line-buffer < getD (m .words) 0 0
+      → status-in m ≡ no-stream
+  pub room-misuse : (m : Lent) → is-head (m .head) ≡ true → getD (m .words) 0 0 ≤ line-buffer
+      → length (m .out) < reply-room → status-in m ≡ no-room
   -- no refusal has the status of a misuse, of which the least is `no-head`
   pub call-refusal : (k : Call) (m : Memory) → is-head (m .head) ≡ true → status k m < no-head
   pub noon-refusal : (head terms counts : List ℕ) → is-head head ≡ true → noon-status head terms counts < no-head
   pub read-refusal : (line : List ℕ) → read-status line < no-head
-  pub write-refusal : (words out : List ℕ) → is-form words ≡ true → write-status words out < no-head
+  pub write-refusal : (words out : List ℕ) → getD words 0 0 ≤ 12 → write-status words out < no-head
   pub page-refusal : (head terms counts out : List ℕ) → is-head head ≡ true
       → page-status head terms counts out < no-head
   pub search-refusal : (head terms counts views a u v : List ℕ) → is-head head ≡ true
