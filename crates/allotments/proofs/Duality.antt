@@ -7,6 +7,7 @@ use native.Mathlib.Nat.{mul-le-mul-left}
 use native.Mathlib.Omega.{arith}
 use lib.Dec.{leb, ltb}
 use borrow.Author.Tests.{eqb-true, eq-eqb, ltb-true, leb-true, le-leb}
+use Rattle.finite.specs.Finite.{sum}
 use Rattle.finite.proofs.Sums.{sum-le, sum-eq, sum-add}
 use Rattle.finite.proofs.Tests.{every-at, every-of, every-eq, all-parts, all-of, never}
 use Rattle.sets.specs.Set.{member}
@@ -17,7 +18,8 @@ use Rattle.allotments.specs.Allotment.{entry-fits, covered, tests, certi
 module _ (n : ℕ) (price whole : ℕ → ℕ) (m : ℕ) (view to u v : ℕ → ℕ) where
   -- weak duality: the figures bound every allotment
   pub bounded : n ≤ 64 → ((j : ℕ) → j < m → (c : ℕ) → c < n → member (view j) c ≡ true → price c ≤ u c + v j)
-      → (other : ℕ → ℕ) → Allotment n whole m view other → takings n price m other ≤ figures-sum n whole m u v
+      → (other : ℕ → ℕ) → Allotment n whole m view other
+      → takings n price m other ≤ sum n (λ c. u c * whole c) + sum m v
   unfolding takings
   bounded few cov other al =
       omega (

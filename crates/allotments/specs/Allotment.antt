@@ -41,25 +41,24 @@ abbrev pub Greatest : (n : ℕ) (price whole : ℕ → ℕ) (m : ℕ) (view to :
 Greatest n price whole m view to = (other : ℕ → ℕ) → Allotment n whole m view other
     → takings n price m other ≤ takings n price m to
 
--- the sum of campaign figures × whole plays, plus view figures
-abbrev pub figures-sum : (n : ℕ) (whole : ℕ → ℕ) (m : ℕ) (campaign-figure view-figure : ℕ → ℕ) → ℕ
-figures-sum n whole m campaign-figure view-figure = sum n (λ i. campaign-figure i * whole i) + sum m view-figure
-
 -- an allotment with figures that fit it: a campaign's figure plus a view's is at least the price wherever that view
--- names that campaign, and their sum equals the takings
+-- names that campaign, and the sum of campaign figures × whole plays, plus view figures, equals the takings
 pub record Certified (n : ℕ) (price whole : ℕ → ℕ) (m : ℕ) (view to campaign-figure view-figure : ℕ → ℕ) : Type 0 where
   pub allotted : Allotment n whole m view to
   pub covers : (j : ℕ) → j < m → (i : ℕ) → i < n → member (view j) i ≡ true
       → price i ≤ campaign-figure i + view-figure j
-  pub equal : figures-sum n whole m campaign-figure view-figure ≡ takings n price m to
+  pub equal : sum n (λ i. campaign-figure i * whole i) + sum m view-figure ≡ takings n price m to
 
--- the same as tests: of one entry, and of one view with its figure
+-- the same as tests: of one entry, of one view with its figure, and of the sum
 abbrev pub entry-fits : (view : ℕ) → ℕ → Bool
 entry-fits view i = eqb i nobody || member view i
 
 abbrev pub covered : (n : ℕ) (price campaign-figure : ℕ → ℕ) (view view-figure : ℕ) → Bool
 covered n price campaign-figure view f =
     every n (λ i. cond (member view i) (leb (price i) (campaign-figure i + f)) true)
+
+abbrev pub figures-sum : (n : ℕ) (whole : ℕ → ℕ) (m : ℕ) (campaign-figure view-figure : ℕ → ℕ) → ℕ
+figures-sum n whole m campaign-figure view-figure = sum n (λ i. campaign-figure i * whole i) + sum m view-figure
 
 abbrev pub tests : (n : ℕ) (price whole : ℕ → ℕ) (m : ℕ) (view to campaign-figure view-figure : ℕ → ℕ) → List Bool
 tests n price whole m view to campaign-figure view-figure =

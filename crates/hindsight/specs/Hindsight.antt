@@ -12,7 +12,7 @@ use Rattle.day.specs.Calls.{Call}
 use Rattle.demands.specs.Transcript.{transcript, final}
 use Rattle.allotments.specs.Allotment.{at}
 use Rattle.floor.specs.History.{Starts, History, day-takings, history, own-views}
-use Rattle.floor.specs.Floor.{price-of, falls-short, Allotted, takings-of, Covered}
+use Rattle.floor.specs.Floor.{price-of, falls-short, unstruck, Allotted, takings-of, Covered}
 use Rattle.optimum.specs.declared.Optimum.{Optimum}
 use Rattle.optimum.specs.declared.Optimum.the-variants.{Takings}
 use Rattle.optimum.specs.declared.Verdict.the-variants.{Accepted}
@@ -28,8 +28,10 @@ pub record Takes-most (h : History) (s : Day) (to : ℕ → ℕ) : Type 0 where
   pub allotted : Allotted h to
   pub takes-most : takings-of h (price-of h) to ≡ most-of s (own-views h)
 
--- the floor holds of the greatest figure less what the allotment gives to campaigns that fall short, also as a sum
+-- the floor holds of the greatest figure less what the allotment gives to campaigns that fall short, also as a sum;
+-- that and what it gives to the others are all its takings
 pub record Against-greatest (h : History) (s : Day) (to : ℕ → ℕ) : Type 0 where
+  pub parts : given-short h to + takings-of h (unstruck h) to ≡ takings-of h (price-of h) to
   pub part : given-short h to ≤ most-of s (own-views h)
   pub less-short : Covered h (most-of s (own-views h) - given-short h to)
   pub as-sum : share (h .plan .depth) (h .plan .width) * most-of s (own-views h) ≤

@@ -67,25 +67,26 @@ askings-of-many =
     asking 0 (replicate 256 3) 256 2 256 0 ∷ asking 0 (replicate 257 3) 257 2 257 19 ∷
     asking 4_096 (replicate 257 4) 0 0 0 19 ∷ asking 4_097 (replicate 257 4) 0 0 0 1 ∷ []
 
--- a triple and what the check answers, for four views: two name both campaigns, two name 0 alone
+-- a triple and what the check answers
 pub record Checking : Type 0 where
   pub allotment : List ℕ
   pub surplus : List ℕ
   pub worth : List ℕ
   pub answer : Verdict
 
-abbrev pub four-views : List ℕ
-four-views = 3 ∷ 3 ∷ 1 ∷ 1 ∷ []
-
 abbrev pub checking : (allotment surplus worth : List ℕ) → Verdict → Checking
 checking allotment surplus worth v = record { allotment = allotment; surplus = surplus; worth = worth; answer = v }
 
-abbrev pub checked-in : Phase → Checking → Verdict
-checked-in p x = checked (two-campaigns p 0) four-views (x .allotment) (x .surplus) (x .worth)
+abbrev pub checked-in : Phase → (views : List ℕ) → Checking → Verdict
+checked-in p views x = checked (two-campaigns p 0) views (x .allotment) (x .surplus) (x .worth)
+
+-- four views: two name both campaigns, two name 0 alone
+abbrev pub four-views : List ℕ
+four-views = 3 ∷ 3 ∷ 1 ∷ 1 ∷ []
 
 abbrev pub checkings : List Checking
 checkings =
-    -- 10 + 3 for the campaigns' plays, which is what the allotment takes; and other figures that fit it
+    -- 10 + 3 for the campaigns' plays, which is what the allotment takes; and another allotment that they fit
     checking (0 ∷ 1 ∷ 0 ∷ nobody ∷ []) (5 ∷ 3 ∷ []) (0 ∷ 0 ∷ 0 ∷ 0 ∷ []) verdict.Accepted ∷
     checking (1 ∷ nobody ∷ 0 ∷ 0 ∷ []) (5 ∷ 3 ∷ []) (0 ∷ 0 ∷ 0 ∷ 0 ∷ []) verdict.Accepted ∷
     -- view 0 names campaign 1, of price 3, whose figures are 0 and 0
@@ -99,6 +100,14 @@ checkings =
     -- a question is asked first
     checking (0 ∷ 1 ∷ 0 ∷ []) (5 ∷ 3 ∷ []) (0 ∷ 0 ∷ 0 ∷ 0 ∷ []) (verdict.Refused 18) ∷ []
 
+-- one view, which names 0 alone
+abbrev pub checkings-of-one : List Checking
+checkings-of-one =
+    -- 5 for the view, which is what the allotment takes
+    checking (0 ∷ []) (0 ∷ 0 ∷ []) (5 ∷ []) verdict.Accepted ∷
+    -- 10 for both plays of campaign 0, though only one view is there to play
+    checking (0 ∷ []) (5 ∷ 0 ∷ []) (0 ∷ []) verdict.Rejected ∷ []
+
 -- f gives a in every phase
 abbrev pub phases : List Phase
 phases = Filling ∷ Running ∷ Closed 0 ∷ []
@@ -110,11 +119,16 @@ In-each-phase f a = map f phases ≡ map (λ p. a) phases
 pub record Examples : Type 0 where
   pub check-asks : In-each-phase (λ p. map (check-number p) askings) (map (λ x. x .question) askings)
   pub search-asks : In-each-phase (λ p. map (search-number p) askings) (map (λ x. x .question) askings)
-  pub all-checked : In-each-phase (λ p. map (checked-in p) checkings) (map (λ x. x .answer) checkings)
+  pub all-checked : In-each-phase (λ p. map (checked-in p four-views) checkings) (map (λ x. x .answer) checkings)
+  pub one-checked : In-each-phase
+      (λ p. map (checked-in p (1 ∷ [])) checkings-of-one)
+      (map (λ x. x .answer) checkings-of-one)
   pub searched : In-each-phase
       (λ p. search-answer (two-campaigns p 0) four-views (replicate 4 0) (replicate 2 0) (replicate 4 0))
       (optimum.Takings 13)
   pub taken : In-each-phase (λ p. takings-answer (two-campaigns p 0) (0 ∷ nobody ∷ 1 ∷ 0 ∷ [])) (optimum.Takings 13)
+  -- no allotment: three entries for campaign 0, which has two plays, and one that names no campaign
+  pub taken-beyond : In-each-phase (λ p. takings-answer (two-campaigns p 0) (0 ∷ 0 ∷ 0 ∷ 7 ∷ [])) (optimum.Takings 15)
   pub taken-not-sound : In-each-phase (λ p. takings-answer (two-campaigns p 4_097) (0 ∷ [])) (optimum.Refused 1)
   pub many : map (check-number Running) askings-of-many ≡ map (λ x. x .question) askings-of-many
   pub takings-of-many : takings-answer (two-campaigns Running 0) (replicate 257 0) ≡ optimum.Refused 19
