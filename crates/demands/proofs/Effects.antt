@@ -1,18 +1,17 @@
 -- What an accepted call does. Rule 1 is what is proved of the choice, with the tests of `View` read as propositions;
 -- rules 2 to 4 go by the role of a campaign, which its tests decide.
 use mathlib.Core.Path.{_≡_, refl, sym, ap, _∙_, subst, subst⁻¹}
-use mathlib.Core.Bool.{Bool, true, false, not, cond, _&&_}
-use mathlib.Core.Logic.{_⊎_, inl, inr}
-use Prim.Native.Nat.{ℕ, _+_, _*_, _≤_, _<_}
+use mathlib.Core.Bool.{Bool, true, false, not, _&&_}
+use mathlib.Core.Logic.{inl, inr}
+use Prim.Native.Nat.{ℕ, _+_, _*_, _<_}
 use native.Mathlib.Omega.{arith}
-use lib.Dec.{leb, ltb, eqb}
+use lib.Dec.{leb, eqb}
 use borrow.Author.Tests.{leb-true, le-leb, ltb-true, eqb-true, eq-eqb, ne-eqb}
 use Rattle.finite.proofs.Tests.{never, both-left, both-right, both-join}
 use Rattle.powers.specs.Power.{weight, share}
 use Rattle.sets.specs.Set.{member, within}
 use Rattle.sets.proofs.Algebra.{without-member}
 use Rattle.sets.proofs.Bounds.{within-member}
-use Rattle.campaigns.specs.declared.Campaign.{Campaign}
 use Rattle.campaigns.specs.declared.View.{View}
 use Rattle.campaigns.specs.Choice.{Choice, is, role-of}
 use Rattle.campaigns.specs.Choice.Choice.{nobody, plays}
@@ -24,18 +23,15 @@ use Rattle.day.specs.declared.Answer.the-variants.{Refused, Done, Played, Nobod
 use Rattle.day.specs.declared.Day.{Day}
 use Rattle.day.specs.declared.Outcome.{Outcome}
 use Rattle.day.specs.Day.{head-of, campaign, no-terms, total-takings, total-claim}
-use Rattle.day.specs.Calls.{number, Call, questions, found, player, offers, shown, view-answer, marked, result, call}
+use Rattle.day.specs.Calls.{number, Call, questions, found, player, offers, shown, view-answer, result}
 use Rattle.day.specs.Calls.{head-shown, head-joined, with-campaign}
 use Rattle.day.specs.Calls.Call.{open-plan, add-campaign, start-day, show-view, ask-tally, close-day, mark-campaign}
 use Rattle.day.proofs.Questions.{Yes, call-elim}
 use Rattle.day.proofs.State.{Sound, sound-facts, held-at, filling-is, running-is, campaign-of-state}
-use Rattle.demands.specs.Choice.{Best, Right}
-use Rattle.demands.specs.Door.{taken}
-use Rattle.demands.specs.Effects.{Named, Pays, scored, Plays-best, None-pays, Rule-1, counting, Rules-2-to-4}
-use Rattle.demands.specs.Effects.{Does, Always-does}
+use Rattle.demands.specs.Choice.{Right}
+use Rattle.demands.specs.Effects.{Named, Pays, Rule-1, counting, Rules-2-to-4, Does, Always-does}
 use Rattle.demands.proofs.Choice.{player-right}
 use Rattle.demands.proofs.Marks.{marks-one}
-use Rattle.demands.proofs.Refusals.{accepted-result, call-number}
 use Rattle.demands.proofs.States.{with-campaign-old, with-campaign-new}
 
 -- who plays, by the answer: one more than its number, or 0

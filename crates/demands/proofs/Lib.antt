@@ -8,6 +8,8 @@ pub mod SoundCampaign
 pub mod Marks
 pub mod Sound
 pub mod Refusals
+pub mod Means
+pub mod IsSound
 pub mod Door
 pub mod Effects
 pub mod Cases

@@ -2,7 +2,7 @@
 -- changes; all else stays. Like `Door`, it takes nothing from the definitions that the code is proved against but the
 -- state and its campaigns.
 use mathlib.Core.Path.{_≡_}
-use mathlib.Core.Bool.{Bool, true, false, cond}
+use mathlib.Core.Bool.{true, false, cond}
 use mathlib.Core.Logic.{_⊎_}
 use Prim.Native.Nat.{ℕ, _+_, _-_, _*_, _^_, _≤_, _<_}
 use lib.Dec.{eqb}
