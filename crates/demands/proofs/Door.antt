@@ -1,24 +1,25 @@
--- The questions of every call, asked as the sentences of `specs/Door`: a list of tests, each with what it means, gives
--- the number that the sentences give.
-use mathlib.Core.Path.{_≡_, refl, ap, subst, subst⁻¹}
-use mathlib.Core.Bool.{Bool, true, false}
-use mathlib.Core.List.{List, [], _∷_}
+-- The questions of every call, asked as the sentences of `specs/Door`: each test is one of `Meanings`.
+use mathlib.Core.Path.{_≡_, ap, subst, subst⁻¹}
+use mathlib.Core.Bool.{true}
+use mathlib.Core.Logic.{_↔_}
 use Prim.Native.Nat.{ℕ, _+_, _≤_}
 use lib.Dec.{leb}
 use Rattle.finite.specs.Finite.{count, one-if}
-use Rattle.finite.proofs.Tests.{never}
+use Rattle.finite.proofs.Meanings.{leb-means, ltb-means}
 use Rattle.finite.proofs.Sums.{sum-eq}
 use Rattle.sets.specs.Set.{size, without}
 use Rattle.sets.proofs.Algebra.{without-member}
 use Rattle.campaigns.specs.declared.View.{View}
-use Rattle.questions.specs.Questions.{Question, question, first-failed, width-holds}
+use Rattle.questions.specs.Questions.{width-holds, asks}
+use Rattle.questions.proofs.Asks.{Numbered-by, asking, accepting}
 use Rattle.day.specs.declared.Day.{Day}
-use Rattle.day.specs.Day.{head-of, total-budgets}
+use Rattle.day.specs.Day.{head-of}
+use Rattle.day.specs.Day as states
 use Rattle.day.specs.Calls.{Call, own-questions, found}
 use Rattle.day.specs.Calls.Call.{open-plan, add-campaign, start-day, show-view, ask-tally, close-day, mark-campaign}
-use Rattle.demands.specs.Door.{Is-sound, asks, accepts, unpaused, own-door, Always-asks}
-use Rattle.demands.proofs.Means.{Means, at-most, below, filling, running, closed, depth, width, power, price}
-use Rattle.demands.proofs.Means.{budget, named}
+use Rattle.demands.specs.Door.{Is-sound, total-budgets, unpaused, own-door, Always-asks}
+use Rattle.demands.proofs.Meanings.{filling-means, running-means, closed-means, depth-means, width-means}
+use Rattle.demands.proofs.Meanings.{power-means, price-means, budget-means, within-means}
 use Rattle.demands.proofs.IsSound.{sound-means}
 use Rattle.demands.proofs.Refusals.{call-number}
 
@@ -27,48 +28,34 @@ found-size : (s : Day) (set : ℕ) → size (without set (s .paused)) ≡ unpaus
 unfolding size count
 found-size s set = sum-eq 64 _ _ (λ i l. ap one-if (without-member set (s .paused) i l))
 
-width-means : (s : Day) (w : View) → Means (width-holds (head-of s) (found s w)) (unpaused s (w .set) ≤ s .plan .width)
+unpaused-means : (s : Day) (w : View) → (width-holds (head-of s) (found s w) ≡ true) ↔ (unpaused s (w .set) ≤ s .plan .width)
 unfolding width-holds
-width-means s w =
-    subst (λ (n : ℕ). Means (leb (size (without (w .set) (s .paused))) (s .plan .width)) (n ≤ s .plan .width))
-    (found-size s (w .set)) (at-most (size (without (w .set) (s .paused))) (s .plan .width))
+unpaused-means s w =
+    let n = size (without (w .set) (s .paused)) in
+    subst (λ (m : ℕ). (leb n (s .plan .width) ≡ true) ↔ (m ≤ s .plan .width)) (found-size s (w .set))
+    (leb-means n (s .plan .width))
 
--- the first failed of these questions has the number that D tells
-record Told (qs : List Question) (D : ℕ → Type 0) : Type 0 where
-  is : D (first-failed qs)
-
--- one question more, before them
-step : (q : ℕ) {b : Bool} {P : Type 0} {qs : List Question} {D : ℕ → Type 0} → Means b P → Told qs D
-    → Told (question q b ∷ qs) (asks q P D)
-unfolding first-failed
-step q {b = true} m t = record { is = (λ p. t .is, λ n. absurd (n (m .holds refl))) }
-step q {b = false} m t = record { is = (λ p. absurd (never false refl (m .passes p)), λ n. refl) }
-
-last : Told [] accepts
-unfolding first-failed
-last = record { is = refl }
-
-own-asks : (s : Day) (c : Call) → Told (own-questions s c) (own-door s c)
-unfolding total-budgets
+own-asks : (s : Day) (c : Call) → Numbered-by (own-questions s c) (own-door s c)
+unfolding states.total-budgets
 own-asks s (open-plan pl) =
-    step 2 (closed (s .phase)) (step 3 (depth pl) (step 4 (width pl) (step 5 (power pl) last)))
+    asking 2 (closed-means (s .phase))
+    (asking 3 (depth-means pl) (asking 4 (width-means pl) (asking 5 (power-means pl) accepting)))
 own-asks s (add-campaign t) =
-    step 6 (filling (s .phase))
-    (step 7 (below (s .count) 64)
-    (step 8 (price (t .price))
-    (step 9 (budget (t .price) (t .budget))
-    (step 10 (at-most (total-budgets s + t .budget) 2_000_000_000) last))))
-own-asks s start-day = step 6 (filling (s .phase)) last
+    asking 6 (filling-means (s .phase))
+    (asking 7 (ltb-means (s .count) 64)
+    (asking 8 (price-means (t .price))
+    (asking 9 (budget-means (t .price) (t .budget))
+    (asking 10 (leb-means (total-budgets s + t .budget) 2_000_000_000) accepting))))
+own-asks s start-day = asking 6 (filling-means (s .phase)) accepting
 own-asks s (show-view w) =
-    step 11 (running (s .phase))
-    (step 12 (below (s .accepted) 4_096)
-    (step 13 (named (s .count) (w .set))
-    (step 14 (width-means s w) last)))
-own-asks s (ask-tally i) = step 15 (below i (s .count)) last
-own-asks s close-day = step 11 (running (s .phase)) last
-own-asks s (mark-campaign b i) = step 11 (running (s .phase)) (step 15 (below i (s .count)) last)
+    asking 11 (running-means (s .phase))
+    (asking 12 (ltb-means (s .accepted) 4_096)
+    (asking 13 (within-means (s .count) (w .set))
+    (asking 14 (unpaused-means s w) accepting)))
+own-asks s (ask-tally i) = asking 15 (ltb-means i (s .count)) accepting
+own-asks s close-day = asking 11 (running-means (s .phase)) accepting
+own-asks s (mark-campaign b i) = asking 11 (running-means (s .phase)) (asking 15 (ltb-means i (s .count)) accepting)
 
 pub always-asks : Always-asks
 always-asks s c =
-    subst⁻¹ (asks 1 (Is-sound s) (own-door s c)) (call-number s c)
-    (step 1 (record { holds = sound-means s .0; passes = sound-means s .1 }) (own-asks s c) .is)
+    subst⁻¹ (asks 1 (Is-sound s) (own-door s c)) (call-number s c) (asking 1 (sound-means s) (own-asks s c) .is)

@@ -1,12 +1,12 @@
 -- What an accepted call does. Rule 1 is what is proved of the choice, with the tests of `View` read as propositions;
 -- rules 2 to 4 go by the role of a campaign, which its tests decide.
 use mathlib.Core.Path.{_≡_, refl, sym, ap, _∙_, subst, subst⁻¹}
-use mathlib.Core.Bool.{Bool, true, false, not, _&&_}
+use mathlib.Core.Bool.{Bool, true, false, not, _&&_, not-eq-not}
 use mathlib.Core.Logic.{inl, inr}
 use Prim.Native.Nat.{ℕ, _+_, _*_, _<_}
 use native.Mathlib.Omega.{arith}
 use lib.Dec.{leb, eqb}
-use borrow.Author.Tests.{leb-true, le-leb, ltb-true, eqb-true, eq-eqb, ne-eqb}
+use borrow.Author.Tests.{not-true, leb-true, le-leb, ltb-true, eqb-true, eq-eqb, ne-eqb}
 use Rattle.finite.proofs.Tests.{never, both-left, both-right, both-join}
 use Rattle.powers.specs.Power.{weight, share}
 use Rattle.sets.specs.Set.{member, within}
@@ -61,11 +61,7 @@ module _ (s : Day) (h : Sound s) (w : View) (inside : within (s .count) (w .set)
   named-of i l e =
       let m = member (w .set) i in
       let b : (m && not (member (s .paused) i)) ≡ true = sym (without-member (w .set) (s .paused) i l) ∙ e in
-      (both-left m _ b, clear (member (s .paused) i) (both-right m _ b))
-    where
-      clear : (b : Bool) → not b ≡ true → b ≡ false
-      clear true x = absurd (never false refl x)
-      clear false x = refl
+      (both-left m _ b, not-true (member (s .paused) i) (both-right m _ b))
 
   names-of : (i : ℕ) → i < 64 → Named s w i → names v i ≡ true
   names-of i l n = without-member (w .set) (s .paused) i l ∙ rw (n .0, n .1)
@@ -94,6 +90,7 @@ module _ (s : Day) (h : Sound s) (w : View) (inside : within (s .count) (w .set)
         offers s w m,
         refl,
         record {
+          below = b .below;
           named = n;
           pays = leb-true _ _ (pays-is m (b .below) ∙ both-right (names v m) _ (b .is-able));
           price-is = refl;
@@ -110,29 +107,16 @@ module _ (s : Day) (h : Sound s) (w : View) (inside : within (s .count) (w .set)
   rules-2-to-4 : (i : ℕ) → i < 64
       → Rules-2-to-4 s w (view-answer (offers s w) (player s w)) i (campaign s i) (shown s w i)
   rules-2-to-4 i l = record {
-    unnamed = λ e. absent (without-member (w .set) (s .paused) i l ∙ rw e);
-    paused = λ e. absent (without-member (w .set) (s .paused) i l ∙ ap (λ (b : Bool). member (w .set) i && not b) e
-        ∙ no (member (w .set) i));
+    unnamed = λ n. absent (not-eq-not {b = false} .0 (λ e. n (named-of i l e)));
     player = λ p e. won (played-is (offers s w) (player s w) i p e);
-    spent = λ n p. in-role i true false _ (names-of i l n) (sym (pays-is i (below i l n)) ∙ unpaid p) refl;
+    spent = λ n p. in-role i true false _ (names-of i l n)
+        (sym (pays-is i (below i l n)) ∙ not-eq-not {b = false} .0 (λ e. p (leb-true _ _ e))) refl;
     older = λ n p o d. passed n p o ∙ ap (λ (b : Bool). aged b (campaign s i)) (ne-eqb _ _ d);
     turned = λ n p o d. passed n p o ∙ ap (λ (b : Bool). aged b (campaign s i)) (eq-eqb _ _ d);
   }
     where
-      no : (b : Bool) → (b && false) ≡ false
-      no true = refl
-      no false = refl
-
       absent : names v i ≡ false → shown s w i ≡ campaign s i
       absent e = in-role i false _ _ e refl refl
-
-      unpaid : (Pays (campaign s i) → ⊥)
-          → leb (campaign s i .price * (campaign s i .plays + 1)) (campaign s i .budget) ≡ false
-      unpaid n = go _ refl
-        where
-          go : (b : Bool) → leb (campaign s i .price * (campaign s i .plays + 1)) (campaign s i .budget) ≡ b → b ≡ false
-          go true e = absurd (n (leb-true _ _ e))
-          go false e = refl
 
       passed : Named s w i → Pays (campaign s i)
           → ((p : ℕ) → view-answer (offers s w) (player s w) ≡ Played i p → ⊥)
@@ -160,7 +144,8 @@ module _ (s : Day) (h : Sound s) (w : View) (inside : within (s .count) (w .set)
 
 does : (s : Day) (c : Call) → Yes (questions s c) → Does c s (result s c .answer) (result s c .day)
 unfolding total-takings total-claim claim share weight
-does s (open-plan pl) y = (refl, refl, λ i l. campaign-of-state (head-of (result s (open-plan pl) .day)) (λ j. fresh no-terms) i l)
+does s (open-plan pl) y =
+    (refl, refl, campaign-of-state (head-of (result s (open-plan pl) .day)) (λ j. fresh no-terms))
 does s (add-campaign t) (e1, (e6, (e7, y))) = (
   refl,
   rw (filling-is (s .phase) e6) refl,

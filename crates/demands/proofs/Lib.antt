@@ -8,7 +8,7 @@ pub mod SoundCampaign
 pub mod Marks
 pub mod Sound
 pub mod Refusals
-pub mod Means
+pub mod Meanings
 pub mod IsSound
 pub mod Door
 pub mod Effects

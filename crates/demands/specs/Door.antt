@@ -1,17 +1,18 @@
--- "Sound" and "Questions at the door" once more, as propositions, with the documents' own numbers and nothing of the
--- tests that the code is proved against: what a sound state is, when a call is accepted, and the number that it gets
--- where it is not.
+-- "Sound" and "Questions at the door" once more, as propositions with the documents' own numbers: what a sound state is,
+-- when a call is accepted, and the number that it gets where it is not. It takes nothing from the tests that the code is
+-- proved against.
 use mathlib.Core.Path.{_≡_}
 use mathlib.Core.Bool.{true, not, _&&_}
+use mathlib.Core.Logic.{_↔_}
 use Prim.Native.Nat.{ℕ, _+_, _-_, _*_, _^_, _≤_, _<_}
 use Rattle.finite.specs.Finite.{sum, count}
 use Rattle.sets.specs.Set.{member}
 use Rattle.campaigns.specs.declared.Campaign.{Campaign}
 use Rattle.campaigns.specs.declared.Phase.the-variants.{Filling, Running, Closed}
 use Rattle.campaigns.specs.declared.Plan.{Plan}
-use Rattle.campaigns.specs.Campaign.{fresh}
+use Rattle.questions.specs.Questions.{asks, accepts}
 use Rattle.day.specs.declared.Day.{Day}
-use Rattle.day.specs.Day.{campaign, no-terms, sound, audited}
+use Rattle.day.specs.Day.{campaign, sound, audited}
 use Rattle.day.specs.Calls.{number, Call, call}
 use Rattle.day.specs.Calls.Call.{open-plan, add-campaign, start-day, show-view, ask-tally, close-day, mark-campaign}
 
@@ -32,15 +33,28 @@ Price-fits p = (1 ≤ p) × (p ≤ 1_000_000)
 abbrev pub Budget-fits : (price budget : ℕ) → Type 0
 Budget-fits p b = (p ≤ b) × (b ≤ 2_000_000_000)
 
--- takings, and the total claim at depth k and width d
-abbrev pub taken : Day → ℕ
-taken s = sum (s .count) (λ i. campaign s i .price * campaign s i .plays)
+-- the sum of the budgets, and takings: the sum of price × plays
+abbrev pub total-budgets : Day → ℕ
+total-budgets s = sum (s .count) (λ i. campaign s i .budget)
 
-abbrev pub claimed : (k d : ℕ) → Day → ℕ
-claimed k d s =
+abbrev pub takings : Day → ℕ
+takings s = sum (s .count) (λ i. campaign s i .price * campaign s i .plays)
+
+-- full: d^k × takings
+abbrev pub full : Day → ℕ
+full s = s .plan .width ^ s .plan .depth * takings s
+
+-- W(a) = d^a × (d − 1)^(k − a)
+abbrev pub W : Day → (a : ℕ) → ℕ
+W s a = s .plan .width ^ a * (s .plan .width - 1) ^ (s .plan .depth - a)
+
+-- the total claim: the sum of price × (turns × (d^k − (d−1)^k) + W(age) − W(0))
+abbrev pub total-claim : Day → ℕ
+total-claim s =
+    let k = s .plan .depth in
+    let d = s .plan .width in
     sum (s .count)
-    (λ i. let c = campaign s i in
-    c .price * (c .turns * (d ^ k - (d - 1) ^ k) + d ^ c .age * (d - 1) ^ (k - c .age) - d ^ 0 * (d - 1) ^ (k - 0)))
+    (λ i. let c = campaign s i in c .price * (c .turns * (d ^ k - (d - 1) ^ k) + W s (c .age) - W s 0))
 
 -- a campaign of a sound state
 pub record Campaign-sound (s : Day) (c : Campaign) : Type 0 where
@@ -53,12 +67,9 @@ pub record Campaign-sound (s : Day) (c : Campaign) : Type 0 where
   pub turns-named : c .turns ≤ c .named
   pub named-accepted : c .named ≤ s .accepted
 
--- zero counts
-pub record No-counts (c : Campaign) : Type 0 where
-  pub no-plays : c .plays ≡ 0
-  pub no-turns : c .turns ≡ 0
-  pub no-age : c .age ≡ 0
-  pub not-named : c .named ≡ 0
+-- a campaign with zero counts
+abbrev pub new-campaign : (price budget : ℕ) → Campaign
+new-campaign p b = record { price = p; budget = b; plays = 0; turns = 0; age = 0; named = 0 }
 
 pub record Is-sound (s : Day) : Type 0 where
   pub depth-fits : Depth-fits (s .plan)
@@ -68,41 +79,34 @@ pub record Is-sound (s : Day) : Type 0 where
   pub few-views : s .accepted ≤ 4_096
   pub campaigns-sound : (i : ℕ) → i < s .count → Campaign-sound s (campaign s i)
   -- question 10
-  pub budgets-fit : sum (s .count) (λ i. campaign s i .budget) ≤ 2_000_000_000
+  pub budgets-fit : total-budgets s ≤ 2_000_000_000
   -- entries past the last are all zero
-  pub zero-past : (i : ℕ) → s .count ≤ i → i < 64 → campaign s i ≡ fresh no-terms
+  pub zero-past : (i : ℕ) → s .count ≤ i → i < 64 → campaign s i ≡ new-campaign 0 0
   -- in Filling all counts are zero, accepted views included
-  pub filling-counts : s .phase ≡ Filling → (i : ℕ) → i < s .count → No-counts (campaign s i)
+  pub filling-counts : s .phase ≡ Filling → (i : ℕ) → i < s .count
+      → campaign s i ≡ new-campaign (campaign s i .price) (campaign s i .budget)
   pub filling-views : s .phase ≡ Filling → s .accepted ≡ 0
   -- a Closed phase holds the takings
-  pub closed-holds : (t : ℕ) → s .phase ≡ Closed t → t ≡ taken s
-  pub claim-covered : claimed (s .plan .depth) (s .plan .width) s ≤ s .plan .width ^ s .plan .depth * taken s
+  pub closed-holds : (t : ℕ) → s .phase ≡ Closed t → t ≡ takings s
+  pub claim-covered : total-claim s ≤ full s
   -- document 02's paused marks: an entry past the last has none, and in Filling there is none
   pub marks-within : (i : ℕ) → i < 64 → member (s .paused) i ≡ true → i < s .count
   pub filling-marks : s .phase ≡ Filling → s .paused ≡ 0
 
 -- question 1 asks for that
 abbrev pub Sound-means : Type 0
-Sound-means = (s : Day) → (sound s ≡ true → Is-sound s) × (Is-sound s → sound s ≡ true)
+Sound-means = (s : Day) → (sound s ≡ true) ↔ Is-sound s
 
 -- an audit tells whether it is so, and then its figures
 pub record Audit-tells (s : Day) : Type 0 where
-  pub sound-is : audited s .sound ≡ sound s
-  pub budgets-are : sound s ≡ true → audited s .budgets ≡ sum (s .count) (λ i. campaign s i .budget)
-  pub takings-are : sound s ≡ true → audited s .takings ≡ taken s
-  pub claim-is : sound s ≡ true → audited s .claim ≡ claimed (s .plan .depth) (s .plan .width) s
-  pub full-is : sound s ≡ true → audited s .full ≡ s .plan .width ^ s .plan .depth * taken s
+  pub sound-is : (audited s .sound ≡ true) ↔ Is-sound s
+  pub budgets-are : Is-sound s → audited s .budgets ≡ total-budgets s
+  pub takings-are : Is-sound s → audited s .takings ≡ takings s
+  pub claim-is : Is-sound s → audited s .claim ≡ total-claim s
+  pub full-is : Is-sound s → audited s .full ≡ full s
 
 abbrev pub Always-audited : Type 0
 Always-audited = (s : Day) → Audit-tells s
-
--- n is the number that is given where question q asks for P, and the rest is asked behind it
-abbrev pub asks : (q : ℕ) → (P : Type 0) → (rest : ℕ → Type 0) → (n : ℕ) → Type 0
-asks q P rest n = (P → rest n) × ((P → ⊥) → n ≡ q)
-
--- no question is left: the call is accepted
-abbrev pub accepts : (n : ℕ) → Type 0
-accepts n = n ≡ 0
 
 -- how many campaigns a set names that are not paused
 abbrev pub unpaused : Day → (set : ℕ) → ℕ
@@ -118,7 +122,7 @@ own-door s (add-campaign t) =
     (asks 7 (s .count < 64)
     (asks 8 (Price-fits (t .price))
     (asks 9 (Budget-fits (t .price) (t .budget))
-    (asks 10 (sum (s .count) (λ i. campaign s i .budget) + t .budget ≤ 2_000_000_000) accepts))))
+    (asks 10 (total-budgets s + t .budget ≤ 2_000_000_000) accepts))))
 own-door s start-day = asks 6 (s .phase ≡ Filling) accepts
 own-door s (show-view w) =
     asks 11 (s .phase ≡ Running)

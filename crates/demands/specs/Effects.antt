@@ -1,10 +1,9 @@
 -- What an accepted call does, as propositions in the documents' words: rules 1 to 4 of a view, and what each other call
--- changes; all else stays. Like `Door`, it takes nothing from the definitions that the code is proved against but the
--- state and its campaigns.
+-- changes; all else stays. Like `Door`, it takes nothing from the rules that the code is proved against.
 use mathlib.Core.Path.{_≡_}
 use mathlib.Core.Bool.{true, false, cond}
 use mathlib.Core.Logic.{_⊎_}
-use Prim.Native.Nat.{ℕ, _+_, _-_, _*_, _^_, _≤_, _<_}
+use Prim.Native.Nat.{ℕ, _+_, _*_, _≤_, _<_}
 use lib.Dec.{eqb}
 use Rattle.sets.specs.Set.{member}
 use Rattle.campaigns.specs.declared.Campaign.{Campaign}
@@ -13,14 +12,13 @@ use Rattle.campaigns.specs.declared.Phase.{Phase}
 use Rattle.campaigns.specs.declared.Phase.the-variants.{Filling, Running, Closed}
 use Rattle.campaigns.specs.declared.Plan.{Plan}
 use Rattle.campaigns.specs.declared.View.{View}
-use Rattle.campaigns.specs.Campaign.{fresh}
 use Rattle.day.specs.declared.Answer.{Answer}
 use Rattle.day.specs.declared.Answer.the-variants.{Done, Played, Nobody, Tallied, Closing}
 use Rattle.day.specs.declared.Day.{Day}
-use Rattle.day.specs.Day.{head-of, campaign, no-terms}
+use Rattle.day.specs.Day.{head-of, campaign}
 use Rattle.day.specs.Calls.{number, Call, call}
 use Rattle.day.specs.Calls.Call.{open-plan, add-campaign, start-day, show-view, ask-tally, close-day, mark-campaign}
-use Rattle.demands.specs.Door.{taken, claimed}
+use Rattle.demands.specs.Door.{takings, full, W, total-claim, new-campaign}
 
 -- the view names campaign i, which is not paused
 abbrev pub Named : Day → View → ℕ → Type 0
@@ -30,21 +28,19 @@ Named s w i = (member (w .set) i ≡ true) × (member (s .paused) i ≡ false)
 abbrev pub Pays : Campaign → Type 0
 Pays c = c .price * (c .plays + 1) ≤ c .budget
 
--- its score, price × W(age)
-abbrev pub scored : Day → ℕ → ℕ
-scored s i =
-    let c = campaign s i in
-    let d = s .plan .width in
-    c .price * (d ^ c .age * (d - 1) ^ (s .plan .depth - c .age))
+-- its score: price × W(age)
+abbrev pub score : Day → ℕ → ℕ
+score s i = campaign s i .price * W s (campaign s i .age)
 
 -- rule 1: of the named campaigns that can pay, m has the greatest score, of equal scores the lower number; p is the
 -- price of this one play
 pub record Plays-best (s : Day) (w : View) (m p : ℕ) : Type 0 where
+  pub below : m < s .count
   pub named : Named s w m
   pub pays : Pays (campaign s m)
   pub price-is : p ≡ campaign s m .price
-  pub greatest : (j : ℕ) → j < 64 → Named s w j → Pays (campaign s j) → scored s j ≤ scored s m
-  pub lowest : (j : ℕ) → j < m → Named s w j → Pays (campaign s j) → scored s j < scored s m
+  pub greatest : (j : ℕ) → j < 64 → Named s w j → Pays (campaign s j) → score s j ≤ score s m
+  pub lowest : (j : ℕ) → j < m → Named s w j → Pays (campaign s j) → score s j < score s m
 
 -- if none can pay, the answer is nobody
 abbrev pub None-pays : Day → View → Type 0
@@ -60,12 +56,12 @@ counting c p t a n = record { price = c .price; budget = c .budget; plays = p; t
 
 -- rules 2 to 4: what becomes of campaign i, which was c, where the answer to the view is a
 pub record Rules-2-to-4 (s : Day) (w : View) (a : Answer) (i : ℕ) (c after : Campaign) : Type 0 where
-  pub unnamed : member (w .set) i ≡ false → after ≡ c
-  pub paused : member (s .paused) i ≡ true → after ≡ c
+  pub unnamed : (Named s w i → ⊥) → after ≡ c
+  -- rule 2
   pub player : (p : ℕ) → a ≡ Played i p → after ≡ counting c (c .plays + 1) (c .turns + 1) 0 (c .named + 1)
-  -- named, and spent before the view
+  -- rule 4 alone: it could not pay before the view
   pub spent : Named s w i → (Pays c → ⊥) → after ≡ counting c (c .plays) (c .turns) (c .age) (c .named + 1)
-  -- passed over; that may make its age k
+  -- rule 3: passed over; and where that makes its age k
   pub older : Named s w i → Pays c → ((p : ℕ) → a ≡ Played i p → ⊥) → (c .age + 1 ≡ s .plan .depth → ⊥)
       → after ≡ counting c (c .plays) (c .turns) (c .age + 1) (c .named + 1)
   pub turned : Named s w i → Pays c → ((p : ℕ) → a ≡ Played i p → ⊥) → c .age + 1 ≡ s .plan .depth
@@ -82,11 +78,11 @@ Campaigns-stay s t = (i : ℕ) → i < 64 → campaign t i ≡ campaign s i
 -- what each call answers, a, and what it makes of the state s: the state t
 abbrev pub Does : Call → (s : Day) → (a : Answer) → (t : Day) → Type 0
 Does (open-plan pl) s a t =
-    (a ≡ Done) × (head-of t ≡ headed Filling pl 0 0 0) × ((i : ℕ) → i < 64 → campaign t i ≡ fresh no-terms)
+    (a ≡ Done) × (head-of t ≡ headed Filling pl 0 0 0) × ((i : ℕ) → i < 64 → campaign t i ≡ new-campaign 0 0)
 Does (add-campaign terms) s a t =
     (a ≡ Done)
     × (head-of t ≡ headed (s .phase) (s .plan) (s .count + 1) (s .accepted) (s .paused))
-    × (campaign t (s .count) ≡ fresh terms)
+    × (campaign t (s .count) ≡ new-campaign (terms .price) (terms .budget))
     × ((i : ℕ) → i < 64 → (i ≡ s .count → ⊥) → campaign t i ≡ campaign s i)
 Does start-day s a t =
     (a ≡ Done)
@@ -98,10 +94,8 @@ Does (show-view w) s a t =
 Does (ask-tally i) s a t =
     let c = campaign s i in (a ≡ Tallied (c .plays) (c .turns) (c .age) (c .named)) × (t ≡ s)
 Does close-day s a t =
-    let k = s .plan .depth in
-    let d = s .plan .width in
-    (a ≡ Closing (taken s) (claimed k d s) (d ^ k * taken s))
-    × (head-of t ≡ headed (Closed (taken s)) (s .plan) (s .count) (s .accepted) (s .paused)) × Campaigns-stay s t
+    (a ≡ Closing (takings s) (total-claim s) (full s))
+    × (head-of t ≡ headed (Closed (takings s)) (s .plan) (s .count) (s .accepted) (s .paused)) × Campaigns-stay s t
 Does (mark-campaign b i) s a t =
     (a ≡ Done)
     × (head-of t ≡ headed (s .phase) (s .plan) (s .count) (s .accepted) (t .paused))

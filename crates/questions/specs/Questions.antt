@@ -1,4 +1,5 @@
 -- Questions at the door: the first "no", and the questions that need no more of a state than its head.
+use mathlib.Core.Path.{_≡_}
 use mathlib.Core.Bool.{Bool, cond}
 use mathlib.Core.List.{List, [], _∷_}
 use Prim.Native.Nat.{ℕ, _+_}
@@ -25,6 +26,14 @@ question n b = record { asked = n; yes = b }
 unfoldable pub first-failed : List Question → ℕ
 first-failed [] = 0
 first-failed (q ∷ qs) = cond (q .yes) (first-failed qs) (q .asked)
+
+-- The same in propositions: n is the number that is given where question q asks for P and the rest is asked behind it;
+-- where none is left to ask, the call is accepted.
+abbrev pub asks : (q : ℕ) → (P : Type 0) → (rest : ℕ → Type 0) → (n : ℕ) → Type 0
+asks q P rest n = (P → rest n) × ((P → ⊥) → n ≡ q)
+
+abbrev pub accepts : (n : ℕ) → Type 0
+accepts n = n ≡ 0
 
 -- questions 3 to 5
 abbrev pub plan-questions : Plan → List Question
