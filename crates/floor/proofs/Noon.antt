@@ -97,6 +97,7 @@ module _ (s : Day) (h : History) (r : Reached s h) where
     price-is = λ i l. r .tracks .follows i l .price-is;
     whole-is = whole-is s h r;
     named-is = λ i l. r .tracks .follows i l .named-is;
+    accepted-is = r .tracks .accepted-is;
     takings-is = r .tracks .paid-is;
     paused-is = r .tracks .paused-is;
     due-is = due-is;

@@ -54,6 +54,7 @@ pub record Tracks (s : Day) (h : History) : Type 0 where
   pub unviewed : is-filling (s .phase) ≡ true → h .views ≡ []
   pub inside : (j : ℕ) → j < length (h .views) → within (s .count) (names-at h j) ≡ true
   pub paused-is : s .paused ≡ h .paused
+  pub accepted-is : s .accepted ≡ length (h .views)
 
 tracks-opening : (p : Phase) (pl : Plan) → Tracks (empty-plan p pl) (opening pl)
 unfolding total-takings total
@@ -66,6 +67,7 @@ tracks-opening p pl =
       unviewed = λ _. refl;
       inside = λ j l. absurd (not-suc-le-zero l);
       paused-is = refl;
+      accepted-is = refl;
     }
 
 tracks-blank : Tracks blank (opening blank-plan)
@@ -124,6 +126,7 @@ module _ (s : Day) (h : History) (e : sound s ≡ true) (k : Tracks s h) where
               λ j l.
               absurd (not-suc-le-zero (subst (λ (vs : List View). j < length vs) (k .unviewed (y .1 .0)) l));
           paused-is = k .paused-is;
+          accepted-is = k .accepted-is;
         }
       where
         old : (j : ℕ) → j < s .count → Follows (s .plan) (terms-of more j) (named-in more j) (with-campaign s t j)
@@ -174,6 +177,7 @@ module _ (s : Day) (h : History) (e : sound s ≡ true) (k : Tracks s h) where
           (within-without (s .count) (w .set) (s .paused) (y .1 .1 .1 .0)))
           j (omega (arith, length-append (h .views) (v ∷ [])));
       paused-is = k .paused-is;
+      accepted-is = omega (arith, length-append (h .views) (v ∷ []), k .accepted-is);
     }
 
     tracks-view : (a : Answer) → paid-in a ≡ paid (offers s w) (player s w)
@@ -192,6 +196,7 @@ module _ (s : Day) (h : History) (e : sound s ≡ true) (k : Tracks s h) where
     unviewed = λ z. absurd (never (is-filling ph) f z);
     inside = k .inside;
     paused-is = k .paused-is;
+    accepted-is = k .accepted-is;
   }
 
   tracks-marked : (b : Bool) (i : ℕ) (a : Answer)
@@ -205,6 +210,7 @@ module _ (s : Day) (h : History) (e : sound s ≡ true) (k : Tracks s h) where
     unviewed = k .unviewed;
     inside = k .inside;
     paused-is = ap (marked b i) (k .paused-is);
+    accepted-is = k .accepted-is;
   }
 
   tracks-result : (c : Call) → Yes (questions s c) → Tracks (result s c .day) (with-call h c (result s c .answer))

@@ -27,6 +27,11 @@ pub data Starts : Day → List Call → Type 0 where
   from-opening : (s : Day) (pl : Plan) (cs : List Call) → accepted (call s (open-plan pl) .answer) ≡ true
       → Starts s (open-plan pl ∷ cs)
 
+-- whatever that state holds
+abbrev pub Any-state-starts : Type 0
+Any-state-starts =
+    (s : Day) (pl : Plan) (cs : List Call) → number (call s (open-plan pl) .answer) ≡ 0 → Starts s (open-plan pl ∷ cs)
+
 -- the day: the last accepted opening with the accepted calls after it. Depth and width are those handed to the opening,
 -- price and budget those handed to the accepted adding, the paused marks what the accepted pausings and resumings left,
 -- and a view is what it found: the set handed in less those marks. Beside the views stand the answers to them.

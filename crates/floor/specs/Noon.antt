@@ -41,6 +41,7 @@ pub record Noon-floor (h : History) (s : Day) : Type 0 where
   pub price-is : (i : ℕ) → i < s .count → campaign s i .price ≡ price-of h i
   pub whole-is : (i : ℕ) → i < s .count → whole (campaign s i) ≡ whole-of h i
   pub named-is : (i : ℕ) → i < s .count → campaign s i .named ≡ named-in h i
+  pub accepted-is : s .accepted ≡ length (h .views)
   pub takings-is : total-takings s ≡ day-takings h
   -- the marks are those that the accepted pausings and resumings left
   pub paused-is : s .paused ≡ h .paused

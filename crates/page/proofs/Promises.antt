@@ -25,7 +25,7 @@ use Rattle.page.specs.declared.Printing.the-variants.{Length, Refusal}
 use Rattle.page.specs.Page.{Row, Row-fits, All-fit, Figures-fit, line-length, page, read-page}
 use Rattle.page.specs.Figures.{page-row, figures}
 use Rattle.page.specs.Printing.{page-of, page-question, printing, printed, number, values, Tells}
-use Rattle.page.specs.Promises.{Line-shows, Total-shows, Page-shows, Promises}
+use Rattle.page.specs.Promises.{Total-shows, Page-shows, Promises}
 use Rattle.page.proofs.ReadBack.{Row-shows, no-row, page-length, page-back, page-row-shows, page-total-shows}
 use Rattle.page.proofs.ReadBack.{page-ended}
 
@@ -79,21 +79,14 @@ sound-fits s e =
 
 -- line i of a sound state's page shows campaign i
 line-shows : (s : Day) → sound s ≡ true → (i : ℕ) → i < s .count
-    → Line-shows i (campaign s i) (drop (line-length * i) (page-of s))
+    → Row-shows i (page-row (campaign s i)) (drop (line-length * i) (page-of s))
 unfolding figures
 line-shows s e i l =
     let f = figures s in
     let row : ℕ → Row = λ j. page-row (campaign s j) in
     let n : i < length (f .rows) = omega (arith, length-table (s .count) row, l) in
-    let shown = subst (λ (r : Row). Row-shows i r (drop (line-length * i) (page f)))
-    (getD-table (s .count) row no-row i l) (page-row-shows f (sound-fits s e) i n) in
-    record {
-      number-is = shown .number-is;
-      plays-are = shown .plays-are;
-      price-is = shown .price-is;
-      paid-is = shown .paid-is;
-      named-is = shown .named-is;
-    }
+    subst (λ (r : Row). Row-shows i r (drop (line-length * i) (page f))) (getD-table (s .count) row no-row i l)
+    (page-row-shows f (sound-fits s e) i n)
 
 shows : (s : Day) → sound s ≡ true → Page-shows s (page-of s)
 unfolding figures

@@ -16,7 +16,7 @@ use Rattle.lines.proofs.Plain.{plain, plain-at}
 use Rattle.page.specs.Page.{Row, Figures, line-length, flush, spaces, cents, row-text, total-text, row-lines}
 use Rattle.page.specs.Page.{page, Row-fits, All-fit, Figures-fit, text-in}
 use Rattle.page.specs.Page.{read-row, with-row, read-lines, read-page}
-use Rattle.page.specs.Promises.{Number, Amount, Total-shows}
+use Rattle.page.specs.Promises.{Line-shows, Total-shows}
 use Rattle.page.proofs.Texts.{flush-length, number-3, number-6, cents-11, cents-14, row-length, total-length}
 use Rattle.page.proofs.Texts.{row-plain, total-plain, shows-number, shows-amount}
 
@@ -27,12 +27,8 @@ column-at p t q k w e f = ap (take w) (drop-at p (t ++ q) k e) ∙ take-at t q w
 -- A line of a campaign.
 
 -- the line at the front of l shows the row r of campaign i
-pub record Row-shows (i : ℕ) (r : Row) (l : List ℕ) : Type 0 where
-  pub number-is : Number 1 3 i l
-  pub plays-are : Number 4 9 (r .plays) l
-  pub price-is : Amount 10 20 (r .price) l
-  pub paid-is : Amount 21 34 (r .paid) l
-  pub named-is : Number 35 40 (r .named) l
+abbrev pub Row-shows : ℕ → Row → List ℕ → Type 0
+Row-shows i r l = Line-shows i (r .plays) (r .price) (r .paid) (r .named) l
 
 same-row : (r : Row) {a b c d : ℕ} → a ≡ r .plays → b ≡ r .price → c ≡ r .paid → d ≡ r .named
     → record { plays = a; price = b; paid = c; named = d } ≡ r
@@ -70,13 +66,13 @@ module _ (i : ℕ) (r : Row) (k : i < 10 ^ 3) (h : Row-fits r) (m : List ℕ) wh
         plays-are = shows-number 4 9 (r .plays) (omega (arith, h .plays-fit)) c₂;
         price-is = shows-amount 10 20 (r .price) (omega (arith, h .price-fits)) c₃;
         paid-is = shows-amount 21 34 (r .paid) (omega (arith, h .paid-fits)) c₄;
-        named-is = shows-number 35 40 (r .named) (omega (arith, h .named-fit)) c₅;
+        named-are = shows-number 35 40 (r .named) (omega (arith, h .named-fit)) c₅;
       }
 
   read-back : read-row (row-text i r ++ m) ≡ r
   read-back =
       let s = row-shows in
-      same-row r (s .plays-are .figure-is) (s .price-is .figure-is) (s .paid-is .figure-is) (s .named-is .figure-is)
+      same-row r (s .plays-are .figure-is) (s .price-is .figure-is) (s .paid-is .figure-is) (s .named-are .figure-is)
 
 -- The last line.
 

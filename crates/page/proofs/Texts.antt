@@ -17,7 +17,7 @@ use Rattle.lines.proofs.Numerals.{numeral-one, numeral-more, numeral-back}
 use Rattle.lines.proofs.Plain.{plain, append-plain, digit-plain, numeral-plain}
 use Rattle.print.proofs.Lengths.{len-within}
 use Rattle.page.specs.Page.{Row, Row-fits, flush, spaces, cents, row-text, total-text, number-in, text-in}
-use Rattle.page.specs.Promises.{behind-spaces, Number, Amount}
+use Rattle.page.specs.Promises.{behind-spaces, Number-shows, Amount-shows}
 
 -- Lengths.
 
@@ -174,7 +174,7 @@ seen-behind zero n (b ∷ t) m e = go (eqb b 32) refl
         clash (cc)
     go false z = e
 
-pub shows-number : {l : List ℕ} (a b n : ℕ) → n < 2 ^ 64 → text-in a b l ≡ flush a b (numeral n) → Number a b n l
+pub shows-number : {l : List ℕ} (a b n : ℕ) → n < 2 ^ 64 → text-in a b l ≡ flush a b (numeral n) → Number-shows a b n l
 unfolding flush
 shows-number a b n h e = record {
   figure-is = ap (number-in 0) e ∙ value-number a b n h;
@@ -184,7 +184,7 @@ shows-number a b n h e = record {
       (ap numeral-at (sym (append-nil (numeral n))) ∙ numeral-back n [] h refl);
 }
 
-pub shows-amount : {l : List ℕ} (a b n : ℕ) → n < 2 ^ 64 → text-in a b l ≡ flush a b (cents n) → Amount a b n l
+pub shows-amount : {l : List ℕ} (a b n : ℕ) → n < 2 ^ 64 → text-in a b l ≡ flush a b (cents n) → Amount-shows a b n l
 unfolding flush cents is-digit
 shows-amount a b n h e =
     let decimals : List ℕ = 46 ∷ (48 + n / 10 % 10) ∷ (48 + n % 10) ∷ [] in

@@ -6,7 +6,6 @@ use mathlib.Core.Bool.{true, cond}
 use mathlib.Core.List.{List, [], _∷_}
 use lib.Dec.{eqb}
 use lib.ListN.{length, drop, replicate, getD}
-use Rattle.campaigns.specs.declared.Campaign.{Campaign}
 use Rattle.day.specs.declared.Day.{Day}
 use Rattle.day.specs.Day.{campaign, total-takings, sound}
 use Rattle.lines.specs.Form.{bytes}
@@ -22,35 +21,36 @@ behind-spaces (b ∷ l) = cond (eqb b 32) (behind-spaces l) (b ∷ l)
 
 -- the number n in the columns from first to last of the line at the front of l, "flush right, filled with spaces": it
 -- is read from them, and behind spaces they hold its numeral and nothing else
-pub record Number (first last n : ℕ) (l : List ℕ) : Type 0 where
+pub record Number-shows (first last n : ℕ) (l : List ℕ) : Type 0 where
   pub figure-is : figure-in first last l ≡ n
   pub flush-right : numeral-at (behind-spaces (text-in first last l)) ≡ seen n []
 
 -- n cents there in the same manner, with "a point, two decimals and at least one digit before it, with no needless
 -- zeros in front": behind spaces the numeral of n / 100, byte 46, two digits and nothing else
-pub record Amount (first last n : ℕ) (l : List ℕ) : Type 0 where
+pub record Amount-shows (first last n : ℕ) (l : List ℕ) : Type 0 where
   pub figure-is : figure-in first last l ≡ n
   pub flush-right : numeral-at (behind-spaces (text-in first last l))
       ≡ seen (n / 100) (46 ∷ (48 + n / 10 % 10) ∷ (48 + n % 10) ∷ [])
 
--- the line at the front of l shows campaign i, which is c
-pub record Line-shows (i : ℕ) (c : Campaign) (l : List ℕ) : Type 0 where
-  pub number-is : Number 1 3 i l
-  pub plays-are : Number 4 9 (c .plays) l
-  pub price-is : Amount 10 20 (c .price) l
-  pub paid-is : Amount 21 34 (c .price * c .plays) l
-  pub named-is : Number 35 40 (c .named) l
+-- the line at the front of l shows campaign i with these figures
+pub record Line-shows (i plays price paid named : ℕ) (l : List ℕ) : Type 0 where
+  pub number-is : Number-shows 1 3 i l
+  pub plays-are : Number-shows 4 9 plays l
+  pub price-is : Amount-shows 10 20 price l
+  pub paid-is : Amount-shows 21 34 paid l
+  pub named-are : Number-shows 35 40 named l
 
 -- the last line, at the front of l, shows the takings t, with spaces elsewhere
 pub record Total-shows (t : ℕ) (l : List ℕ) : Type 0 where
   pub word-is : text-in 1 5 l ≡ bytes "total"
-  pub takings-are : Amount 21 34 t l
+  pub takings-are : Amount-shows 21 34 t l
   pub spaces-are : (text-in 6 20 l ≡ replicate 15 32) × (text-in 35 40 l ≡ replicate 6 32)
 
 -- the page l of a state: a line for each campaign in number order, and the last line with the takings
 pub record Page-shows (s : Day) (l : List ℕ) : Type 0 where
   pub length-is : length l ≡ line-length * (s .count + 1)
-  pub campaigns-are : (i : ℕ) → i < s .count → Line-shows i (campaign s i) (drop (line-length * i) l)
+  pub campaigns-are : (i : ℕ) → i < s .count → let c = campaign s i in
+      Line-shows i (c .plays) (c .price) (c .price * c .plays) (c .named) (drop (line-length * i) l)
   pub total-is : Total-shows (total-takings s) (drop (line-length * s .count) l)
 
 pub record Promises : Type 0 where

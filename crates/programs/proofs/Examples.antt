@@ -4,7 +4,7 @@
 use mathlib.Core.Path.{_≡_, refl, sym, ap, ap₂, _∙_, subst, subst⁻¹}
 use mathlib.Core.Bool.{Bool, true, cond, _&&_}
 use mathlib.Core.List.{List, [], _∷_, _++_}
-use Prim.Native.Nat.{ℕ, suc, _+_, _-_, _≤_}
+use Prim.Native.Nat.{ℕ, _+_, _-_, _≤_}
 use native.Mathlib.Omega.{arith}
 use lib.Dec.{eqb}
 use lib.ListN.{length, take, drop, replicate, length-append}
@@ -36,7 +36,7 @@ use Rattle.stream.specs.Stream.{finished, new-stream, session-of, silent, strea
 use Rattle.stream.specs.Stream.{consumed-bytes, Comes-to, Feeds, Finishes}
 use Rattle.stream.specs.Input.{joined, Plain, All-plain, Split, last-line, after-lines, replies}
 use Rattle.stream.specs.Chunking.{Feeding, In-blocks, stream-after}
-use Rattle.stream.proofs.Chunking.{fed-said, fed-lines, replies-append, output-at-end, any-chunking}
+use Rattle.stream.proofs.Chunking.{fed-lines, replies-append, output-at-end, any-chunking, plain-nil, room-for-all}
 use Rattle.programs.specs.Examples.{in-one, blocks-of, Any-blocks}
 use Rattle.stream.specs.Listing.{lines-of, listing-lines, listing-answers, uneven-lines, uneven-answers}
 use Rattle.programs.specs.Examples.{Handed, first-block, second-block, answers, Day-in-two-blocks, two-lines}
@@ -94,27 +94,13 @@ come y n d = record { back-is = refl; out-is = refl }
 
 -- One block.
 
-answers-grow : (x : Session) (l : List ℕ) → length (x .output) ≤ length (fed x l .output)
-answers-grow x l =
-    let same = ap (λ (y : Session). length (y .output)) (fed-said x l) in
-    omega (arith, same, length-append (x .output) (fed (silent x) l .output))
-
--- with room for all answers every byte is taken
-all-consumed : (n : ℕ) (x : Session) (l : List ℕ) → length (fed x l .output) + reply-room ≤ n
-    → consumed-count n x l ≡ length l
-unfolding consumed-count fed
-all-consumed n x [] h = refl
-all-consumed n x (b ∷ l) h =
-    rw (le-leb (length (x .output) + reply-room) n (omega (arith, h, answers-grow x (b ∷ l))))
-    (ap suc (all-consumed n (after-byte x b) l h))
-
 module _ (k : Stream) (l d : List ℕ) (room : length (fed (session-of k) l .output) + reply-room ≤ length d) where
   abbrev fed-block : Session
   fed-block = fed (session-of k) l
 
   feeds-all : Feeds k l d (answered-in fed-block d) (handed-back fed-block (length l))
   feeds-all =
-      let n : consumed-count (length d) (session-of k) l ≡ length l = all-consumed (length d) (session-of k) l room in
+      let n : consumed-count (length d) (session-of k) l ≡ length l = room-for-all (length d) (session-of k) l room in
       let all : fed-block ≡ fed (session-of k) (take (length l) l) = ap (fed (session-of k)) (sym (take-length l)) in
       subst⁻¹
       (λ (i : ℕ).
@@ -189,7 +175,8 @@ any-blocks bs i d room =
       after = answered-in z d;
       back = handed-back z 0;
       finishes = h;
-      writes = any-chunking (in-one bs) fs t d (answered-in z d) (handed-back z 0) some h i;
+      writes =
+          any-chunking new-stream (in-one bs) fs t d (answered-in z d) (handed-back z 0) some h plain-nil (omega arith) i;
     }
 
 -- The day.

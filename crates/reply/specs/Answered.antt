@@ -20,7 +20,7 @@ use Rattle.day.specs.declared.Day.{Day}
 use Rattle.day.specs.Day.{campaign}
 use Rattle.day.specs.Calls.{Call, values, refused, call}
 use Rattle.day.specs.Calls.Call.{open-plan, add-campaign, start-day, show-view, ask-tally, close-day, mark-campaign}
-use Rattle.reply.specs.Reply.{request, request-of, outcome, reply-records, reply, next}
+use Rattle.reply.specs.Reply.{request, outcome, reply-records, reply, next}
 use Rattle.reply.specs.Reply.Request.{makes, fails}
 use Rattle.reply.specs.Session.{upto, first-line}
 
@@ -36,9 +36,9 @@ abbrev pub Output-lines : List ℕ → List Record → Type 0
 Output-lines w [] = w ≡ []
 Output-lines w (r ∷ rs) = Output-line w r × Output-lines (drop (suc (upto w)) w) rs
 
--- the text l begins with these bytes
-abbrev pub Begins : (w l : List ℕ) → Type 0
-Begins w l = take (length w) l ≡ w
+-- the text l begins with the bytes w
+abbrev pub Prefix : (w l : List ℕ) → Type 0
+Prefix w l = take (length w) l ≡ w
 
 -- the word that begins the answer; a tally alone is asked for by no line
 abbrev pub answer-word : Answer → List ℕ
@@ -50,13 +50,15 @@ answer-word (tallied p t a n) = bytes "(tally "
 answer-word (closing t c f) = bytes "(closed "
 
 pub record Answered (s : Day) (l : List ℕ) : Type 0 where
-  -- a line that makes a call hands back what the call does; one that is not read, its number and the unchanged state
-  pub call-is : (c : Call) → request-of (reading l) ≡ makes c → outcome s l ≡ call s c
+  -- a line that is read as a record which makes a call hands back what the call does; one that makes none, or that is
+  -- not read, its number and the unchanged state
+  pub call-is : (r : Record) (c : Call) → reading l ≡ Got r → request r ≡ makes c → outcome s l ≡ call s c
+  pub no-call : (r : Record) (q : ℕ) → reading l ≡ Got r → request r ≡ fails q → outcome s l ≡ refused s q
   pub unread : (q : ℕ) → reading l ≡ Refusal q → outcome s l ≡ refused s q
   -- every refusal leaves the state; its number runs from 1 to the highest that the papers give
   pub refusal-is : (q : ℕ) → outcome s l .answer ≡ refusing q → (next s l ≡ s) × (1 ≤ q) × (q ≤ max-question)
   pub lines-are : Output-lines (reply s l) (reply-records (outcome s l))
-  pub word-is : Begins (answer-word (outcome s l .answer)) (reply s l)
+  pub word-is : Prefix (answer-word (outcome s l .answer)) (reply s l)
   -- the first shows the answer's values: a refusal's number, the player and the price, or takings, claim and full
   pub values-are : numbers (getD (reply-records (outcome s l)) 0 Done) ≡ values (outcome s l .answer)
   -- it is the only line, but on an accepted closing there is one more for each campaign
@@ -101,4 +103,4 @@ call-word (mark-campaign false i) = bytes "(resume "
 abbrev pub Input-calls : Type 0
 Input-calls =
     (r : Record) → is-output r ≡ false
-    → (c : Call) × (request r ≡ makes c) × (call-numbers c ≡ numbers r) × Begins (call-word c) (text r)
+    → (c : Call) × (request r ≡ makes c) × (call-numbers c ≡ numbers r) × Prefix (call-word c) (text r)

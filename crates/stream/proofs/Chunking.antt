@@ -6,7 +6,7 @@ use Prim.Native.Nat.{ℕ, suc, _+_, _-_, _≤_}
 use native.Mathlib.Omega.{arith}
 use lib.Dec.{leb, eqb}
 use lib.ListN.{length, take, drop, replicate, take-append-drop, length-append}
-use lib.Seq.{take-append-seam}
+use lib.Seq.{take-append-seam, take-all}
 use borrow.Author.Tests.{eqb-true, le-leb}
 use Rattle.day.specs.declared.Day.{Day}
 use Rattle.day.specs.Day.{blank}
@@ -19,7 +19,7 @@ use Rattle.stream.specs.declared.feed.Fed.{Fed}
 use Rattle.stream.specs.Input.{joined, Plain, All-plain, Split, last-line, all-lines, after-lines, replies}
 use Rattle.stream.specs.Stream.{finished, session, new-stream, session-of, silent, Comes-to, Feeds, Finishes}
 use Rattle.stream.specs.Chunking.{Feeding, In-blocks, stream-after, all-written, all-output}
-use Rattle.stream.specs.Chunking.{Last-line-counts, Any-input, Any-chunking}
+use Rattle.stream.specs.Chunking.{Last-line-counts, Any-input, Always-split, Room-for-all, Any-chunking}
 use Rattle.batch.proofs.Rests.{rest-fed}
 
 abbrev pub with-said : Session → List ℕ → Session
@@ -221,15 +221,42 @@ ends d (b ∷ l) w = (
 pub last-line-counts : Last-line-counts
 last-line-counts x = ends (x .day) (x .pending) (x .output)
 
+-- bytes that are kept are as bytes that come first
+kept-first : (s : Day) (p l : List ℕ) → Plain p → length p ≤ line-buffer
+    → fed (record { day = s; pending = p; output = [] }) l ≡ fed (session s [] 0) (p ++ l)
+kept-first s p l plain short =
+    let x = session s [] 0 in
+    let held : fed x p ≡ record { day = s; pending = p; output = [] } =
+    rest-fed x p (omega arith) plain
+    ∙ ap (λ (w : List ℕ). record { day = s; pending = w; output = [] }) (take-all line-buffer p short) in
+    ap (λ (y : Session). fed y l) (sym held) ∙ sym (fed-append x p l)
+
 pub any-chunking : Any-chunking
-any-chunking input fs t d e r room h i = all-written-is d e r room new-stream input fs t h ∙ output-at-end input i
+any-chunking k input fs t d e r room h plain short i =
+    let p = take (k .kept) (k .pending) in
+    all-written-is d e r room k input fs t h
+    ∙ ap (λ (y : Session). finished y .output) (kept-first (k .day) p input plain short)
+    ∙ ap (λ (y : Session). y .output) (any-input (k .day) (p ++ input) i)
+
+-- with room for all answers every byte is taken
+answers-grow : (x : Session) (l : List ℕ) → length (x .output) ≤ length (fed x l .output)
+answers-grow x l =
+    let same = ap (λ (y : Session). length (y .output)) (fed-said x l) in
+    omega (arith, same, length-append (x .output) (fed (silent x) l .output))
+
+pub room-for-all : Room-for-all
+unfolding consumed-count fed
+room-for-all n x [] h = refl
+room-for-all n x (b ∷ l) h =
+    rw (le-leb (length (x .output) + reply-room) n (omega (arith, h, answers-grow x (b ∷ l))))
+    (ap suc (room-for-all n (after-byte x b) l h))
 
 -- and every input is lines and a rest
 plain-cons : (b : ℕ) (l : List ℕ) → eqb b 10 ≡ false → Plain l → Plain (b ∷ l)
 unfolding upto
 plain-cons b l e h = rw e (ap suc h)
 
-plain-nil : Plain []
+pub plain-nil : Plain []
 unfolding upto
 plain-nil = refl
 
@@ -265,7 +292,7 @@ end-line b l e s = record {
       ap (λ (m : List ℕ). 10 ∷ m) (s .whole) ∙ ap (λ (c : ℕ). c ∷ l) (sym e);
 }
 
-pub split : (l : List ℕ) → Split l
+pub split : Always-split
 unfolding joined
 split [] = record { lines = []; rest = []; lines-plain = tt; rest-plain = plain-nil; whole = refl }
 split (b ∷ l) = go (eqb b 10) refl (split l)

@@ -1,15 +1,15 @@
 -- A stream that is handed a whole input in blocks.
 use mathlib.Core.Path.{_≡_}
 use mathlib.Core.List.{List, [], _∷_, _++_}
-use Prim.Native.Nat.{ℕ, _≤_}
+use Prim.Native.Nat.{ℕ, _+_, _≤_}
 use lib.ListN.{length, take, drop}
 use Rattle.day.specs.declared.Day.{Day}
-use Rattle.day.specs.Day.{blank}
-use Rattle.reply.specs.Session.{Session, reply-room, fed}
+use Rattle.lines.specs.Limits.{line-buffer}
+use Rattle.reply.specs.Session.{Session, reply-room, fed, consumed-count}
 use Rattle.stream.specs.declared.feed.Stream.{Stream}
 use Rattle.stream.specs.declared.feed.Fed.{Fed}
-use Rattle.stream.specs.Input.{Split, all-lines, after-lines, replies}
-use Rattle.stream.specs.Stream.{finished, session, new-stream, Feeds, Finishes}
+use Rattle.stream.specs.Input.{Plain, Split, all-lines, after-lines, replies}
+use Rattle.stream.specs.Stream.{finished, session, Feeds, Finishes}
 
 -- one call of `feed`: the bytes handed in, those of the input behind them, the buffer before and after, and what came
 -- back
@@ -52,10 +52,21 @@ Any-input =
     → finished (fed (session s [] 0) input)
     ≡ record { day = after-lines s (all-lines i); pending = []; output = replies s (all-lines i) }
 
--- a new stream that is handed an input in any blocks, each with any room, and then its end, with room for the longest
--- answer, writes the answers to the lines of the input, from the blank state on, and nothing else
+-- every input is lines and a rest
+abbrev pub Always-split : Type 0
+Always-split = (input : List ℕ) → Split input
+
+-- with room for all its answers a block is taken whole
+abbrev pub Room-for-all : Type 0
+Room-for-all =
+    (n : ℕ) (x : Session) (l : List ℕ) → length (fed x l .output) + reply-room ≤ n → consumed-count n x l ≡ length l
+
+-- A stream of any state, perhaps with the first bytes of a line kept, that is handed an input in any blocks, each with
+-- any room, and then its end, with room for the longest answer: it writes the answers to the lines of these bytes and
+-- the input, from its state on, and nothing else.
 abbrev pub Any-chunking : Type 0
 Any-chunking =
-    (input : List ℕ) (fs : List Feeding) → In-blocks new-stream input fs
-    → (d e : List ℕ) (r : Fed) → reply-room ≤ length d → Finishes (stream-after new-stream fs) d e r
-    → (i : Split input) → all-written fs ++ take (r .written) e ≡ replies blank (all-lines i)
+    (k : Stream) (input : List ℕ) (fs : List Feeding) → In-blocks k input fs
+    → (d e : List ℕ) (r : Fed) → reply-room ≤ length d → Finishes (stream-after k fs) d e r
+    → let kept = take (k .kept) (k .pending) in Plain kept → length kept ≤ line-buffer → (i : Split (kept ++ input))
+    → all-written fs ++ take (r .written) e ≡ replies (k .day) (all-lines i)

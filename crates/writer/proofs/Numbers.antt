@@ -8,10 +8,10 @@ use lib.ListN.{length, drop}
 use lib.Seq.{take-at, drop-at}
 use borrow.Author.Tests.{eqb-true, le-leb, lt-leb}
 use Rattle.writer.specs.declared.Writing.the-variants.{Length, Refusal}
-use Rattle.writer.specs.Writing.{line, write-question, writing, written, number, values, Always-number-and-values}
+use Rattle.writer.specs.Writing.{line, write-question, writing, written, number, values, Always-tells}
 
-pub number-and-values : Always-number-and-values
-unfolding writing written write-question
+pub number-and-values : Always-tells
+unfolding writing written write-question line
 number-and-values r d = record {
   number-is = numbered (eqb (write-question r d) 0) refl;
   values-are = valued (eqb (write-question r d) 0);

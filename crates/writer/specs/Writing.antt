@@ -36,18 +36,20 @@ values (Length n) = n ∷ []
 values (Refusal q) = q ∷ []
 
 -- what they say of writing r into d; and what is answered and left in d, case by case
-pub record Number-and-values (r : Record) (d : List ℕ) : Type 0 where
+pub record Tells (r : Record) (d : List ℕ) : Type 0 where
   pub number-is : number (writing r d) ≡ write-question r d
   pub values-are : values (writing r d)
       ≡ cond (eqb (write-question r d) 0) (length (line r) ∷ []) (write-question r d ∷ [])
   -- "Is every number of the record in its range below? No: 17." A refusal leaves the buffer as it was.
   pub out-of-range : in-range r ≡ false → (writing r d ≡ Refusal 17) × (written r d ≡ d)
   -- "Is the lent buffer at least as long as the line with its byte 10? No: 18."
-  pub no-room : in-range r ≡ true → length d < length (line r) → (writing r d ≡ Refusal 18) × (written r d ≡ d)
+  pub no-room : in-range r ≡ true → length d < length (text r ++ (10 ∷ []))
+      → (writing r d ≡ Refusal 18) × (written r d ≡ d)
   -- "A written line fills the front of the buffer and its length is returned; later bytes keep their values."
-  pub fills : in-range r ≡ true → length (line r) ≤ length d
-      → let n = length (line r) in
-      (writing r d ≡ Length n) × (take n (written r d) ≡ line r) × (drop n (written r d) ≡ drop n d)
+  pub fills : in-range r ≡ true
+      → let l = text r ++ (10 ∷ []) in length l ≤ length d
+      → (writing r d ≡ Length (length l)) × (take (length l) (written r d) ≡ l)
+      × (drop (length l) (written r d) ≡ drop (length l) d)
 
-abbrev pub Always-number-and-values : Type 0
-Always-number-and-values = (r : Record) (d : List ℕ) → Number-and-values r d
+abbrev pub Always-tells : Type 0
+Always-tells = (r : Record) (d : List ℕ) → Tells r d
