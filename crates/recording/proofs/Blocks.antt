@@ -15,7 +15,7 @@ use Rattle.stream.specs.declared.feed.Fed.{Fed}
 use Rattle.stream.specs.Stream.{session-of, stream-of, Comes-to, Feeds}
 use Rattle.stream.proofs.Chunking.{session-next}
 use Rattle.recording.specs.Contracts.{Took}
-use Rattle.recording.proofs.Bytes.{took-none, took-more, took-plain, ended-short, line-is}
+use Rattle.recording.proofs.Bytes.{took-none, took-more, took-plain, short-after, line-is}
 
 -- a stream that was fed is that of its session: zero bytes stand behind those kept
 stream-fed : {y : Session} {n : ℕ} {d e : List ℕ} {r : Fed} → Comes-to y n d e r
@@ -72,7 +72,7 @@ module _ {k : Stream} {v b : List ℕ} {s : Stream} {w : List ℕ} {from end : �
         inside = omega arith;
         end-is = e;
         end-inside = l;
-        short = ended-short line q;
+        short = short-after (g .short) q;
         took = subst (λ (m : List ℕ). Took k v m t u) here (took-more (g .took) q);
       }
 

@@ -11,7 +11,7 @@ use lib.Seq.{take-length, take-suc}
 use borrow.Author.Tests.{eqb-true}
 use Rattle.lines.specs.Limits.{line-buffer}
 use Rattle.reply.specs.Session.{Session, reply-room, longer, ended, after-byte, fed, consumed-count, upto}
-use Rattle.reply.proofs.Sessions.{fed-append, byte-plain, byte-end, consumed-nil, consumed-line, upto-at}
+use Rattle.reply.proofs.Sessions.{fed-short, byte-plain, byte-end, consumed-nil, consumed-line, upto-at}
 use Rattle.batch.proofs.Rests.{rest-fed, consumed-rest}
 use Rattle.stream.specs.declared.feed.Stream.{Stream}
 use Rattle.stream.specs.declared.feed.Fed.{Fed}
@@ -111,16 +111,10 @@ module _ (k : Stream) (v d e : List ℕ) (r : Fed) (short : length (session-of k
       }
 
 -- no more is pending than tells that a line is too long
-pub short-after : {k m : Stream} {v w l : List ℕ} → length (session-of k .pending) ≤ line-buffer → upto l ≡ length l
-    → Took k v l m w → length (session-of m .pending) ≤ line-buffer
-short-after {k} {m} {v} {w} {l} h p t =
-    let x = session-of k in
-    omega (
-      arith,
-      ap (λ (y : Session). length (y .pending)) (t .session-is),
-      ap (λ (y : Session). length (y .pending)) (rest-fed x l h p),
-      length-take line-buffer (x .pending ++ l),
-    )
+pub short-after : {k m : Stream} {v w l : List ℕ} → length (session-of k .pending) ≤ line-buffer → Took k v l m w
+    → length (session-of m .pending) ≤ line-buffer
+short-after {k} {m} {v} {w} {l} h t =
+    omega (arith, ap (λ (y : Session). length (y .pending)) (t .session-is), fed-short (session-of k) l h)
 
 pub short-stream : (k : Stream) → length (k .pending) ≡ line-buffer → length (session-of k .pending) ≤ line-buffer
 short-stream k h = omega (arith, length-take (k .kept) (k .pending))
@@ -128,12 +122,3 @@ short-stream k h = omega (arith, length-take (k .kept) (k .pending))
 -- a line of the block b from a place on, with its byte 10
 pub line-is : (b : List ℕ) → upto b < length b → take (suc (upto b)) b ≡ take (upto b) b ++ (10 ∷ [])
 line-is b h = take-suc b (upto b) 0 h ∙ ap (λ (c : ℕ). take (upto b) b ++ (c ∷ [])) (upto-at b h)
-
--- nothing is pending behind a byte 10
-pub ended-short : {k m : Stream} {v w : List ℕ} (l : List ℕ) → Took k v (l ++ (10 ∷ [])) m w
-    → length (session-of m .pending) ≤ line-buffer
-unfolding fed after-byte
-ended-short {k} {m} l t =
-    let e : length (session-of m .pending) ≡ 0 =
-    ap (λ (y : Session). length (y .pending)) (t .session-is ∙ ap silent (fed-append (session-of k) l (10 ∷ []))) in
-    omega (arith, e)

@@ -62,6 +62,20 @@ longer-longer x a b = ap (λ (l : List ℕ). record { day = x .day; pending = l;
 longer-short : (x : Session) (w : List ℕ) → length (longer x w .pending) ≤ line-buffer
 longer-short x w = omega (arith, length-take line-buffer (x .pending ++ w))
 
+-- whatever is fed, no more is pending than tells that a line is too long
+byte-short : (x : Session) (b : ℕ) → length (after-byte x b .pending) ≤ line-buffer
+unfolding after-byte
+byte-short x b = go (eqb b 10)
+  where
+    go : (t : Bool) → length (cond t (ended x) (longer x (b ∷ [])) .pending) ≤ line-buffer
+    go true = omega arith
+    go false = longer-short x (b ∷ [])
+
+pub fed-short : (x : Session) (l : List ℕ) → length (x .pending) ≤ line-buffer → length (fed x l .pending) ≤ line-buffer
+unfolding fed
+fed-short x [] h = h
+fed-short x (b ∷ l) h = fed-short (after-byte x b) l (byte-short x b)
+
 pub byte-plain : (x : Session) (b : ℕ) → eqb b 10 ≡ false → after-byte x b ≡ longer x (b ∷ [])
 unfolding after-byte
 byte-plain x b e = rw e

@@ -24,7 +24,7 @@ returns c =
     let p = took-plain (a .stream) (a .views .now) (a .out .now) (f .last .1 .1 .0) (f .result) short (s .pre .0)
     (a .line .now) (s .pre .1) (f .ensures) in
     let q = took-end m (a .views .now) (f .last .1 .1 .0) (last .feed2 .last .1 .1 .0) (last .feed2 .result)
-    (short-after short (s .pre .1) p) (omega (arith, f .kept .1 .1 .0, s .pre .0)) (n .note .last .1 .0)
+    (short-after short p) (omega (arith, f .kept .1 .1 .0, s .pre .0)) (n .note .last .1 .0)
     (n .note .ensures) (last .feed2 .ensures) in
     took-more p q
 
