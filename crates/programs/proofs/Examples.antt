@@ -36,7 +36,8 @@ use Rattle.stream.specs.Stream.{finished, new-stream, session-of, silent, strea
 use Rattle.stream.specs.Stream.{consumed-bytes, Comes-to, Feeds, Finishes}
 use Rattle.stream.specs.Input.{joined, Plain, All-plain, Split, last-line, after-lines, replies}
 use Rattle.stream.specs.Chunking.{Feeding, In-blocks, stream-after}
-use Rattle.stream.proofs.Chunking.{fed-lines, replies-append, output-at-end, any-chunking, plain-nil, room-for-all}
+use Rattle.stream.proofs.Chunking.{fed-said, fed-lines, replies-append, output-at-end, any-chunking, plain-nil}
+use Rattle.stream.proofs.Chunking.{room-for-all}
 use Rattle.programs.specs.Examples.{in-one, blocks-of, Any-blocks}
 use Rattle.stream.specs.Listing.{lines-of, listing-lines, listing-answers, uneven-lines, uneven-answers}
 use Rattle.programs.specs.Examples.{Handed, first-block, second-block, answers, Day-in-two-blocks, two-lines}

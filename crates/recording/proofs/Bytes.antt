@@ -12,7 +12,7 @@ use borrow.Author.Tests.{eqb-true}
 use Rattle.lines.specs.Limits.{line-buffer}
 use Rattle.reply.specs.Session.{Session, reply-room, longer, ended, after-byte, fed, consumed-count, upto}
 use Rattle.reply.proofs.Sessions.{fed-short, byte-plain, byte-end, consumed-nil, consumed-line, upto-at}
-use Rattle.batch.proofs.Rests.{rest-fed, consumed-rest}
+use Rattle.batch.proofs.Rests.{consumed-rest}
 use Rattle.stream.specs.declared.feed.Stream.{Stream}
 use Rattle.stream.specs.declared.feed.Fed.{Fed}
 use Rattle.stream.specs.Stream.{session-of, silent, Feeds}
