@@ -104,7 +104,7 @@ search-taken s views allotment allotment' surplus surplus' worth worth' r found'
     ∙ sym (found' .answer ∙ ap (λ (q : ℕ). answer-of q (most-of s views)) z)
 
 -- the numbers and the values of the answers
-number-found : (q t : ℕ) → number (answer-of q t) ≡ q
+pub number-found : (q t : ℕ) → number (answer-of q t) ≡ q
 number-found zero t = refl
 number-found (suc q) t = refl
 

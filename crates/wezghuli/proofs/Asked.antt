@@ -1,6 +1,6 @@
 -- What the statuses of the search, of the check and of the takings say: 0 is given only where no question fails, and a
 -- question's number is below 100.
-use mathlib.Core.Path.{_≡_, refl, ap, sym, _∙_}
+use mathlib.Core.Path.{_≡_, refl, ap, sym, _∙_, subst⁻¹}
 use mathlib.Core.Bool.{Bool, true, false, cond}
 use mathlib.Core.List.{List, [], _∷_}
 use mathlib.Core.Logic.{_⊎_, inl, inr}
@@ -15,7 +15,7 @@ use Rattle.optimum.specs.declared.Optimum.the-variants.{Takings}
 use Rattle.optimum.specs.declared.Verdict.the-variants.{Accepted}
 use Rattle.optimum.specs.Optimum.{failed, fits, most-of, allotment-takings, number, answer-of, search-answer}
 use Rattle.optimum.specs.Optimum.{takings-questions, takings-answer, verdict-of, checked, Best-allotment}
-use Rattle.optimum.proofs.Greatest.{accepted-is-best, search-accepted, search-taken, tells}
+use Rattle.optimum.proofs.Greatest.{accepted-is-best, search-accepted, search-taken, number-found, tells}
 use Rattle.encoding.specs.Encoding.{no-head, no-fit, is-head}
 use Rattle.wezghuli.specs.Library.{lent-state}
 use Rattle.wezghuli.specs.Search.{search-status, Search-leaves, verdict-status, check-status}
@@ -34,14 +34,6 @@ unfolding failed
 failed-small s views a u v =
     low-small (then 1 (omega arith) (then 19 (omega arith) (then 13 (omega arith) (then 18 (omega arith) none))))
 
-number-small : (q t : ℕ) → q < 100 → number (answer-of q t) < 100
-number-small zero t p = p
-number-small (suc q) t p = p
-
-number-is : (q t : ℕ) → number (answer-of q t) ≡ q
-number-is zero t = refl
-number-is (suc q) t = refl
-
 verdict-is : (q : ℕ) (b : Bool) → verdict-status (verdict-of q b) ≡ cond (eqb q 0) (cond b 0 no-fit) q
 verdict-is zero true = refl
 verdict-is zero false = refl
@@ -53,12 +45,6 @@ verdict-small zero true p = inr p
 verdict-small zero false p = inl refl
 verdict-small (suc q) b p = inr p
 
-taken-small : (s : Day) (a : List ℕ) → number (takings-answer s a) < 100
-unfolding takings-answer
-taken-small s a =
-    number-small (first-failed (takings-questions s a)) (allotment-takings s (length a) a)
-    (low-small (then 1 (omega arith) (then 19 (omega arith) none)))
-
 -- a verdict of status 0
 was-accepted : (q : ℕ) (b : Bool) → verdict-status (verdict-of q b) ≡ 0 → verdict-of q b ≡ Accepted
 was-accepted zero true e = refl
@@ -69,13 +55,13 @@ module _ (h t n views a u v : List ℕ) where
   s : Day
   s = lent-state h t n
 
-  pub search-refusal : is-head h ≡ true → search-status h t n views a u v < 100
-  unfolding search-status s
-  search-refusal e = rw e (number-small (failed s views a u v) (most-of s views) (failed-small s views a u v))
-
   pub search-told : is-head h ≡ true → search-status h t n views a u v ≡ failed (lent-state h t n) views a u v
   unfolding search-status s
-  search-told e = rw e (number-is (failed s views a u v) (most-of s views))
+  search-told e = rw e (tells s views a u v .search-number)
+
+  pub search-refusal : is-head h ≡ true → search-status h t n views a u v < 100
+  unfolding s
+  search-refusal e = subst⁻¹ (λ (q : ℕ). q < 100) (search-told e) (failed-small s views a u v)
 
   pub check-told : is-head h ≡ true → let s = lent-state h t n in check-status h t n views a u v
       ≡ cond (eqb (failed s views a u v) 0) (cond (fits s views a u v) 0 no-fit) (failed s views a u v)
@@ -121,12 +107,14 @@ module _ (h t n views a a' u u' v v' : List ℕ) (e : search-status h t n views 
       ∙ ap (λ (q : ℕ). answer-of q (most-of s views)) (w .1) in
       (rw (w .0, x), rw (w .0, x))
 
-pub takings-refusal : (h t n a : List ℕ) → is-head h ≡ true → takings-status h t n a < 100
-takings-refusal h t n a e = rw e (taken-small (lent-state h t n) a)
-
 pub takings-told : (h t n a : List ℕ) → is-head h ≡ true
     → takings-status h t n a ≡ first-failed (takings-questions (lent-state h t n) a)
 unfolding takings-answer
 takings-told h t n a e =
     let s = lent-state h t n in
-    rw e (number-is (first-failed (takings-questions s a)) (allotment-takings s (length a) a))
+    rw e (number-found (first-failed (takings-questions s a)) (allotment-takings s (length a) a))
+
+pub takings-refusal : (h t n a : List ℕ) → is-head h ≡ true → takings-status h t n a < 100
+takings-refusal h t n a e =
+    subst⁻¹ (λ (q : ℕ). q < 100) (takings-told h t n a e)
+    (low-small (then 1 (omega arith) (then 19 (omega arith) none)))

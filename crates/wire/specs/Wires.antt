@@ -4,6 +4,7 @@
 use mathlib.Core.Path.{_≡_}
 use mathlib.Core.Bool.{true, false}
 use mathlib.Core.List.{List, [], _∷_, _++_}
+use mathlib.Core.Logic.{_↔_}
 use Prim.Native.Nat.{ℕ, _+_, _-_, _%_, _^_, _≤_, _<_}
 use lib.Dec.{eqb}
 use lib.ListN.{length, take}
@@ -20,6 +21,10 @@ new-wire = record { reads = 0; got = 0; told = 0; ended = false; failed = false;
 abbrev pub max-reads : ℕ
 max-reads = 2 ^ 64 - 1
 
+-- that number in figures
+abbrev pub Max-reads-is : Type 0
+Max-reads-is = max-reads ≡ 18_446_744_073_709_551_615
+
 -- One read that gave n bytes, after which the block is l, with them at its front, and the wire is v. Free are the bytes
 -- of l, and whether the read failed, being what C answered, but that a read that failed gave nothing.
 pub record Reads (w : Wire) (l : List ℕ) (n : ℕ) (v : Wire) : Type 0 where
@@ -30,6 +35,10 @@ pub record Reads (w : Wire) (l : List ℕ) (n : ℕ) (v : Wire) : Type 0 where
   pub ended-is : v .ended ≡ eqb n 0
   pub failed-ends : v .failed ≡ true → v .ended ≡ true
   pub sent-is : v .sent ≡ w .sent
+
+-- a read ends the input exactly if it gave nothing
+abbrev pub Empty-read-ends : Type 0
+Empty-read-ends = (w : Wire) (l : List ℕ) (n : ℕ) (v : Wire) → Reads w l n v → (v .ended ≡ true) ↔ (n ≡ 0)
 
 -- The bytes b told. Whether they went is what C answered: it is free, but that a failure before stays one.
 pub record Writes (w : Wire) (b : List ℕ) (v : Wire) : Type 0 where
