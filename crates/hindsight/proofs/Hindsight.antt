@@ -129,8 +129,7 @@ module _ (s : Day) (h : History) (r : Reached s h) where
         let covered : p * u ≤ full (h .plan) (day-takings h) = fl .struck to (t .allotted) in
         let rest : most-of s (own-views h) - g ≡ u = omega (arith, split t) in
         record {
-          parts = omega (arith, split t, t .takes-most);
-          part = omega (arith, split t);
+          parts = omega (arith, split t);
           less-short = subst⁻¹ (λ (x : ℕ). Covered h x) rest covered;
           as-sum = omega (arith, covered, ap (λ (x : ℕ). p * x) (split t));
         }

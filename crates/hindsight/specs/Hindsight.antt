@@ -29,10 +29,9 @@ pub record Takes-most (h : History) (s : Day) (to : ℕ → ℕ) : Type 0 where
   pub takes-most : takings-of h (price-of h) to ≡ most-of s (own-views h)
 
 -- the floor holds of the greatest figure less what the allotment gives to campaigns that fall short, also as a sum;
--- that and what it gives to the others are all its takings
+-- that and what it gives to the others are the greatest takings
 pub record Against-greatest (h : History) (s : Day) (to : ℕ → ℕ) : Type 0 where
-  pub parts : given-short h to + takings-of h (unstruck h) to ≡ takings-of h (price-of h) to
-  pub part : given-short h to ≤ most-of s (own-views h)
+  pub parts : given-short h to + takings-of h (unstruck h) to ≡ most-of s (own-views h)
   pub less-short : Covered h (most-of s (own-views h) - given-short h to)
   pub as-sum : share (h .plan .depth) (h .plan .width) * most-of s (own-views h) ≤
       full (h .plan) (day-takings h) + share (h .plan .depth) (h .plan .width) * given-short h to

@@ -8,3 +8,4 @@ pub mod Method
 pub mod Matching
 pub mod Best
 pub mod Examples
+pub mod Refusals

@@ -46,7 +46,7 @@ served {n} {c} {closed' = closed'} {views = views} {to' = to'} few l st sv = rec
         (⊎-elim (λ e. absurd (omega (arith, h .0, e))) (λ e. e .0) (st .entries j i), h .1)
 
 module _ {n : ℕ} {price : ℕ → ℕ} {views : List ℕ} where
-  planned : {whole : ℕ → ℕ} {to : List ℕ} {unserved : ℕ} → By-falling-price n price whole views to unserved
+  pub planned : {whole : ℕ → ℕ} {to : List ℕ} {unserved : ℕ} → By-falling-price n price whole views to unserved
       → (d : ℕ) → d < 64 → member unserved d ≡ true → d < n
   planned (start free all) d l m = ltb-true d n (sym (all d l) ∙ m)
   planned (serve {unserved = unserved} {c = c} by ch sv) d l m = planned by d l (was-in unserved c d l m)

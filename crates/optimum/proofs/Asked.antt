@@ -1,15 +1,17 @@
--- The first question of the search and of the check that fails, by cases, and what holds where none does.
-use mathlib.Core.Path.{_≡_, refl}
-use mathlib.Core.Bool.{Bool, true, false, _&&_}
-use mathlib.Core.Logic.{_⊎_, inl, inr}
+-- The questions of the search, of the check and of the takings, asked in request 4's words, and what holds where none
+-- fails.
+use mathlib.Core.Path.{_≡_, refl, ap, sym, _∙_, subst⁻¹}
+use mathlib.Core.Bool.{true, _&&_}
+use mathlib.Core.Logic.{_↔_, Iff·rfl}
 use mathlib.Core.List.{List}
-use Prim.Native.Nat.{ℕ, _≤_, _<_}
+use Prim.Native.Nat.{ℕ, zero, suc, _≤_, _<_}
 use native.Mathlib.Omega.{arith}
 use lib.Dec.{leb}
 use lib.ListN.{length}
-use borrow.Author.Tests.{leb-true, le-leb, lt-leb}
+use borrow.Author.Tests.{leb-true}
 use Rattle.finite.specs.Finite.{every}
-use Rattle.finite.proofs.Tests.{both-left, both-right, every-at, every-of, every-not}
+use Rattle.finite.proofs.Tests.{both-left, both-right, every-at}
+use Rattle.finite.proofs.Meanings.{leb-means, both-means, every-means}
 use Rattle.sets.specs.Set.{member, within}
 use Rattle.sets.proofs.Bounds.{within-of, within-member}
 use Rattle.audit.specs.declared.Audit.{Audit}
@@ -18,79 +20,58 @@ use Rattle.day.specs.declared.Day.{Day}
 use Rattle.day.specs.Day.{head-of, campaign, sound, audited}
 use Rattle.day.proofs.Questions.{none-fails}
 use Rattle.day.proofs.State.{sound-facts, held-at}
-use Rattle.questions.specs.Questions.{first-failed}
+use Rattle.questions.specs.Questions.{first-failed, asks, accepts}
+use Rattle.questions.proofs.Asks.{asking, accepting}
 use Rattle.allotments.specs.Limits.{max-handed-in}
 use Rattle.allotments.specs.Allotment.{at, takings}
 use Rattle.allotments.specs.Contracts.{Enough-lent}
-use Rattle.optimum.specs.Optimum.{plan-price, questions, failed, Taken, Always-asks}
-use Rattle.optimum.specs.Optimum.{takings-answer, Always-tells-takings}
+use Rattle.optimum.specs.Optimum.{plan-price, questions, failed, Search-asks, allotment-takings, number}
+use Rattle.optimum.specs.Optimum.{answer-of, takings-questions, takings-answer, Takings-asks}
 
 -- the audit tells question 1
 pub sound-told : (s : Day) (a : Audit) → a ≡ audited s → a .sound ≡ sound s
 unfolding audited sound
 sound-told s a e = audit-sound (head-of s) (campaign s) a e
 
--- a name outside the plan fails question 13, and views without one pass it
-not-within : (n set i : ℕ) → i < 64 → member set i ≡ true → n ≤ i → within n set ≡ false
-not-within n set i l m o = go (within n set) refl
-  where
-    go : (b : Bool) → within n set ≡ b → b ≡ false
-    go true e = absurd (omega (arith, within-member n set i e l m))
-    go false e = refl
+-- views pass question 13 exactly if each name in them is in the plan
+inside-means : (s : Day) (views : List ℕ)
+    → (every (length views) (λ j. within (s .count) (at views j)) ≡ true)
+    ↔ ((j : ℕ) → j < length views → (i : ℕ) → i < 64 → member (at views j) i ≡ true → i < s .count)
+inside-means s views =
+    every-means (length views) (λ j. within (s .count) (at views j))
+    (λ j. (i : ℕ) → i < 64 → member (at views j) i ≡ true → i < s .count)
+    (λ j l. (λ e i. within-member (s .count) (at views j) i e, within-of (s .count) (at views j)))
 
-all-inside : (s : Day) (views : List ℕ) → Taken s views
-    → every (length views) (λ j. within (s .count) (at views j)) ≡ true
-all-inside s views t = every-of (length views) (λ j. within (s .count) (at views j))
-    (λ j l. within-of (s .count) (at views j) (t .inside j l))
+pub search-asks : Search-asks
+unfolding failed
+search-asks s views allotment surplus worth =
+    let m = length views in
+    asking 1 Iff·rfl
+    (asking 19 (leb-means m 256)
+    (asking 13 (inside-means s views)
+    (asking 18
+    (both-means (both-means (leb-means m (length allotment)) (leb-means (s .count) (length surplus)))
+    (leb-means m (length worth)))
+    accepting))) .is
 
--- of three tests one fails
-one-not : (a b c : Bool) → (a ≡ false) ⊎ ((b ≡ false) ⊎ (c ≡ false)) → (a && b && c) ≡ false
-one-not false b c e = refl
-one-not true false c e = refl
-one-not true true false e = refl
-one-not true true true (inl e) = e
-one-not true true true (inr (inl e)) = e
-one-not true true true (inr (inr e)) = e
+-- the number of an answer is that of the question that failed, and 0 where none did
+pub number-found : (q t : ℕ) → number (answer-of q t) ≡ q
+number-found zero t = refl
+number-found (suc q) t = refl
 
-pub asks : Always-asks
-unfolding failed first-failed
-asks s views allotment surplus worth = record {
-  not-sound = λ n. rw n;
-  too-many = λ y l. rw (y, lt-leb m 256 l);
-  outside = λ y f j l i k n o. rw (
-    y,
-    le-leb m 256 f,
-    every-not m (λ j. within (s .count) (at views j)) j l (not-within (s .count) (at views j) i k n o),
-  );
-  too-few = λ t e. rw (t .is-sound, le-leb m 256 (t .few), all-inside s views t, one-not _ _ _ (short e));
-  none = λ t a c v. rw (
-    t .is-sound,
-    le-leb m 256 (t .few),
-    all-inside s views t,
-    le-leb m (length allotment) a,
-    le-leb (s .count) (length surplus) c,
-    le-leb m (length worth) v,
-  );
-}
-  where
-    m : ℕ
-    m = length views
+pub takings-asks : Takings-asks
+unfolding takings-answer takings
+takings-asks s allotment =
+    let m = length allotment in
+    let q = first-failed (takings-questions s allotment) in
+    let told = number-found q (allotment-takings s m allotment) in
+    record {
+      asked = subst⁻¹ (asks 1 (sound s ≡ true) (asks 19 (m ≤ 256) accepts)) told
+          (asking 1 Iff·rfl (asking 19 (leb-means m 256) accepting) .is);
+      answered = λ z. ap (λ (n : ℕ). answer-of n (allotment-takings s m allotment)) (sym told ∙ z);
+    }
 
-    short : (length allotment < m) ⊎ ((length surplus < s .count) ⊎ (length worth < m))
-        → (leb m (length allotment) ≡ false)
-        ⊎ ((leb (s .count) (length surplus) ≡ false) ⊎ (leb m (length worth) ≡ false))
-    short (inl l) = inl (lt-leb m (length allotment) l)
-    short (inr (inl l)) = inr (inl (lt-leb (s .count) (length surplus) l))
-    short (inr (inr l)) = inr (inr (lt-leb m (length worth) l))
-
-pub tells-takings : Always-tells-takings
-unfolding takings-answer takings first-failed
-tells-takings s allotment = record {
-  not-sound = λ n. rw n;
-  too-many = λ y l. rw (y, lt-leb (length allotment) 256 l);
-  taken = λ y l. rw (y, le-leb (length allotment) 256 l);
-}
-
+-- what holds where none fails
 pub record Granted (s : Day) (views allotment surplus worth : List ℕ) : Type 0 where
   pub none : failed s views allotment surplus worth ≡ 0
   pub is-sound : sound s ≡ true

@@ -19,19 +19,19 @@ use Rattle.questions.specs.Questions.{first-failed}
 use Rattle.optimum.specs.declared.Verdict.{Verdict}
 use Rattle.optimum.specs.declared.Verdict.the-variants as verdict
 use Rattle.optimum.specs.Optimum.{plan-price, plan-whole, questions, failed, Fits, fits, most-of}
-use Rattle.optimum.specs.Optimum.{allotment-takings, number, values, answer-of, takings-questions, takings-answer}
+use Rattle.optimum.specs.Optimum.{allotment-takings, values, answer-of, takings-questions, takings-answer}
 use Rattle.optimum.specs.Optimum.{verdict-of, Accepts-exactly, Accepted-is-best, Search-accepted, Search-taken}
 use Rattle.optimum.specs.Optimum.{verdict-number, verdict-values, Always-tells}
-use Rattle.optimum.proofs.Asked.{Granted, granted, few-campaigns}
+use Rattle.optimum.proofs.Asked.{Granted, granted, few-campaigns, number-found}
 
 -- an accepting answer: no question failed and the test passed
-accepting : (q : ℕ) (b : Bool) → verdict-of q b ≡ verdict.Accepted → (q ≡ 0) × (b ≡ true)
-accepting zero true e = (refl, refl)
-accepting zero false e = (refl, cc e)
-accepting (suc q) b e = (cc e, cc e)
+from-accepted : (q : ℕ) (b : Bool) → verdict-of q b ≡ verdict.Accepted → (q ≡ 0) × (b ≡ true)
+from-accepted zero true e = (refl, refl)
+from-accepted zero false e = (refl, cc e)
+from-accepted (suc q) b e = (cc e, cc e)
 
-accepts : (q : ℕ) (b : Bool) → q ≡ 0 → b ≡ true → verdict-of q b ≡ verdict.Accepted
-accepts q b z t = ap₂ verdict-of z t
+to-accepted : (q : ℕ) (b : Bool) → q ≡ 0 → b ≡ true → verdict-of q b ≡ verdict.Accepted
+to-accepted q b z t = ap₂ verdict-of z t
 
 module _ (s : Day) (views allotment surplus worth : List ℕ) where
   fits-of : fits s views allotment surplus worth ≡ true → Fits s views allotment surplus worth
@@ -49,9 +49,9 @@ accepts-exactly s views allotment surplus worth =
     let q = failed s views allotment surplus worth in
     let b = fits s views allotment surplus worth in (
       λ e.
-          let p = accepting q b e in
+          let p = from-accepted q b e in
           (p .0, fits-of s views allotment surplus worth (p .1)),
-      λ f. accepts q b (f .0) (of-fits s views allotment surplus worth (f .1)),
+      λ f. to-accepted q b (f .0) (of-fits s views allotment surplus worth (f .1)),
     )
 
 pub accepted-is-best : Accepted-is-best
@@ -70,7 +70,7 @@ accepted-is-best s views allotment surplus worth e =
 pub search-accepted : Search-accepted
 unfolding failed
 search-accepted s views allotment allotment' surplus surplus' worth worth' r answer-of z =
-    accepts (first-failed (questions s views (length allotment') (length surplus') (length worth')))
+    to-accepted (first-failed (questions s views (length allotment') (length surplus') (length worth')))
     (fits s views allotment' surplus' worth')
     (rw (answer-of .in-allotment .same-length, answer-of .in-surplus .same-length, answer-of .in-worth .same-length) z)
     (answer-of .fit z)
@@ -104,10 +104,6 @@ search-taken s views allotment allotment' surplus surplus' worth worth' r found'
     ∙ sym (found' .answer ∙ ap (λ (q : ℕ). answer-of q (most-of s views)) z)
 
 -- the numbers and the values of the answers
-pub number-found : (q t : ℕ) → number (answer-of q t) ≡ q
-number-found zero t = refl
-number-found (suc q) t = refl
-
 number-told : (q : ℕ) (b : Bool) → verdict-number (verdict-of q b) ≡ q
 number-told zero true = refl
 number-told zero false = refl

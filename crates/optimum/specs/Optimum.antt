@@ -3,7 +3,7 @@
 use mathlib.Core.Path.{_≡_}
 use mathlib.Core.Bool.{Bool, true, false, _&&_}
 use mathlib.Core.List.{List, [], _∷_}
-use mathlib.Core.Logic.{_⊎_, _↔_}
+use mathlib.Core.Logic.{_↔_}
 use Prim.Native.Nat.{ℕ, zero, suc, _≤_, _<_}
 use lib.Dec.{leb}
 use lib.ListN.{length, take}
@@ -12,7 +12,7 @@ use Rattle.sets.specs.Set.{member, within}
 use Rattle.campaigns.specs.Campaign.{whole}
 use Rattle.day.specs.declared.Day.{Day}
 use Rattle.day.specs.Day.{campaign, sound}
-use Rattle.questions.specs.Questions.{Question, question, first-failed}
+use Rattle.questions.specs.Questions.{Question, question, first-failed, asks, accepts}
 use Rattle.allotments.specs.Limits.{max-handed-in}
 use Rattle.allotments.specs.Allotment.{at, Allotment, brings, takings, Greatest, Certified, certified}
 use Rattle.allotments.specs.Most.{most}
@@ -41,28 +41,14 @@ unfoldable pub failed : Day → (views allotment surplus worth : List ℕ) → �
 failed s views allotment surplus worth =
     first-failed (questions s views (length allotment) (length surplus) (length worth))
 
--- the same in request 4's words. Only 18 is left to ask: the state is sound, the views are few, and each name in them
--- is in the plan
-pub record Taken (s : Day) (views : List ℕ) : Type 0 where
-  pub is-sound : sound s ≡ true
-  pub few : length views ≤ 256
-  pub inside : (j : ℕ) → j < length views → (i : ℕ) → i < 64 → member (at views j) i ≡ true → i < s .count
-
--- whatever the phase, q is 1 for a state that is not sound; else 19 for more than 256 views; else 13 for a view that
--- names a campaign outside the plan; else 18 for fewer entries than views or campaigns; else 0
-pub record Asks (s : Day) (views : List ℕ) (for-allotment for-campaigns for-views q : ℕ) : Type 0 where
-  pub not-sound : sound s ≡ false → q ≡ 1
-  pub too-many : sound s ≡ true → 256 < length views → q ≡ 19
-  pub outside : sound s ≡ true → length views ≤ 256 → (j : ℕ) → j < length views → (i : ℕ) → i < 64
-      → member (at views j) i ≡ true → s .count ≤ i → q ≡ 13
-  pub too-few : Taken s views
-      → (for-allotment < length views) ⊎ ((for-campaigns < s .count) ⊎ (for-views < length views)) → q ≡ 18
-  pub none : Taken s views
-      → length views ≤ for-allotment → s .count ≤ for-campaigns → length views ≤ for-views → q ≡ 0
-
-abbrev pub Always-asks : Type 0
-Always-asks = (s : Day) (views allotment surplus worth : List ℕ)
-    → Asks s views (length allotment) (length surplus) (length worth) (failed s views allotment surplus worth)
+-- the same in request 4's words, whatever the phase: 1, then 19, then 13, then 18
+abbrev pub Search-asks : Type 0
+Search-asks = (s : Day) (views allotment surplus worth : List ℕ)
+    → asks 1 (sound s ≡ true)
+    (asks 19 (length views ≤ 256)
+    (asks 13 ((j : ℕ) → j < length views → (i : ℕ) → i < 64 → member (at views j) i ≡ true → i < s .count)
+    (asks 18 (((length views ≤ length allotment) × (s .count ≤ length surplus)) × (length views ≤ length worth))
+    accepts))) (failed s views allotment surplus worth)
 
 -- an allotment with figures that fit it: `surplus` has the campaign figures and `worth` the view figures
 abbrev pub Fits : Day → (views allotment surplus worth : List ℕ) → Type 0
@@ -125,15 +111,14 @@ unfoldable pub takings-answer : Day → (allotment : List ℕ) → Optimum
 takings-answer s allotment =
     answer-of (first-failed (takings-questions s allotment)) (allotment-takings s (length allotment) allotment)
 
--- in such words: each entry that names a campaign brings its price, also beyond its whole plays
+-- in request 4's words: 1, then 19; else each entry that names a campaign brings its price, also beyond its whole plays
 pub record Tells-takings (s : Day) (allotment : List ℕ) (r : Optimum) : Type 0 where
-  pub not-sound : sound s ≡ false → r ≡ optimum.Refused 1
-  pub too-many : sound s ≡ true → 256 < length allotment → r ≡ optimum.Refused 19
-  pub taken : sound s ≡ true → length allotment ≤ 256
+  pub asked : asks 1 (sound s ≡ true) (asks 19 (length allotment ≤ 256) accepts) (number r)
+  pub answered : number r ≡ 0
       → r ≡ optimum.Takings (sum (length allotment) (λ j. brings (s .count) (plan-price s) (at allotment j)))
 
-abbrev pub Always-tells-takings : Type 0
-Always-tells-takings = (s : Day) (allotment : List ℕ) → Tells-takings s allotment (takings-answer s allotment)
+abbrev pub Takings-asks : Type 0
+Takings-asks = (s : Day) (allotment : List ℕ) → Tells-takings s allotment (takings-answer s allotment)
 
 -- the check's answer: its number, as above, and its values, 1 where it accepts
 abbrev pub verdict-number : Verdict → ℕ

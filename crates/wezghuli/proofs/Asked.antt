@@ -15,7 +15,8 @@ use Rattle.optimum.specs.declared.Optimum.the-variants.{Takings}
 use Rattle.optimum.specs.declared.Verdict.the-variants.{Accepted}
 use Rattle.optimum.specs.Optimum.{failed, fits, most-of, allotment-takings, number, answer-of, search-answer}
 use Rattle.optimum.specs.Optimum.{takings-questions, takings-answer, verdict-of, checked, Best-allotment}
-use Rattle.optimum.proofs.Greatest.{accepted-is-best, search-accepted, search-taken, number-found, tells}
+use Rattle.optimum.proofs.Asked.{number-found}
+use Rattle.optimum.proofs.Greatest.{accepted-is-best, search-accepted, search-taken, tells}
 use Rattle.encoding.specs.Encoding.{no-head, no-fit, is-head}
 use Rattle.wezghuli.specs.Library.{lent-state}
 use Rattle.wezghuli.specs.Search.{search-status, Search-leaves, verdict-status, check-status}

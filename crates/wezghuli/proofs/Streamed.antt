@@ -11,7 +11,8 @@ use borrow.Author.Tests.{eq-eqb, ne-eqb, le-leb, leb-true}
 use Rattle.campaigns.specs.declared.Head.{Head}
 use Rattle.day.specs.Day as states
 use Rattle.lines.specs.Limits.{line-buffer}
-use Rattle.reply.specs.Session.{Session, reply-room, longer, ended, after-byte, fed, consumed-count}
+use Rattle.reply.specs.Session.{Session, reply-room, fed, consumed-count}
+use Rattle.reply.proofs.Sessions.{fed-short}
 use Rattle.stream.specs.declared.feed.Fed.{Fed}
 use Rattle.stream.specs.declared.feed.Moved.{Moved}
 use Rattle.stream.specs.declared.feed.Stream.{Stream}
@@ -44,19 +45,6 @@ stream-taken m e k r =
     rw (e, le-leb (getD (m .words) 0 0) line-buffer k, le-leb reply-room (length (m .out)) r)
 
 -- What a block and the end of input leave is a stream again.
-byte-short : (x : Session) (b : ℕ) → length (after-byte x b .pending) ≤ line-buffer
-unfolding after-byte
-byte-short x b = go (eqb b 10)
-  where
-    go : (t : Bool) → length (cond t (ended x) (longer x (b ∷ [])) .pending) ≤ line-buffer
-    go true = omega arith
-    go false = omega (arith, length-take line-buffer (x .pending ++ (b ∷ [])))
-
-fed-short : (x : Session) (l : List ℕ) → length (x .pending) ≤ line-buffer → length (fed x l .pending) ≤ line-buffer
-unfolding fed
-fed-short x [] h = h
-fed-short x (b ∷ l) h = fed-short (after-byte x b) l (byte-short x b)
-
 come-stays : (y : Session) (n : ℕ) (d : List ℕ) → length (y .pending) ≤ line-buffer → reply-room ≤ length d
     → status-in (come-to y n d) ≡ 0
 come-stays y n d h r =
