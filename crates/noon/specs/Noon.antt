@@ -1,6 +1,7 @@
 -- The figures that an owner can compare at noon, or at any other moment of a day (document 02, request 1).
 use mathlib.Core.Path.{_≡_}
 use mathlib.Core.List.{List, [], _∷_}
+use mathlib.Core.Logic.{_↔_}
 use Prim.Native.Nat.{ℕ, zero, suc, _*_, _/_, _≤_, min}
 use Rattle.finite.specs.Finite.{sum}
 use Rattle.powers.specs.Power.{share}
@@ -19,9 +20,7 @@ due-plays k w n = min w (n / k)
 
 -- that is the most plays that the whole plays allow and for each of which the campaign was named depth times
 abbrev pub Due-is-most : Type 0
-Due-is-most =
-    (k w n m : ℕ) → 1 ≤ k
-    → (m ≤ due-plays k w n → (m ≤ w) × (m * k ≤ n)) × ((m ≤ w) × (m * k ≤ n) → m ≤ due-plays k w n)
+Due-is-most = (k w n m : ℕ) → 1 ≤ k → (m ≤ due-plays k w n) ↔ ((m ≤ w) × (m * k ≤ n))
 
 -- what is due to a campaign at depth k, by its record
 unfoldable pub due : (k : ℕ) → Campaign → ℕ
