@@ -7,7 +7,8 @@ use Rattle.campaigns.specs.declared.Campaign.{Campaign}
 use Rattle.campaigns.specs.Campaign.{fresh, uncounted, empty}
 
 -- a campaign whose counts are zero is as one that is added
-pub uncounted-means : (c : Campaign) → (uncounted c ≡ true) ↔ (c ≡ fresh (record { price = c .price; budget = c .budget }))
+pub uncounted-means : (c : Campaign)
+    → (uncounted c ≡ true) ↔ (c ≡ fresh (record { price = c .price; budget = c .budget }))
 unfolding uncounted
 uncounted-means c =
     let zeros = both-means

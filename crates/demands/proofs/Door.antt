@@ -28,7 +28,8 @@ found-size : (s : Day) (set : ℕ) → size (without set (s .paused)) ≡ unpaus
 unfolding size count
 found-size s set = sum-eq 64 _ _ (λ i l. ap one-if (without-member set (s .paused) i l))
 
-unpaused-means : (s : Day) (w : View) → (width-holds (head-of s) (found s w) ≡ true) ↔ (unpaused s (w .set) ≤ s .plan .width)
+unpaused-means : (s : Day) (w : View)
+    → (width-holds (head-of s) (found s w) ≡ true) ↔ (unpaused s (w .set) ≤ s .plan .width)
 unfolding width-holds
 unpaused-means s w =
     let n = size (without (w .set) (s .paused)) in

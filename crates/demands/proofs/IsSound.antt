@@ -1,5 +1,5 @@
--- The tests of soundness pass exactly if the state is sound by the sentences of `specs/Door`, clause by clause: what the
--- tests give is `Sound`, what gives them `Whole`.
+-- The tests of soundness pass exactly if the state is sound by the sentences of `specs/Door`, clause by clause: what
+-- the tests give is `Sound`, what gives them `Whole`.
 use mathlib.Core.Path.{_≡_, refl, sym, ap, _∙_, subst}
 use mathlib.Core.Bool.{true, false, not, _&&_, _||_, or-true, or-false}
 use mathlib.Core.Logic.{_↔_}

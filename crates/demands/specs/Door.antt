@@ -1,6 +1,6 @@
--- "Sound" and "Questions at the door" once more, as propositions with the documents' own numbers: what a sound state is,
--- when a call is accepted, and the number that it gets where it is not. It takes nothing from the tests that the code is
--- proved against.
+-- "Sound" and "Questions at the door" once more, as propositions with the documents' own numbers: what a sound state
+-- is, when a call is accepted, and the number that it gets where it is not. It takes nothing from the tests that the
+-- code is proved against.
 use mathlib.Core.Path.{_≡_}
 use mathlib.Core.Bool.{true, not, _&&_}
 use mathlib.Core.Logic.{_↔_}

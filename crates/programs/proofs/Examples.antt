@@ -177,7 +177,8 @@ any-blocks bs i d room =
       back = handed-back z 0;
       finishes = h;
       writes =
-          any-chunking new-stream (in-one bs) fs t d (answered-in z d) (handed-back z 0) some h plain-nil (omega arith) i;
+          any-chunking new-stream (in-one bs) fs t d (answered-in z d) (handed-back z 0) some h plain-nil
+          (omega arith) i;
     }
 
 -- The day.
