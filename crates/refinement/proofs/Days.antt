@@ -122,7 +122,8 @@ module _
       bid-is = λ i l. ap (λ (c : Campaign). c .price) (sym (same i l));
       copies-are = λ i l. buys (terms-of h i) ∙ ap whole (sym (same i l));
       counts-are = λ i l.
-          subst⁻¹ (Represents (instance-of B h) 0 line-1 i) (same i l) (counts-fresh i (omega (arith, r .tracks .many)));
+          subst⁻¹ (Represents (instance-of B h) 0 line-1 i) (same i l)
+          (counts-fresh i (omega (arith, r .tracks .many)));
       unmatched = λ i j l q. refl;
     }
       where
