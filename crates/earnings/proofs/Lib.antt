@@ -1,3 +1,4 @@
 pub mod Divisors
 pub mod Told
 pub mod Numbers
+pub mod Examples

@@ -17,6 +17,12 @@ counted-on n l = (n + length l) % 2 ^ 64
 abbrev pub new-wire : Wire
 new-wire = record { reads = 0; got = 0; told = 0; ended = false; failed = false; sent = true }
 
+-- nothing was read or told yet, and nothing ended or failed
+abbrev pub New-wire-is : Type 0
+New-wire-is =
+    (new-wire .reads ≡ 0) × (new-wire .got ≡ 0) × (new-wire .told ≡ 0)
+    × (new-wire .ended ≡ false) × (new-wire .failed ≡ false) × (new-wire .sent ≡ true)
+
 -- the reads that a program can make: its loop counts them, and no run comes near
 abbrev pub max-reads : ℕ
 max-reads = 2 ^ 64 - 1
@@ -25,8 +31,8 @@ max-reads = 2 ^ 64 - 1
 abbrev pub Max-reads-is : Type 0
 Max-reads-is = max-reads ≡ 18_446_744_073_709_551_615
 
--- One read that gave n bytes, after which the block is l, with them at its front, and the wire is v. Free are the bytes
--- of l, and whether the read failed, being what C answered, but that a read that failed gave nothing.
+-- One read that gave n bytes, after which the block is l, with them at its front, and the wire is v. Free are n, the
+-- bytes of l, and whether the read failed, being what C answered, but that a read that failed gave nothing.
 pub record Reads (w : Wire) (l : List ℕ) (n : ℕ) (v : Wire) : Type 0 where
   pub inside : n ≤ length l
   pub reads-is : v .reads ≡ (w .reads + 1) % 2 ^ 64
