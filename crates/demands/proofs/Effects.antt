@@ -29,7 +29,7 @@ use Rattle.day.specs.Calls.Call.{open-plan, add-campaign, start-day, show-view,
 use Rattle.day.proofs.Questions.{Yes, call-elim}
 use Rattle.day.proofs.State.{Sound, sound-facts, held-at, filling-is, running-is, campaign-of-state}
 use Rattle.demands.specs.Choice.{Right}
-use Rattle.demands.specs.Effects.{Named, Pays, Rule-1, counting, Rules-2-to-4, Does, Always-does}
+use Rattle.demands.specs.Effects.{Named, Pays, Rule-1, counting, Rules-2-to-4, Does, Always-does, Code-calls}
 use Rattle.demands.proofs.Choice.{player-right}
 use Rattle.demands.proofs.Marks.{marks-one}
 use Rattle.demands.proofs.States.{with-campaign-old, with-campaign-new}
@@ -169,3 +169,20 @@ pub always-does : Always-does
 always-does s c e =
     call-elim (λ (o : Outcome). number (o .answer) ≡ 0 → Does c s (o .answer) (o .day)) s c
     (λ q z. absurd (omega (arith, z))) (λ y z. does s c y) e
+
+-- the calls as the code names them
+pub code-calls : Code-calls
+code-calls = record {
+  opens = λ pl. refl;
+  adds = λ t. refl;
+  starts = refl;
+  shows = λ w. refl;
+  tallies = λ i. refl;
+  closes = refl;
+  pauses = λ i. refl;
+  resumes = λ i. refl;
+  head-back = λ r t n. refl;
+  terms-back = λ r t n. refl;
+  counts-back = λ r t n. refl;
+  answer-back = λ r t n. refl;
+}

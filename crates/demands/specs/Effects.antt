@@ -2,6 +2,7 @@
 -- changes; all else stays. Like `Door`, it takes nothing from the rules that the code is proved against.
 use mathlib.Core.Path.{_≡_}
 use mathlib.Core.Bool.{true, false, cond}
+use mathlib.Core.List.{List}
 use mathlib.Core.Logic.{_⊎_}
 use Prim.Native.Nat.{ℕ, _+_, _*_, _≤_, _<_}
 use lib.Dec.{eqb}
@@ -11,11 +12,15 @@ use Rattle.campaigns.specs.declared.Head.{Head}
 use Rattle.campaigns.specs.declared.Phase.{Phase}
 use Rattle.campaigns.specs.declared.Phase.the-variants.{Filling, Running, Closed}
 use Rattle.campaigns.specs.declared.Plan.{Plan}
+use Rattle.campaigns.specs.declared.Terms.{Terms}
 use Rattle.campaigns.specs.declared.View.{View}
 use Rattle.day.specs.declared.Answer.{Answer}
 use Rattle.day.specs.declared.Answer.the-variants.{Done, Played, Nobody, Tallied, Closing}
+use Rattle.day.specs.declared.Call.the-variants.{Open, Add, Start, Show, Tally, Close, Pause, Resume}
 use Rattle.day.specs.declared.Day.{Day}
+use Rattle.day.specs.declared.Step.{Step}
 use Rattle.day.specs.Day.{head-of, campaign}
+use Rattle.day.specs.InPlace.{asked, outcome-of}
 use Rattle.day.specs.Calls.{number, Call, call}
 use Rattle.day.specs.Calls.Call.{open-plan, add-campaign, start-day, show-view, ask-tally, close-day, mark-campaign}
 use Rattle.demands.specs.Door.{takings, full, W, total-claim, new-campaign}
@@ -105,3 +110,19 @@ Does (mark-campaign b i) s a t =
 -- of every call that is accepted
 abbrev pub Always-does : Type 0
 Always-does = (s : Day) (c : Call) → number (call s c .answer) ≡ 0 → Does c s (call s c .answer) (call s c .day)
+
+-- The calls as the code names them, each the call of its name; and what an operation in place hands back is the state of
+-- its head and of the two arrays, with its answer.
+pub record Code-calls : Type 0 where
+  pub opens : (pl : Plan) → asked (Open pl) ≡ open-plan pl
+  pub adds : (terms : Terms) → asked (Add terms) ≡ add-campaign terms
+  pub starts : asked Start ≡ start-day
+  pub shows : (w : View) → asked (Show w) ≡ show-view w
+  pub tallies : (i : ℕ) → asked (Tally i) ≡ ask-tally i
+  pub closes : asked Close ≡ close-day
+  pub pauses : (i : ℕ) → asked (Pause i) ≡ mark-campaign true i
+  pub resumes : (i : ℕ) → asked (Resume i) ≡ mark-campaign false i
+  pub head-back : (r : Step) (terms counts : List ℕ) → head-of (outcome-of r terms counts .day) ≡ r .head
+  pub terms-back : (r : Step) (terms counts : List ℕ) → outcome-of r terms counts .day .terms ≡ terms
+  pub counts-back : (r : Step) (terms counts : List ℕ) → outcome-of r terms counts .day .counts ≡ counts
+  pub answer-back : (r : Step) (terms counts : List ℕ) → outcome-of r terms counts .answer ≡ r .answer
