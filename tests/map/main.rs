@@ -1,4 +1,5 @@
-//! The paths and names that the documents give, looked up in the sources, and the counts of docs/TRUST.md.
+//! The paths and names that the documents give, looked up in the sources, and the counts of docs/TRUST.md, whose rows
+//! of the demands list every file that is imported.
 //!
 //! - A path in backticks leads to a file or folder. `CRATE/specs/File` stands for `crates/CRATE/specs/File.antt`;
 //!   behind a path of a crate, `File` is another of its files; a crate's own page leaves the crate out.
@@ -106,6 +107,17 @@ fn counted(row: &str, files: &[PathBuf], sum: &mut usize, found: &mut Findings) 
     found.add(due == said && complete, || format!("{said} lines are said, and there are {due}"));
 }
 
+/// A row of docs/TRUST.md that ends in `N: files`: they are N, and what one of them imports is another.
+fn closed(row: &str, files: &[PathBuf], found: &mut Findings) {
+    let said = row.rsplit("| ").next().and_then(|cell| cell.split_once(": `")).map(|(said, _)| said.parse::<usize>());
+    let Some(Ok(said)) = said else { return };
+    let files: Vec<&PathBuf> = files.iter().filter(|file| file.is_file()).collect();
+    found.add(files.len() == said, || format!("{said} files are said, and {} are named", files.len()));
+    for import in files.iter().flat_map(|file| tree::imports(file)) {
+        found.add(files.contains(&&import), || format!("{} is imported and not named", import.display()));
+    }
+}
+
 /// Every line of a document that stands outside of fences.
 fn document(path: &Path, found: &mut Findings) {
     let text = fs::read_to_string(path).unwrap_or_default();
@@ -122,6 +134,7 @@ fn document(path: &Path, found: &mut Findings) {
             let files = found.line(row);
             if path.ends_with("docs/TRUST.md") {
                 counted(row, &files, &mut sum, found);
+                closed(row, &files, found);
             }
         }
     }

@@ -66,6 +66,18 @@ fn names_of(file: &Path) -> HashSet<String> {
     of_text.into_iter().map(str::to_string).chain(own).collect()
 }
 
+/// The files of definitions that a file imports, as `Rattle.CRATE.specs.File` or, of its own crate,
+/// `Rattle.CRATE.specs.File`; what the code declares has no file.
+pub fn imports(file: &Path) -> Vec<PathBuf> {
+    let text = fs::read_to_string(file).unwrap_or_default();
+    let imported = |line: &str| {
+        let (of_crate, path) = line.strip_prefix("use Rattle·")?.split_once(['·', '.'])?;
+        let name = words(path.trim_start_matches("specs.")).next()?;
+        at(&Path::new("crates").join(of_crate).join("specs").join(name))
+    };
+    text.lines().filter_map(imported).collect()
+}
+
 fn walk(folder: &Path, files: &mut Vec<PathBuf>) {
     for path in fs::read_dir(folder).into_iter().flatten().flatten().map(|entry| entry.path()) {
         match path.is_dir() {

@@ -1,10 +1,30 @@
--- What the tests of a campaign mean: zero counts, and all zero.
-use mathlib.Core.Path.{_≡_, ap, _∙_}
-use mathlib.Core.Bool.{true}
+-- What the tests of a phase mean, and those of a campaign: zero counts, and all zero.
+use mathlib.Core.Path.{_≡_, refl, ap, _∙_}
+use mathlib.Core.Bool.{true, false}
 use mathlib.Core.Logic.{_↔_}
+use Prim.Native.Nat.{ℕ}
+use Rattle.finite.proofs.Tests.{never}
 use Rattle.finite.proofs.Meanings.{eqb-means, both-means}
 use Rattle.campaigns.specs.declared.Campaign.{Campaign}
+use Rattle.campaigns.specs.declared.Phase.{Phase}
+use Rattle.campaigns.specs.declared.Phase.the-variants.{Filling, Running, Closed}
 use Rattle.campaigns.specs.Campaign.{fresh, uncounted, empty}
+use Rattle.campaigns.specs.Phase.{is-filling, is-running, is-closed}
+
+pub filling-means : (p : Phase) → (is-filling p ≡ true) ↔ (p ≡ Filling)
+filling-means Filling = (λ e. refl, λ e. refl)
+filling-means Running = (λ e. absurd (never false refl e), λ e. ap is-filling e)
+filling-means (Closed t) = (λ e. absurd (never false refl e), λ e. ap is-filling e)
+
+pub running-means : (p : Phase) → (is-running p ≡ true) ↔ (p ≡ Running)
+running-means Filling = (λ e. absurd (never false refl e), λ e. ap is-running e)
+running-means Running = (λ e. refl, λ e. refl)
+running-means (Closed t) = (λ e. absurd (never false refl e), λ e. ap is-running e)
+
+pub closed-means : (p : Phase) → (is-closed p ≡ true) ↔ ((t : ℕ) × (p ≡ Closed t))
+closed-means Filling = (λ e. absurd (never false refl e), λ x. ap is-closed (x .1))
+closed-means Running = (λ e. absurd (never false refl e), λ x. ap is-closed (x .1))
+closed-means (Closed t) = (λ e. (t, refl), λ x. refl)
 
 -- a campaign whose counts are zero is as one that is added
 pub uncounted-means : (c : Campaign)

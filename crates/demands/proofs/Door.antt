@@ -1,4 +1,4 @@
--- The questions of every call, asked as the sentences of `specs/Door`: each test is one of `Meanings`.
+-- The questions of every call, asked as the sentences of `specs/Door`: each test has its meaning.
 use mathlib.Core.Path.{_≡_, ap, subst, subst⁻¹}
 use mathlib.Core.Bool.{true}
 use mathlib.Core.Logic.{_↔_}
@@ -9,7 +9,9 @@ use Rattle.finite.proofs.Meanings.{leb-means, ltb-means}
 use Rattle.finite.proofs.Sums.{sum-eq}
 use Rattle.sets.specs.Set.{size, without}
 use Rattle.sets.proofs.Algebra.{without-member}
+use Rattle.sets.proofs.Bounds.{within-means}
 use Rattle.campaigns.specs.declared.View.{View}
+use Rattle.campaigns.proofs.Meanings.{filling-means, running-means, closed-means}
 use Rattle.questions.specs.Questions.{width-holds, asks}
 use Rattle.questions.proofs.Asks.{Numbered-by, asking, accepting}
 use Rattle.day.specs.declared.Day.{Day}
@@ -18,8 +20,7 @@ use Rattle.day.specs.Day as states
 use Rattle.day.specs.Calls.{Call, own-questions, found}
 use Rattle.day.specs.Calls.Call.{open-plan, add-campaign, start-day, show-view, ask-tally, close-day, mark-campaign}
 use Rattle.demands.specs.Door.{Is-sound, total-budgets, unpaused, own-door, Always-asks}
-use Rattle.demands.proofs.Meanings.{filling-means, running-means, closed-means, depth-means, width-means}
-use Rattle.demands.proofs.Meanings.{power-means, price-means, budget-means, within-means}
+use Rattle.demands.proofs.Meanings.{depth-means, width-means, power-means, price-means, budget-means}
 use Rattle.demands.proofs.IsSound.{sound-means}
 use Rattle.demands.proofs.Refusals.{call-number}
 
@@ -36,27 +37,27 @@ unpaused-means s w =
     subst (λ (m : ℕ). (leb n (s .plan .width) ≡ true) ↔ (m ≤ s .plan .width)) (found-size s (w .set))
     (leb-means n (s .plan .width))
 
-own-asks : (s : Day) (c : Call) → Numbered-by (own-questions s c) (own-door s c)
+own-numbered : (s : Day) (c : Call) → Numbered-by (own-questions s c) (own-door s c)
 unfolding states.total-budgets
-own-asks s (open-plan pl) =
+own-numbered s (open-plan pl) =
     asking 2 (closed-means (s .phase))
     (asking 3 (depth-means pl) (asking 4 (width-means pl) (asking 5 (power-means pl) accepting)))
-own-asks s (add-campaign t) =
+own-numbered s (add-campaign t) =
     asking 6 (filling-means (s .phase))
     (asking 7 (ltb-means (s .count) 64)
     (asking 8 (price-means (t .price))
     (asking 9 (budget-means (t .price) (t .budget))
     (asking 10 (leb-means (total-budgets s + t .budget) 2_000_000_000) accepting))))
-own-asks s start-day = asking 6 (filling-means (s .phase)) accepting
-own-asks s (show-view w) =
+own-numbered s start-day = asking 6 (filling-means (s .phase)) accepting
+own-numbered s (show-view w) =
     asking 11 (running-means (s .phase))
     (asking 12 (ltb-means (s .accepted) 4_096)
     (asking 13 (within-means (s .count) (w .set))
     (asking 14 (unpaused-means s w) accepting)))
-own-asks s (ask-tally i) = asking 15 (ltb-means i (s .count)) accepting
-own-asks s close-day = asking 11 (running-means (s .phase)) accepting
-own-asks s (mark-campaign b i) = asking 11 (running-means (s .phase)) (asking 15 (ltb-means i (s .count)) accepting)
+own-numbered s (ask-tally i) = asking 15 (ltb-means i (s .count)) accepting
+own-numbered s close-day = asking 11 (running-means (s .phase)) accepting
+own-numbered s (mark-campaign b i) = asking 11 (running-means (s .phase)) (asking 15 (ltb-means i (s .count)) accepting)
 
 pub always-asks : Always-asks
 always-asks s c =
-    subst⁻¹ (asks 1 (Is-sound s) (own-door s c)) (call-number s c) (asking 1 (sound-means s) (own-asks s c) .is)
+    subst⁻¹ (asks 1 (Is-sound s) (own-door s c)) (call-number s c) (asking 1 (sound-means s) (own-numbered s c) .is)

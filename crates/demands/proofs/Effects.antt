@@ -18,6 +18,7 @@ use Rattle.campaigns.specs.Choice.Choice.{nobody, plays}
 use Rattle.campaigns.specs.Campaign.{can-pay, claim, aged, after, fresh}
 use Rattle.campaigns.specs.View.{names, able, figure}
 use Rattle.campaigns.proofs.Laws.{plays-below}
+use Rattle.campaigns.proofs.Meanings.{filling-means, running-means}
 use Rattle.day.specs.declared.Answer.{Answer}
 use Rattle.day.specs.declared.Answer.the-variants.{Refused, Done, Played, Nobody, Tallied, Closing}
 use Rattle.day.specs.declared.Day.{Day}
@@ -27,9 +28,9 @@ use Rattle.day.specs.Calls.{number, Call, questions, found, player, offers, sho
 use Rattle.day.specs.Calls.{head-shown, head-joined, with-campaign}
 use Rattle.day.specs.Calls.Call.{open-plan, add-campaign, start-day, show-view, ask-tally, close-day, mark-campaign}
 use Rattle.day.proofs.Questions.{Yes, call-elim}
-use Rattle.day.proofs.State.{Sound, sound-facts, held-at, filling-is, running-is, campaign-of-state}
+use Rattle.day.proofs.State.{Sound, sound-facts, held-at, campaign-of-state}
 use Rattle.demands.specs.Choice.{Right}
-use Rattle.demands.specs.Effects.{Named, Pays, Rule-1, counting, Rules-2-to-4, Does, Always-does, Code-calls}
+use Rattle.demands.specs.Effects.{Named, Pays, Rule-1, counting, Rules-2-to-4, Does, Always-does}
 use Rattle.demands.proofs.Choice.{player-right}
 use Rattle.demands.proofs.Marks.{marks-one}
 use Rattle.demands.proofs.States.{with-campaign-old, with-campaign-new}
@@ -148,7 +149,7 @@ does s (open-plan pl) y =
     (refl, refl, campaign-of-state (head-of (result s (open-plan pl) .day)) (λ j. fresh no-terms))
 does s (add-campaign t) (e1, (e6, (e7, y))) = (
   refl,
-  rw (filling-is (s .phase) e6) refl,
+  rw (filling-means (s .phase) .0 e6) refl,
   campaign-of-state (head-joined s) (with-campaign s t) (s .count) (ltb-true (s .count) 64 e7) ∙ with-campaign-new s t,
   λ i l n. campaign-of-state (head-joined s) (with-campaign s t) i l ∙ with-campaign-old s t i n,
 )
@@ -156,7 +157,7 @@ does s start-day y = (refl, refl, λ i l. refl)
 does s (show-view w) (e1, (e11, (e12, (e13, y)))) =
     let h = sound-facts s e1 in (
       rule-1 s h w e13 (player s w) (player-right s w),
-      rw (running-is (s .phase) e11) refl,
+      rw (running-means (s .phase) .0 e11) refl,
       λ i l. subst⁻¹ (Rules-2-to-4 s w (view-answer (offers s w) (player s w)) i (campaign s i))
           (campaign-of-state (head-shown s) (shown s w) i l) (rules-2-to-4 s h w e13 i l),
     )
@@ -169,20 +170,3 @@ pub always-does : Always-does
 always-does s c e =
     call-elim (λ (o : Outcome). number (o .answer) ≡ 0 → Does c s (o .answer) (o .day)) s c
     (λ q z. absurd (omega (arith, z))) (λ y z. does s c y) e
-
--- the calls as the code names them
-pub code-calls : Code-calls
-code-calls = record {
-  opens = λ pl. refl;
-  adds = λ t. refl;
-  starts = refl;
-  shows = λ w. refl;
-  tallies = λ i. refl;
-  closes = refl;
-  pauses = λ i. refl;
-  resumes = λ i. refl;
-  head-back = λ r t n. refl;
-  terms-back = λ r t n. refl;
-  counts-back = λ r t n. refl;
-  answer-back = λ r t n. refl;
-}

@@ -10,6 +10,7 @@ use Rattle.finite.proofs.Tests.{never, both-right}
 use Rattle.finite.proofs.Meanings.{both-means}
 use Rattle.powers.specs.Power.{weight, share}
 use Rattle.sets.specs.Set.{member}
+use Rattle.sets.proofs.Bounds.{within-means}
 use Rattle.campaigns.specs.declared.Campaign.{Campaign}
 use Rattle.campaigns.specs.declared.Phase.{Phase}
 use Rattle.campaigns.specs.declared.Phase.the-variants.{Filling, Running, Closed}
@@ -29,7 +30,6 @@ use Rattle.day.proofs.State.{sound-facts, sound-at, held-at, empty-at}
 use Rattle.demands.specs.Door.{Depth-fits, Width-fits, Power-fits, Price-fits, Budget-fits, takings}
 use Rattle.demands.specs.Door.{Campaign-sound, new-campaign, Is-sound, Sound-means, Always-audited}
 use Rattle.demands.proofs.Meanings.{depth-means, width-means, power-means, price-means, budget-means}
-use Rattle.demands.proofs.Meanings.{within-means}
 use Rattle.demands.proofs.SoundCampaign.{campaign-sound}
 use Rattle.demands.proofs.Sound.{whole-sound}
 

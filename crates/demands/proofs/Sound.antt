@@ -26,6 +26,7 @@ use Rattle.campaigns.specs.Campaign.{spending, aged, after, fresh, depth-fits, 
 use Rattle.campaigns.specs.Campaign.{uncounted, empty, untouched, sound-campaign}
 use Rattle.campaigns.specs.View.{names, pays, becomes, able, takings, claims, full}
 use Rattle.campaigns.proofs.Laws.{Sized, plan-sized}
+use Rattle.campaigns.proofs.Meanings.{filling-means}
 use Rattle.day.specs.declared.Day.{Day}
 use Rattle.day.specs.declared.Outcome.{Outcome}
 use Rattle.day.specs.Day.{campaign, state-with, in-phase, no-terms, empty-plan, blank-plan, blank, total-takings}
@@ -38,7 +39,7 @@ use Rattle.day.specs.Calls.{Call, questions, result, with-campaign, found, play
 use Rattle.day.specs.Calls.{head-joined, head-shown, head-marked}
 use Rattle.day.specs.Calls.Call.{open-plan, add-campaign, start-day, show-view, ask-tally, close-day, mark-campaign}
 use Rattle.day.proofs.Questions.{Yes, call-elim}
-use Rattle.day.proofs.State.{filling-is, Sound, sound-facts, sound-at, held-at, empty-at, campaign-of-state}
+use Rattle.day.proofs.State.{Sound, sound-facts, sound-at, held-at, empty-at, campaign-of-state}
 use Rattle.demands.proofs.Laws.{claim-of, claim-fresh}
 use Rattle.demands.proofs.Step.{able-few, takings-step, claims-step}
 use Rattle.demands.proofs.States.{sum-state-with, with-campaign-old, with-campaign-new, sum-with-campaign}
@@ -168,7 +169,7 @@ module _ (s : Day) (h : Sound s) where
         → sound (state-with (head-joined s) (with-campaign s t)) ≡ true
     unfolding total-budgets total-takings
     sound-joined (e1, (e6, (e7, (e8, (e9, (e10, _)))))) =
-        let f : s .phase ≡ Filling = filling-is (s .phase) e6 in
+        let f : s .phase ≡ Filling = filling-means (s .phase) .0 e6 in
         let room : s .count < 64 = ltb-true (s .count) 64 e7 in
         let next : s .count + 1 ≡ suc (s .count) = omega arith in
         sound-state-with (head-joined s) (with-campaign s t) (record {

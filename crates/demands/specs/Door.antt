@@ -1,6 +1,6 @@
 -- "Sound" and "Questions at the door" once more, as propositions with the documents' own numbers: what a sound state
--- is, when a call is accepted, and the number that it gets where it is not. It takes nothing from the tests that the
--- code is proved against.
+-- is, when a call is accepted, and the number that it gets where it is not. The sentences take nothing from the tests
+-- that the code is proved against; closed statements join the two.
 use mathlib.Core.Path.{_≡_}
 use mathlib.Core.Bool.{true, not, _&&_}
 use mathlib.Core.Logic.{_↔_}
@@ -71,6 +71,7 @@ pub record Campaign-sound (s : Day) (c : Campaign) : Type 0 where
 abbrev pub new-campaign : (price budget : ℕ) → Campaign
 new-campaign p b = record { price = p; budget = b; plays = 0; turns = 0; age = 0; named = 0 }
 
+-- a state is sound when its depth, width and campaigns pass questions 3, 4, 5, 8, 9 and 10, and the other clauses hold
 pub record Is-sound (s : Day) : Type 0 where
   pub depth-fits : Depth-fits (s .plan)
   pub width-fits : Width-fits (s .plan)
@@ -88,16 +89,17 @@ pub record Is-sound (s : Day) : Type 0 where
   pub filling-views : s .phase ≡ Filling → s .accepted ≡ 0
   -- a Closed phase holds the takings
   pub closed-holds : (t : ℕ) → s .phase ≡ Closed t → t ≡ takings s
+  -- the total claim is at most d^k × takings
   pub claim-covered : total-claim s ≤ full s
   -- document 02's paused marks: an entry past the last has none, and in Filling there is none
   pub marks-within : (i : ℕ) → i < 64 → member (s .paused) i ≡ true → i < s .count
   pub filling-marks : s .phase ≡ Filling → s .paused ≡ 0
 
--- question 1 asks for that
+-- question 1: the tests of soundness pass exactly if the state is sound
 abbrev pub Sound-means : Type 0
 Sound-means = (s : Day) → (sound s ≡ true) ↔ Is-sound s
 
--- an audit tells whether it is so, and then its figures
+-- an audit tells whether a state is sound and, if so, its sums
 pub record Audit-tells (s : Day) : Type 0 where
   pub sound-is : (audited s .sound ≡ true) ↔ Is-sound s
   pub budgets-are : Is-sound s → audited s .budgets ≡ total-budgets s

@@ -1,8 +1,7 @@
 -- What an accepted call does, as propositions in the documents' words: rules 1 to 4 of a view, and what each other call
--- changes; all else stays. Like `Door`, it takes nothing from the rules that the code is proved against.
+-- changes; all else stays. As in `Door`, the sentences take nothing from the rules that the code is proved against.
 use mathlib.Core.Path.{_≡_}
 use mathlib.Core.Bool.{true, false, cond}
-use mathlib.Core.List.{List}
 use mathlib.Core.Logic.{_⊎_}
 use Prim.Native.Nat.{ℕ, _+_, _*_, _≤_, _<_}
 use lib.Dec.{eqb}
@@ -12,15 +11,11 @@ use Rattle.campaigns.specs.declared.Head.{Head}
 use Rattle.campaigns.specs.declared.Phase.{Phase}
 use Rattle.campaigns.specs.declared.Phase.the-variants.{Filling, Running, Closed}
 use Rattle.campaigns.specs.declared.Plan.{Plan}
-use Rattle.campaigns.specs.declared.Terms.{Terms}
 use Rattle.campaigns.specs.declared.View.{View}
 use Rattle.day.specs.declared.Answer.{Answer}
 use Rattle.day.specs.declared.Answer.the-variants.{Done, Played, Nobody, Tallied, Closing}
-use Rattle.day.specs.declared.Call.the-variants.{Open, Add, Start, Show, Tally, Close, Pause, Resume}
 use Rattle.day.specs.declared.Day.{Day}
-use Rattle.day.specs.declared.Step.{Step}
 use Rattle.day.specs.Day.{head-of, campaign}
-use Rattle.day.specs.InPlace.{asked, outcome-of}
 use Rattle.day.specs.Calls.{number, Call, call}
 use Rattle.day.specs.Calls.Call.{open-plan, add-campaign, start-day, show-view, ask-tally, close-day, mark-campaign}
 use Rattle.demands.specs.Door.{takings, full, W, total-claim, new-campaign}
@@ -47,10 +42,11 @@ pub record Plays-best (s : Day) (w : View) (m p : ℕ) : Type 0 where
   pub greatest : (j : ℕ) → j < 64 → Named s w j → Pays (campaign s j) → score s j ≤ score s m
   pub lowest : (j : ℕ) → j < m → Named s w j → Pays (campaign s j) → score s j < score s m
 
--- if none can pay, the answer is nobody
+-- none of the named campaigns can pay
 abbrev pub None-pays : Day → View → Type 0
 None-pays s w = (j : ℕ) → j < 64 → Named s w j → Pays (campaign s j) → ⊥
 
+-- the answer by rule 1: nobody if none can pay, else the best of them
 abbrev pub Rule-1 : Day → View → Answer → Type 0
 Rule-1 s w a =
     ((a ≡ Nobody) × None-pays s w) ⊎ ((m : ℕ) × (p : ℕ) × (a ≡ Played m p) × Plays-best s w m p)
@@ -110,19 +106,3 @@ Does (mark-campaign b i) s a t =
 -- of every call that is accepted
 abbrev pub Always-does : Type 0
 Always-does = (s : Day) (c : Call) → number (call s c .answer) ≡ 0 → Does c s (call s c .answer) (call s c .day)
-
--- The calls as the code names them, each the call of its name; and what an operation in place hands back is the state of
--- its head and of the two arrays, with its answer.
-pub record Code-calls : Type 0 where
-  pub opens : (pl : Plan) → asked (Open pl) ≡ open-plan pl
-  pub adds : (terms : Terms) → asked (Add terms) ≡ add-campaign terms
-  pub starts : asked Start ≡ start-day
-  pub shows : (w : View) → asked (Show w) ≡ show-view w
-  pub tallies : (i : ℕ) → asked (Tally i) ≡ ask-tally i
-  pub closes : asked Close ≡ close-day
-  pub pauses : (i : ℕ) → asked (Pause i) ≡ mark-campaign true i
-  pub resumes : (i : ℕ) → asked (Resume i) ≡ mark-campaign false i
-  pub head-back : (r : Step) (terms counts : List ℕ) → head-of (outcome-of r terms counts .day) ≡ r .head
-  pub terms-back : (r : Step) (terms counts : List ℕ) → outcome-of r terms counts .day .terms ≡ terms
-  pub counts-back : (r : Step) (terms counts : List ℕ) → outcome-of r terms counts .day .counts ≡ counts
-  pub answer-back : (r : Step) (terms counts : List ℕ) → outcome-of r terms counts .answer ≡ r .answer

@@ -4,4 +4,5 @@ pub mod Cases
 pub mod Soundness
 pub mod Door
 pub mod Effects
+pub mod Names
 pub mod Demands

@@ -1,4 +1,4 @@
--- Both lines are computed.
+-- The lines are computed.
 use mathlib.Core.Path.{refl}
 use Rattle.lines.specs.Numeral.{numeral, numeral-in}
 use Rattle.lines.specs.Form.{template, numbers, slot-text, piece, numbers-after, filled, text}
@@ -9,4 +9,4 @@ use Rattle.earnings.specs.Examples.{Examples}
 
 pub examples : Examples
 unfolding template numbers slot-text piece numbers-after filled text line numeral numeral-in common-up-to figures-text
-examples = record { nothing = refl; too-many = refl }
+examples = record { nothing = refl; unsound = refl; outside = refl; too-many = refl }

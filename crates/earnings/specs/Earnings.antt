@@ -1,7 +1,9 @@
 -- What the day took beside what it could have earned, and its line.
 use mathlib.Core.Path.{_≡_}
+use mathlib.Core.Bool.{cond}
 use mathlib.Core.List.{List, [], _∷_, _++_}
 use Prim.Native.Nat.{ℕ, zero, suc}
+use lib.Dec.{eqb}
 use Rattle.lines.specs.declared.Record.the-variants as lines
 use Rattle.lines.specs.Form.{bytes}
 use Rattle.lines.specs.Numeral.{numeral}
@@ -9,9 +11,9 @@ use Rattle.writer.specs.Writing.{line}
 use Rattle.campaigns.specs.Limits.{max-campaigns}
 use Rattle.day.specs.declared.Day.{Day}
 use Rattle.day.specs.Day.{total-takings}
-use Rattle.questions.specs.Questions.{first-failed}
+use Rattle.questions.specs.Questions.{first-failed, accepts}
 use Rattle.allotments.specs.Limits.{max-handed-in}
-use Rattle.optimum.specs.Optimum.{questions, most-of}
+use Rattle.optimum.specs.Optimum.{questions, search-door, most-of}
 use Rattle.earnings.specs.declared.Earnings.{Earnings}
 use Rattle.earnings.specs.declared.Earnings.the-variants.{Refused, Figures}
 use Rattle.earnings.specs.Ratio.{ratio-of}
@@ -39,7 +41,10 @@ values (Figures t g) = t ∷ g ∷ []
 
 pub record Tells (s : Day) (views : List ℕ) : Type 0 where
   pub number-is : number (earned s views) ≡ question-of s views
-  pub values-are : question-of s views ≡ 0 → values (earned s views) ≡ total-takings s ∷ most-of s views ∷ []
+  -- that of request 4's questions, in its words
+  pub asked : search-door s views accepts (number (earned s views))
+  pub values-are : values (earned s views)
+      ≡ let q = number (earned s views) in cond (eqb q 0) (total-takings s ∷ most-of s views ∷ []) (q ∷ [])
 
 abbrev pub Always-tells : Type 0
 Always-tells = (s : Day) (views : List ℕ) → Tells s views

@@ -2,12 +2,12 @@
 use mathlib.Core.Path.{_≡_, refl, ap, subst⁻¹}
 use mathlib.Core.Bool.{Bool, true, not}
 use mathlib.Core.List.{List, [], _∷_, map}
-use Prim.Native.Nat.{ℕ, _*_}
+use Prim.Native.Nat.{ℕ, _+_, _*_}
 use lib.Dec.{leb, ltb, eqb}
 use lib.ListN.{getD, length}
-use borrow.Author.Tests.{leb-true, ltb-true, eqb-true, not-true}
+use borrow.Author.Tests.{leb-true, le-leb, ltb-true, eqb-true, not-true}
 use Rattle.finite.specs.Finite.{sum, count, every, all, table, total}
-use Rattle.finite.proofs.Tests.{all-parts, every-at}
+use Rattle.finite.proofs.Tests.{never, all-parts, every-at}
 use Rattle.sets.specs.Set.{member, size, within, collect, without, including}
 use Rattle.powers.specs.Power.{weight, share}
 use Rattle.allotments.specs.Allotment.{times, nobody, takings, entry-fits}
@@ -33,7 +33,9 @@ met-tests h to =
     (λ j. entry-fits (names-at h j) (to j)) ∷
     every (length (h .terms)) (λ i. leb (times (length (h .views)) to i) (whole-of h i)) ∷
     eqb (share (h .plan .depth) (h .plan .width) * takings-of h (price-of h) to)
-    (full (h .plan) (day-takings h)) ∷ []
+    (full (h .plan) (day-takings h)) ∷
+    not (leb (share (h .plan .depth) (h .plan .width) * (takings-of h (price-of h) to + 1))
+    (full (h .plan) (day-takings h))) ∷ []
 
 -- an allotment, by two tests
 pub allotted-of : (h : History) (to : ℕ → ℕ)
@@ -59,6 +61,7 @@ met-of h to e =
       paying = ltb-true 0 (day-takings h) (p .1 .0);
       allotted = allotted-of h to (p .1 .1 .0) (p .1 .1 .1 .0);
       equal = eqb-true _ _ (p .1 .1 .1 .1 .0);
+      not-more = λ l. never _ (not-true _ (p .1 .1 .1 .1 .1 .0)) (le-leb _ _ l);
     }
 
 -- the day of a row, read off the row

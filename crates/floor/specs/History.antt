@@ -27,10 +27,11 @@ pub data Starts : Day → List Call → Type 0 where
   from-opening : (s : Day) (pl : Plan) (cs : List Call) → accepted (call s (open-plan pl) .answer) ≡ true
       → Starts s (open-plan pl ∷ cs)
 
--- whatever that state holds
-abbrev pub Any-state-starts : Type 0
-Any-state-starts =
-    (s : Day) (pl : Plan) (cs : List Call) → number (call s (open-plan pl) .answer) ≡ 0 → Starts s (open-plan pl ∷ cs)
+-- so any list may be given the blank state, an empty one too, and one that opens a plan any state that accepts it
+pub record Any-list-starts : Type 0 where
+  pub at-blank : (cs : List Call) → Starts blank cs
+  pub at-opening : (s : Day) (pl : Plan) (cs : List Call) → number (call s (open-plan pl) .answer) ≡ 0
+      → Starts s (open-plan pl ∷ cs)
 
 -- the day: the last accepted opening with the accepted calls after it. Depth and width are those handed to the opening,
 -- price and budget those handed to the accepted adding, the paused marks what the accepted pausings and resumings left,

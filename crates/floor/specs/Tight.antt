@@ -2,7 +2,7 @@
 use mathlib.Core.Path.{_≡_}
 use mathlib.Core.Bool.{cond}
 use mathlib.Core.List.{List, [], _∷_, map}
-use Prim.Native.Nat.{ℕ, zero, suc, _*_, _<_}
+use Prim.Native.Nat.{ℕ, zero, suc, _+_, _*_, _<_}
 use lib.Dec.{eqb}
 use lib.ListN.{getD}
 use Rattle.powers.specs.Power.{share}
@@ -16,15 +16,17 @@ use Rattle.day.specs.Calls.Call.{start-day}
 use Rattle.demands.specs.Transcript.{transcript}
 use Rattle.demands.specs.Cases.{plan, campaign-of, view}
 use Rattle.floor.specs.History.{Starts, History, day-takings, history}
-use Rattle.floor.specs.Floor.{price-of, None-short, Allotted, takings-of}
+use Rattle.floor.specs.Floor.{price-of, None-short, Allotted, takings-of, Covered}
 
--- no campaign falls short, something is paid, and an allotment makes both sides of the floor equal
+-- no campaign falls short, something is paid, and an allotment makes both sides of the floor equal: a cent more is not
+-- covered
 pub record Met (h : History) (to : ℕ → ℕ) : Type 0 where
   pub none-short : None-short h
   pub paying : 0 < day-takings h
   pub allotted : Allotted h to
   pub equal : share (h .plan .depth) (h .plan .width) * takings-of h (price-of h) to
       ≡ full (h .plan) (day-takings h)
+  pub not-more : Covered h (takings-of h (price-of h) to + 1) → ⊥
 
 -- a day of campaigns of price 1 and one play each: its views, who plays each of them, and to whom an allotment gives
 -- it

@@ -1,8 +1,10 @@
 -- The figures that an owner can compare at noon, or at any other moment of a day (document 02, request 1).
 use mathlib.Core.Path.{_≡_}
+use mathlib.Core.Bool.{true, cond}
 use mathlib.Core.List.{List, [], _∷_}
 use mathlib.Core.Logic.{_↔_}
 use Prim.Native.Nat.{ℕ, zero, suc, _*_, _/_, _≤_, min}
+use lib.Dec.{eqb}
 use Rattle.finite.specs.Finite.{sum}
 use Rattle.powers.specs.Power.{share}
 use Rattle.campaigns.specs.declared.Campaign.{Campaign}
@@ -10,7 +12,7 @@ use Rattle.campaigns.specs.Campaign.{whole}
 use Rattle.campaigns.specs.View.{full}
 use Rattle.day.specs.declared.Day.{Day}
 use Rattle.day.specs.Day.{campaign, total-takings, total-claim, sound}
-use Rattle.questions.specs.Questions.{Question, question, first-failed}
+use Rattle.questions.specs.Questions.{Question, question, first-failed, asks, accepts}
 use Rattle.noon.specs.declared.Noon.{Noon}
 use Rattle.noon.specs.declared.Noon.the-variants.{Refused, Figures}
 
@@ -61,8 +63,11 @@ at-noon s = refused-or (first-failed (noon-questions s)) (figures-of s)
 
 pub record Tells (s : Day) : Type 0 where
   pub number-is : number (at-noon s) ≡ first-failed (noon-questions s)
-  pub values-are : first-failed (noon-questions s) ≡ 0
-      → values (at-noon s) ≡ full (s .plan) (total-takings s) ∷ total-claim s ∷ floor-figure s ∷ []
+  -- that of the question in words
+  pub asked : asks 1 (sound s ≡ true) accepts (number (at-noon s))
+  pub values-are : values (at-noon s)
+      ≡ let q = number (at-noon s) in
+      cond (eqb q 0) (full (s .plan) (total-takings s) ∷ total-claim s ∷ floor-figure s ∷ []) (q ∷ [])
 
 abbrev pub Always-tells : Type 0
 Always-tells = (s : Day) → Tells s

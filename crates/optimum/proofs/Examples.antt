@@ -16,8 +16,8 @@ pub examples : Examples
 unfolding first-failed sound sound-record sum count every table within member weight share whole claim sound-plan
     priced counted uncounted empty sound-campaign times takings certified greatest most failed fits takings-answer
 examples = record {
-  check-asks = refl;
-  search-asks = refl;
+  check-numbers = refl;
+  search-numbers = refl;
   all-checked = refl;
   one-checked = refl;
   searched = refl;

@@ -1,13 +1,14 @@
 -- The check accepts exactly the allotments with figures that fit them, what it accepts is greatest, and it accepts what
 -- the search leaves, whose takings are the search's answer.
 use mathlib.Core.Path.{_≡_, refl, ap, ap₂, sym, _∙_}
-use mathlib.Core.Bool.{Bool, true, false}
+use mathlib.Core.Bool.{Bool, true, false, cond}
 use mathlib.Core.List.{List, [], _∷_}
 use Prim.Native.Nat.{ℕ, zero, suc, _≤_}
 use native.Mathlib.Omega.{arith}
+use lib.Dec.{eqb}
 use lib.ListN.{length, take}
 use lib.Seq.{getD-take, length-take-le}
-use borrow.Author.Tests.{le-leb}
+use borrow.Author.Tests.{le-leb, ne-eqb}
 use Rattle.finite.specs.Finite.{one-if}
 use Rattle.finite.proofs.Sums.{sum-eq}
 use Rattle.allotments.specs.Limits.{max-handed-in}
@@ -16,13 +17,12 @@ use Rattle.allotments.proofs.Duality.{test-certified, certified-test, certified
 use Rattle.allotments.proofs.Most.{certified-most}
 use Rattle.day.specs.declared.Day.{Day}
 use Rattle.questions.specs.Questions.{first-failed}
-use Rattle.optimum.specs.declared.Verdict.{Verdict}
 use Rattle.optimum.specs.declared.Verdict.the-variants as verdict
 use Rattle.optimum.specs.Optimum.{plan-price, plan-whole, questions, failed, Fits, fits, most-of}
-use Rattle.optimum.specs.Optimum.{allotment-takings, values, answer-of, takings-questions, takings-answer}
+use Rattle.optimum.specs.Optimum.{allotment-takings, answer-of, takings-questions, takings-answer}
 use Rattle.optimum.specs.Optimum.{verdict-of, Accepts-exactly, Accepted-is-best, Search-accepted, Search-taken}
 use Rattle.optimum.specs.Optimum.{verdict-number, verdict-values, Always-tells}
-use Rattle.optimum.proofs.Asked.{Granted, granted, few-campaigns, number-found}
+use Rattle.optimum.proofs.Asked.{Granted, granted, few-campaigns, number-found, values-found}
 
 -- an accepting answer: no question failed and the test passed
 from-accepted : (q : ℕ) (b : Bool) → verdict-of q b ≡ verdict.Accepted → (q ≡ 0) × (b ≡ true)
@@ -109,9 +109,10 @@ number-told zero true = refl
 number-told zero false = refl
 number-told (suc q) b = refl
 
-values-told : (b : Bool) → verdict-values (verdict-of 0 b) ≡ one-if b ∷ []
-values-told true = refl
-values-told false = refl
+values-told : (q : ℕ) (b : Bool) → verdict-values (verdict-of q b) ≡ cond (eqb q 0) (one-if b ∷ []) (q ∷ [])
+values-told zero true = refl
+values-told zero false = refl
+values-told (suc q) b = rw (ne-eqb (suc q) 0 (λ z. omega (arith, z))) refl
 
 pub tells : Always-tells
 tells s views allotment surplus worth =
@@ -119,7 +120,7 @@ tells s views allotment surplus worth =
     let b = fits s views allotment surplus worth in
     record {
       search-number = number-found q (most-of s views);
-      search-values = λ z. ap (λ (k : ℕ). values (answer-of k (most-of s views))) z;
+      search-values = values-found q (most-of s views);
       check-number = number-told q b;
-      check-values = λ z. ap (λ (k : ℕ). verdict-values (verdict-of k b)) z ∙ values-told b;
+      check-values = values-told q b;
     }

@@ -31,8 +31,8 @@ pub record Asking : Type 0 where
   pub for-views : ℕ
   pub question : ℕ
 
-abbrev pub asking : (accepted : ℕ) (views : List ℕ) (for-allotment for-campaigns for-views question : ℕ) → Asking
-asking n views a c v q = record {
+abbrev pub case : (accepted : ℕ) (views : List ℕ) (for-allotment for-campaigns for-views question : ℕ) → Asking
+case n views a c v q = record {
   accepted = n;
   views = views;
   for-allotment = a;
@@ -54,18 +54,18 @@ search-number p x = number (search-answer (two-campaigns p (x .accepted)) (x .vi
 abbrev pub askings : List Asking
 askings =
     -- none fails, also with entries beyond, and with no view
-    asking 0 (3 ∷ []) 1 2 1 0 ∷ asking 0 (3 ∷ []) 5 64 9 0 ∷ asking 0 [] 0 2 0 0 ∷
+    case 0 (3 ∷ []) 1 2 1 0 ∷ case 0 (3 ∷ []) 5 64 9 0 ∷ case 0 [] 0 2 0 0 ∷
     -- each alone: 1, 13, and 18 of each of the three lists
-    asking 4_097 (3 ∷ []) 1 2 1 1 ∷ asking 0 (3 ∷ 4 ∷ []) 2 2 2 13 ∷
-    asking 0 (3 ∷ []) 0 2 1 18 ∷ asking 0 (3 ∷ []) 1 1 1 18 ∷ asking 0 (3 ∷ []) 1 2 0 18 ∷
+    case 4_097 (3 ∷ []) 1 2 1 1 ∷ case 0 (3 ∷ 4 ∷ []) 2 2 2 13 ∷
+    case 0 (3 ∷ []) 0 2 1 18 ∷ case 0 (3 ∷ []) 1 1 1 18 ∷ case 0 (3 ∷ []) 1 2 0 18 ∷
     -- their order: 1 before 13 before 18
-    asking 4_097 (4 ∷ []) 0 0 0 1 ∷ asking 0 (4 ∷ []) 0 0 0 13 ∷ asking 0 (3 ∷ []) 0 0 0 18 ∷ []
+    case 4_097 (4 ∷ []) 0 0 0 1 ∷ case 0 (4 ∷ []) 0 0 0 13 ∷ case 0 (3 ∷ []) 0 0 0 18 ∷ []
 
 -- 256 views are taken, one more gives 19, whatever count the state holds; it is asked after 1 and before 13 and 18
 abbrev pub askings-of-many : List Asking
 askings-of-many =
-    asking 0 (replicate 256 3) 256 2 256 0 ∷ asking 0 (replicate 257 3) 257 2 257 19 ∷
-    asking 4_096 (replicate 257 4) 0 0 0 19 ∷ asking 4_097 (replicate 257 4) 0 0 0 1 ∷ []
+    case 0 (replicate 256 3) 256 2 256 0 ∷ case 0 (replicate 257 3) 257 2 257 19 ∷
+    case 4_096 (replicate 257 4) 0 0 0 19 ∷ case 4_097 (replicate 257 4) 0 0 0 1 ∷ []
 
 -- a triple and what the check answers
 pub record Checking : Type 0 where
@@ -117,8 +117,8 @@ In-each-phase f a = map f phases ≡ map (λ p. a) phases
 
 -- the search of the four views takes 13, and the takings of an allotment are its prices
 pub record Examples : Type 0 where
-  pub check-asks : In-each-phase (λ p. map (check-number p) askings) (map (λ x. x .question) askings)
-  pub search-asks : In-each-phase (λ p. map (search-number p) askings) (map (λ x. x .question) askings)
+  pub check-numbers : In-each-phase (λ p. map (check-number p) askings) (map (λ x. x .question) askings)
+  pub search-numbers : In-each-phase (λ p. map (search-number p) askings) (map (λ x. x .question) askings)
   pub all-checked : In-each-phase (λ p. map (checked-in p four-views) checkings) (map (λ x. x .answer) checkings)
   pub one-checked : In-each-phase
       (λ p. map (checked-in p (1 ∷ [])) checkings-of-one)

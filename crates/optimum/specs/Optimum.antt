@@ -1,11 +1,11 @@
 -- What the day could have earned: the questions of the search and of the check, and what each gives. Beyond question 1
 -- only the plan of the state counts: prices, budgets and the number of campaigns. A view is its set of unpaused names.
 use mathlib.Core.Path.{_≡_}
-use mathlib.Core.Bool.{Bool, true, false, _&&_}
+use mathlib.Core.Bool.{Bool, true, false, cond, _&&_}
 use mathlib.Core.List.{List, [], _∷_}
 use mathlib.Core.Logic.{_↔_}
 use Prim.Native.Nat.{ℕ, zero, suc, _≤_, _<_}
-use lib.Dec.{leb}
+use lib.Dec.{leb, eqb}
 use lib.ListN.{length, take}
 use Rattle.finite.specs.Finite.{sum, one-if, every}
 use Rattle.sets.specs.Set.{member, within}
@@ -41,14 +41,19 @@ unfoldable pub failed : Day → (views allotment surplus worth : List ℕ) → �
 failed s views allotment surplus worth =
     first-failed (questions s views (length allotment) (length surplus) (length worth))
 
--- the same in request 4's words, whatever the phase: 1, then 19, then 13, then 18
+-- the same in request 4's words, whatever the phase: 1, then 19, then 13, then the rest
+abbrev pub search-door : Day → (views : List ℕ) → (rest : ℕ → Type 0) → (n : ℕ) → Type 0
+search-door s views rest =
+    asks 1 (sound s ≡ true)
+    (asks 19 (length views ≤ 256)
+    (asks 13 ((j : ℕ) → j < length views → (i : ℕ) → i < 64 → member (at views j) i ≡ true → i < s .count) rest))
+
+-- which is 18
 abbrev pub Search-asks : Type 0
 Search-asks = (s : Day) (views allotment surplus worth : List ℕ)
-    → asks 1 (sound s ≡ true)
-    (asks 19 (length views ≤ 256)
-    (asks 13 ((j : ℕ) → j < length views → (i : ℕ) → i < 64 → member (at views j) i ≡ true → i < s .count)
+    → search-door s views
     (asks 18 (((length views ≤ length allotment) × (s .count ≤ length surplus)) × (length views ≤ length worth))
-    accepts))) (failed s views allotment surplus worth)
+    accepts) (failed s views allotment surplus worth)
 
 -- an allotment with figures that fit it: `surplus` has the campaign figures and `worth` the view figures
 abbrev pub Fits : Day → (views allotment surplus worth : List ℕ) → Type 0
@@ -117,8 +122,8 @@ pub record Tells-takings (s : Day) (allotment : List ℕ) (r : Optimum) : Type 0
   pub answered : number r ≡ 0
       → r ≡ optimum.Takings (sum (length allotment) (λ j. brings (s .count) (plan-price s) (at allotment j)))
 
-abbrev pub Takings-asks : Type 0
-Takings-asks = (s : Day) (allotment : List ℕ) → Tells-takings s allotment (takings-answer s allotment)
+abbrev pub Always-tells-takings : Type 0
+Always-tells-takings = (s : Day) (allotment : List ℕ) → Tells-takings s allotment (takings-answer s allotment)
 
 -- the check's answer: its number, as above, and its values, 1 where it accepts
 abbrev pub verdict-number : Verdict → ℕ
@@ -171,12 +176,12 @@ Search-taken = (s : Day) (views allotment allotment' surplus surplus' worth wort
 -- the number and the values of the two answers
 pub record Tells (s : Day) (views allotment surplus worth : List ℕ) : Type 0 where
   pub search-number : number (search-answer s views allotment surplus worth) ≡ failed s views allotment surplus worth
-  pub search-values : failed s views allotment surplus worth ≡ 0
-      → values (search-answer s views allotment surplus worth) ≡ most-of s views ∷ []
+  pub search-values : values (search-answer s views allotment surplus worth)
+      ≡ let q = failed s views allotment surplus worth in cond (eqb q 0) (most-of s views ∷ []) (q ∷ [])
   pub check-number : verdict-number (checked s views allotment surplus worth) ≡ failed s views allotment surplus worth
-  pub check-values : failed s views allotment surplus worth ≡ 0
-      → verdict-values (checked s views allotment surplus worth)
-      ≡ one-if (fits s views allotment surplus worth) ∷ []
+  pub check-values : verdict-values (checked s views allotment surplus worth)
+      ≡ let q = failed s views allotment surplus worth in
+      cond (eqb q 0) (one-if (fits s views allotment surplus worth) ∷ []) (q ∷ [])
 
 abbrev pub Always-tells : Type 0
 Always-tells = (s : Day) (views allotment surplus worth : List ℕ) → Tells s views allotment surplus worth

@@ -1,15 +1,21 @@
 -- The table's entries are the powers up to 4,294,967,296; no true entry is 0, so that 0 tells of a greater power.
-use mathlib.Core.Path.{_≡_, refl, ap, ap₂, _∙_, subst}
-use mathlib.Core.Bool.{Bool, true, false, cond}
+use mathlib.Core.Path.{_≡_, refl, sym, ap, ap₂, _∙_, subst}
+use mathlib.Core.Bool.{Bool, true, false, cond, _&&_}
 use mathlib.Core.List.{List, []}
+use mathlib.Core.Logic.{_↔_}
 use Prim.Native.Nat.{ℕ, _+_, _-_, _*_, _^_, _≤_, _<_}
 use native.Mathlib.Nat.{le-trans, one-le-pow, lt-irrefl, pow-le-pow-left, pow-le-pow-right, sub-le}
 use native.Mathlib.Omega.{arith}
 use lib.Dec.{leb}
 use lib.ListN.{length, getD}
 use borrow.Author.Tests.{le-leb, lt-leb}
+use Rattle.finite.proofs.Meanings.{leb-means, both-means}
 use Rattle.finite.proofs.Tables.{getD-table, length-table}
-use Rattle.powers.specs.Power.{entry, No-true-entry-is-0, row-of, grid, Table-holds, weight}
+use Rattle.powers.specs.Power.{entry, No-true-entry-is-0, row-of, grid, listed, Table-holds, weight}
+
+-- where the table has an entry
+pub inside-means : (w e : ℕ) → ((leb 1 w && leb w 16 && leb e 32) ≡ true) ↔ (((1 ≤ w) × (w ≤ 16)) × (e ≤ 32))
+inside-means w e = both-means (both-means (leb-means 1 w) (leb-means w 16)) (leb-means e 32)
 
 -- a column of a row, and a place of the table
 pub row-at : (b e : ℕ) → e ≤ 32 → getD (row-of b) e 0 ≡ entry b e
@@ -38,14 +44,21 @@ unfolding row-of
 row-length b = length-table 33 (entry b)
 
 pub table-holds : Table-holds
-unfolding grid
+unfolding grid listed
 table-holds = record {
   rows = length-table 16 (λ i. row-of (i + 1));
   columns = λ w p q.
       ap length (getD-table 16 (λ i. row-of (i + 1)) [] (w - 1) (omega (arith, p, q))) ∙ row-length (w - 1 + 1);
   power-is = λ w e p q h l. grid-at w e p q h ∙ entry-is w e l;
   above = λ w e p q h l. grid-at w e p q h ∙ entry-zero w e l;
+  read = λ w e p q h. rw (le-leb 1 w p, le-leb w 16 q, le-leb e 32 h) (sym (grid-at w e p q h));
+  no-other = λ w e n. unlisted w e (leb 1 w && leb w 16 && leb e 32) refl n;
 }
+  where
+    unlisted : (w e : ℕ) (t : Bool) → (leb 1 w && leb w 16 && leb e 32) ≡ t → (1 ≤ w → w ≤ 16 → e ≤ 32 → ⊥)
+        → cond t (entry w e) 0 ≡ 0
+    unlisted w e true z n = let m = inside-means w e .0 z in absurd (n (m .0 .0) (m .0 .1) (m .1))
+    unlisted w e false z n = refl
 
 pub entry-over : No-true-entry-is-0
 unfolding entry

@@ -25,6 +25,10 @@ row-of base = table (max-depth + 1) (entry base)
 unfoldable pub grid : List (List ℕ)
 grid = table max-width (λ i. row-of (i + 1))
 
+-- the entry for a width and an exponent, or 0 where the table has none
+unfoldable pub listed : ℕ → ℕ → ℕ
+listed width exponent = cond (leb 1 width && leb width max-width && leb exponent max-depth) (entry width exponent) 0
+
 -- the table has 528 numbers: at each width and exponent the power, or 0 where the power is above 4,294,967,296
 pub record Table-holds : Type 0 where
   pub rows : length grid ≡ 16
@@ -33,10 +37,10 @@ pub record Table-holds : Type 0 where
       → getD (getD grid (width - 1) []) exponent 0 ≡ width ^ exponent
   pub above : (width exponent : ℕ) → 1 ≤ width → width ≤ 16 → exponent ≤ 32 → 4_294_967_296 < width ^ exponent
       → getD (getD grid (width - 1) []) exponent 0 ≡ 0
-
--- the entry for a width and an exponent, or 0 where the table has none
-unfoldable pub listed : ℕ → ℕ → ℕ
-listed width exponent = cond (leb 1 width && leb width max-width && leb exponent max-depth) (entry width exponent) 0
+  -- an entry is read at its place, and there is no other
+  pub read : (width exponent : ℕ) → 1 ≤ width → width ≤ 16 → exponent ≤ 32
+      → listed width exponent ≡ getD (getD grid (width - 1) []) exponent 0
+  pub no-other : (width exponent : ℕ) → (1 ≤ width → width ≤ 16 → exponent ≤ 32 → ⊥) → listed width exponent ≡ 0
 
 -- an exponent up to 32 is at most r exactly if its power is at most 4,294,967,296
 abbrev pub Deepest : (width r : ℕ) → Type 0

@@ -49,7 +49,7 @@ use Rattle.reply.proofs.Replies.{Said, line-said, answers-each}
 use Rattle.stream.specs.Input.{after-lines}
 use Rattle.programs.specs.Lines.{with-request, calls-of, with-exchange, exchanges, is-plan, is-ok}
 use Rattle.programs.specs.Lines.{price-in, of-reading, sum-after, sum-over, sum-paid, day-of}
-use Rattle.programs.specs.Lines.{Lines-keep-the-demands}
+use Rattle.programs.specs.Lines.{Lines-make-calls, Lines-keep-the-demands}
 
 -- The first line of an answer reads as its record.
 
@@ -102,6 +102,9 @@ exchanges-are s [] = refl
 exchanges-are s (l ∷ ls) =
     let r = request-of (reading l) in
     ap (with-exchange r (executed s r .answer)) (exchanges-are (next s l) ls) ∙ transcript-step s r (calls-of ls)
+
+pub lines-make-calls : Lines-make-calls
+lines-make-calls s ls = record { state-is = state-is s ls; exchanges-are = exchanges-are s ls }
 
 -- What was paid.
 
@@ -294,8 +297,7 @@ unfolding total
 lines-keep-the-demands ls =
     let p : day-takings (day-of ls) ≡ sum-paid ls = paid-is blank (opening blank-plan) ls in
     record {
-      state-is = state-is blank ls;
-      exchanges-are = exchanges-are blank ls;
+      calls = lines-make-calls blank ls;
       paid-is = p;
       floor = floor-is ls;
       noon = noon-is ls;

@@ -48,6 +48,14 @@ unfoldable pub exchanges : Day → List (List ℕ) → List Exchange
 exchanges s [] = []
 exchanges s (l ∷ ls) = with-exchange (request-of (reading l)) (outcome s l .answer) (exchanges (next s l) ls)
 
+-- whatever the state before, that after the lines is the one after the calls, which were answered as the lines were
+pub record Makes-calls (s : Day) (ls : List (List ℕ)) : Type 0 where
+  pub state-is : after-lines s ls ≡ final s (calls-of ls)
+  pub exchanges-are : exchanges s ls ≡ transcript s (calls-of ls)
+
+abbrev pub Lines-make-calls : Type 0
+Lines-make-calls = (s : Day) (ls : List (List ℕ)) → Makes-calls s ls
+
 -- What was paid, told by the text alone.
 
 abbrev pub is-plan : Record → Bool
@@ -118,9 +126,7 @@ abbrev pub day-of : List (List ℕ) → History
 day-of ls = history (exchanges blank ls)
 
 pub record Of-lines (ls : List (List ℕ)) : Type 0 where
-  -- the state is that after the calls, which were answered as the lines were
-  pub state-is : after-lines blank ls ≡ final blank (calls-of ls)
-  pub exchanges-are : exchanges blank ls ≡ transcript blank (calls-of ls)
+  pub calls : Makes-calls blank ls
   -- the day's takings are the sum of the prices in the lines that were answered
   pub paid-is : day-takings (day-of ls) ≡ sum-paid ls
   -- demand 3

@@ -30,7 +30,7 @@ use Rattle.allotments.specs.Limits.{max-handed-in}
 use Rattle.optimum.specs.Optimum.{most-of}
 use Rattle.stream.specs.Input.{after-lines}
 use Rattle.programs.specs.Lines.{calls-of, day-of}
-use Rattle.programs.proofs.Lines.{lines-keep-the-demands}
+use Rattle.programs.proofs.Lines.{lines-make-calls}
 use Rattle.floor.specs.History.{own-views}
 use Rattle.earnings.specs.declared.Earnings.the-variants.{Refused, Figures}
 use Rattle.earnings.specs.Earnings.{question-of, earned}
@@ -55,7 +55,7 @@ put-stands {d} {e} {at} {to} {w} p h =
 -- a day that was read
 reached-lines : (ls : List (List ℕ)) → Reached (after-lines blank ls) (day-of ls)
 reached-lines ls =
-    let o = lines-keep-the-demands ls in
+    let o = lines-make-calls blank ls in
     subst⁻¹ (λ (s : Day). Reached s (day-of ls)) (o .state-is)
     (subst⁻¹ (λ (xs : List Exchange). Reached (final blank (calls-of ls)) (history xs)) (o .exchanges-are)
     (reached blank (calls-of ls) (from-blank (calls-of ls))))

@@ -2,7 +2,7 @@
 use mathlib.Core.Path.{_≡_, refl, sym, _∙_}
 use Prim.Native.Nat.{ℕ, zero, suc, _*_, _/_}
 use native.Mathlib.Nat.{div-zero, mul-div-cancel-left, zero-lt-suc}
-use Rattle.refinement.specs.Correspondence.{Buys-alike, spendable}
+use Rattle.refinement.specs.Correspondence.{Buys-alike, spendable, Budgets-buy-alike}
 
 pub budget-buys : Buys-alike (λ t. t .budget)
 budget-buys t = refl
@@ -13,3 +13,6 @@ spendable-buys t = go (t .price) (t .budget)
     go : (p b : ℕ) → p * (b / p) / p ≡ b / p
     go zero b = div-zero _ ∙ sym (div-zero b)
     go (suc p) b = mul-div-cancel-left (b / suc p) (zero-lt-suc p)
+
+pub budgets-buy-alike : Budgets-buy-alike
+budgets-buy-alike = (budget-buys, spendable-buys)

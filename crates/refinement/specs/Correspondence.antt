@@ -30,6 +30,9 @@ Buys-alike B = (t : Terms) → whole-plays (t .price) (B t) ≡ whole-plays (t .
 abbrev pub spendable : Terms → ℕ
 spendable t = t .price * whole-plays (t .price) (t .budget)
 
+abbrev pub Budgets-buy-alike : Type 0
+Budgets-buy-alike = Buys-alike (λ t. t .budget) × Buys-alike spendable
+
 -- k is the depth, d the width, the advertisers are n campaigns, and b_i is the price of campaign i
 abbrev pub instance : (Terms → ℕ) → Plan → (n : ℕ) → (ℕ → Terms) → Instance
 instance B pl n t = record { k = pl .depth; d = pl .width; n = n; b = λ i. t i .price; B = λ i. B (t i) }

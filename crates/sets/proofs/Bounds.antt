@@ -1,6 +1,7 @@
 -- A set whose members are all below n: by the members, by the next one from n on, and of a part of it.
 use mathlib.Core.Path.{_≡_, refl, ap, sym, _∙_}
 use mathlib.Core.Bool.{Bool, true, false, cond, not}
+use mathlib.Core.Logic.{_↔_}
 use Prim.Native.Nat.{ℕ, _+_, _/_, _^_, _≤_, _<_}
 use native.Mathlib.Omega.{arith}
 use lib.Count.{trailingZeros}
@@ -29,6 +30,10 @@ within-member n set i e h m =
     ltb-true i n
     (sym (ap (λ (b : Bool). cond b (ltb i n) true) m)
     ∙ every-at 64 (λ j. cond (member set j) (ltb j n) true) e i h)
+
+-- both
+pub within-means : (n set : ℕ) → (within n set ≡ true) ↔ ((i : ℕ) → i < 64 → member set i ≡ true → i < n)
+within-means n set = (λ e i. within-member n set i e, within-of n set)
 
 -- a set within n has no member from n on
 pub within-not-member : (n set i : ℕ) → within n set ≡ true → n ≤ i → i < 64 → member set i ≡ false

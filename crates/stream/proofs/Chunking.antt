@@ -61,7 +61,7 @@ pub finished-said : (x : Session) → finished x .output ≡ x .output ++ finish
 unfolding finished
 finished-said x = refl
 
-output-said : (x : Session) (l : List ℕ) → all-output x l ≡ x .output ++ all-output (silent x) l
+pub output-said : (x : Session) (l : List ℕ) → all-output x l ≡ x .output ++ all-output (silent x) l
 unfolding finished
 output-said x l =
     let y = fed (silent x) l in

@@ -55,6 +55,14 @@ pub record Writes (w : Wire) (b : List ℕ) (v : Wire) : Type 0 where
   pub failed-is : v .failed ≡ w .failed
   pub sent-before : v .sent ≡ true → w .sent ≡ true
 
+-- While no count runs over 2^64, a read counts itself and its bytes, and a telling its bytes; neither touches the other.
+pub record Wire-counts : Type 0 where
+  pub reading : (w : Wire) (l : List ℕ) (n : ℕ) (v : Wire) → Reads w l n v → w .reads < max-reads → w .got + n < 2 ^ 64
+      → (v .reads ≡ w .reads + 1) × (v .got ≡ w .got + n) × (v .told ≡ w .told) × (v .sent ≡ w .sent)
+  pub telling : (w : Wire) (b : List ℕ) (v : Wire) → Writes w b v → w .told + length b < 2 ^ 64
+      → (v .told ≡ w .told + length b) × (v .reads ≡ w .reads) × (v .got ≡ w .got)
+      × (v .ended ≡ w .ended) × (v .failed ≡ w .failed)
+
 -- blocks, the latest first, as one input
 abbrev pub input-of : List (List ℕ) → List ℕ
 input-of [] = []

@@ -5,6 +5,7 @@ use native.Mathlib.Omega.{arith}
 use borrow.Author.Needs.{needs}
 use borrow.Author.Tests.{ltb-true}
 use Rattle.campaigns.specs.declared.Phase.{Phase}
+use Rattle.campaigns.proofs.Meanings.{running-means}
 use Rattle.questions.specs.Questions.{first-failed}
 use Rattle.day.specs.declared.Answer.the-variants.{Done}
 use Rattle.day.specs.declared.Day.{Day}
@@ -12,7 +13,7 @@ use Rattle.day.specs.declared.Outcome.{Outcome}
 use Rattle.day.specs.Day.{state-of, in-phase}
 use Rattle.day.specs.Calls.{Call, questions, head-marked}
 use Rattle.day.specs.Calls.Call.{mark-campaign}
-use Rattle.day.proofs.State.{running-is, sound-facts}
+use Rattle.day.proofs.State.{sound-facts}
 use Rattle.day.proofs.Questions.{Yes, asked-yes, call-yes}
 use Rattle.day.proofs.Steps.{steps-refused, own-asks}
 use Rattle.day.proofs.ops.mark_sound.Statement.{statement}
@@ -58,7 +59,7 @@ returns-2 : tie.Need-returns-2
 returns-2 c =
     let d = c .before .before in
     let s = d .before .before in
-    ap₂ (marks (state s)) (sym (running-is (s .args .head .phase) (yes d .1 .0))) (c .marked .ensures)
+    ap₂ (marks (state s)) (sym (running-means (s .args .head .phase) .0 (yes d .1 .0))) (c .marked .ensures)
     ∙ sym (call-yes (state s) (ask s) (yes d))
 
 pub mark-sound-spec : {M : Type 1} → statement M
