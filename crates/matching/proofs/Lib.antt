@@ -8,4 +8,4 @@ pub mod Method
 pub mod Matching
 pub mod Best
 pub mod Examples
-pub mod Refusals
+pub mod Unreached

@@ -1,13 +1,13 @@
 -- What is told over an input is what its session answers over the whole of it: feeding composes, and what was answered
 -- before stays in front.
-use mathlib.Core.Path.{_≡_, refl, sym, ap, ap₂, _∙_}
+use mathlib.Core.Path.{_≡_, refl, sym, ap, _∙_}
 use mathlib.Core.List.{List, _++_}
 use Prim.Native.Nat.{ℕ}
 use Rattle.reply.specs.Session.{Session, fed}
 use Rattle.reply.proofs.Sessions.{fed-append}
 use Rattle.stream.specs.declared.feed.Stream.{Stream}
 use Rattle.stream.specs.Chunking.{all-output}
-use Rattle.stream.specs.Stream.{finished, session-of, silent}
+use Rattle.stream.specs.Stream.{finished, session-of}
 use Rattle.stream.proofs.Chunking.{output-said, output-at-end}
 use Rattle.pumpday.specs.Telling.{Tells-over, Told-answers}
 use Rattle.pumpday.specs.Telling.Tells-over.{at-end, part}

@@ -57,7 +57,8 @@ pub record Writes (w : Wire) (b : List ℕ) (v : Wire) : Type 0 where
 
 -- While no count runs over 2^64, a read counts itself and its bytes, and a telling its bytes; neither touches the other.
 pub record Wire-counts : Type 0 where
-  pub reading : (w : Wire) (l : List ℕ) (n : ℕ) (v : Wire) → Reads w l n v → w .reads < max-reads → w .got + n < 2 ^ 64
+  pub reading : (w : Wire) (l : List ℕ) (n : ℕ) (v : Wire) → Reads w l n v
+      → w .reads < max-reads → w .got + n < 2 ^ 64
       → (v .reads ≡ w .reads + 1) × (v .got ≡ w .got + n) × (v .told ≡ w .told) × (v .sent ≡ w .sent)
   pub telling : (w : Wire) (b : List ℕ) (v : Wire) → Writes w b v → w .told + length b < 2 ^ 64
       → (v .told ≡ w .told + length b) × (v .reads ≡ w .reads) × (v .got ≡ w .got)

@@ -11,19 +11,34 @@ use Rattle.powers.proofs.power.Statement.{statement}
 use Rattle.powers.proofs.power.Tie as tie
 
 sub-row : tie.Need-sub-row
-sub-row c = let h = inside-means (c .before .args .width) (c .before .args .exponent) .0 (c .if1 .taken) in omega arith
+sub-row c =
+    let a = c .before .args in
+    let h = inside-means (a .width) (a .exponent) .0 (c .if1 .taken) in
+    omega arith
 
 mul-result : tie.Need-mul-result
-mul-result c = let h = inside-means (c .before .args .width) (c .before .args .exponent) .0 (c .if1 .taken) in omega arith
+mul-result c =
+    let a = c .before .args in
+    let h = inside-means (a .width) (a .exponent) .0 (c .if1 .taken) in
+    omega arith
 
 mul-result-2 : tie.Need-mul-result-2
-mul-result-2 c = let h = inside-means (c .before .args .width) (c .before .args .exponent) .0 (c .if1 .taken) in omega arith
+mul-result-2 c =
+    let a = c .before .args in
+    let h = inside-means (a .width) (a .exponent) .0 (c .if1 .taken) in
+    omega arith
 
 index-1-result : tie.Need-index-1-result
-index-1-result c = let h = inside-means (c .before .args .width) (c .before .args .exponent) .0 (c .if1 .taken) in omega arith
+index-1-result c =
+    let a = c .before .args in
+    let h = inside-means (a .width) (a .exponent) .0 (c .if1 .taken) in
+    omega arith
 
 index-2-result : tie.Need-index-2-result
-index-2-result c = let h = inside-means (c .before .args .width) (c .before .args .exponent) .0 (c .if1 .taken) in omega arith
+index-2-result c =
+    let a = c .before .args in
+    let h = inside-means (a .width) (a .exponent) .0 (c .if1 .taken) in
+    omega arith
 
 returns : tie.Need-returns
 unfolding grid row-of table entry listed
