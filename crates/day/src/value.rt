@@ -1,5 +1,4 @@
 // The operations on a state by value: copies of its arrays are lent to the operations in place.
-use crate::Answer;
 use crate::Call;
 use crate::Day;
 use crate::Outcome;
