@@ -7,7 +7,7 @@ use native.Mathlib.Omega.{arith}
 use lib.Dec.{leb, eqb}
 use lib.ListN.{length, take, drop, replicate, take-append-drop, length-append}
 use lib.Seq.{take-append-seam, take-all}
-use borrow.Author.Tests.{eqb-true, le-leb}
+use borrow.Author.Tests.{eqb-true, le-leb, lt-leb}
 use Rattle.day.specs.declared.Day.{Day}
 use Rattle.day.specs.Day.{blank}
 use Rattle.reply.specs.Reply.{reply, next}
@@ -19,7 +19,8 @@ use Rattle.stream.specs.declared.feed.Fed.{Fed}
 use Rattle.stream.specs.Input.{joined, Plain, All-plain, Split, last-line, all-lines, after-lines, replies}
 use Rattle.stream.specs.Stream.{finished, session, new-stream, session-of, silent, Comes-to, Feeds, Finishes}
 use Rattle.stream.specs.Chunking.{Feeding, In-blocks, stream-after, all-written, all-output}
-use Rattle.stream.specs.Chunking.{Last-line-counts, Any-input, Always-split, Room-for-all, Any-chunking}
+use Rattle.stream.specs.Chunking.{Last-line-counts, Any-input, Always-split, Room-for-all, No-room-stays}
+use Rattle.stream.specs.Chunking.{Any-chunking}
 use Rattle.batch.proofs.Rests.{rest-fed}
 
 abbrev pub with-said : Session → List ℕ → Session
@@ -237,6 +238,19 @@ any-chunking k input fs t d e r room h plain short i =
     all-written-is d e r room k input fs t h
     ∙ ap (λ (y : Session). finished y .output) (kept-first (k .day) p input plain short)
     ∙ ap (λ (y : Session). y .output) (any-input (k .day) (p ++ input) i)
+
+-- without room for the longest answer nothing is done at the end of input
+pub no-room-stays : No-room-stays
+no-room-stays k d e r short h =
+    let x = session-of k in
+    let o : Comes-to x 0 d e r =
+    subst (λ (b : Bool). Comes-to (cond b (finished x) x) 0 d e r) (lt-leb reply-room (length d) short) h in
+    let back = o .back-is in (
+      ap (λ (b : Fed). b .stream) back,
+      ap (λ (b : Fed). b .consumed) back,
+      ap (λ (b : Fed). b .written) back,
+      o .out-is,
+    )
 
 -- with room for all answers every byte is taken
 answers-grow : (x : Session) (l : List ℕ) → length (x .output) ≤ length (fed x l .output)

@@ -1,7 +1,7 @@
 -- A stream that is handed a whole input in blocks.
 use mathlib.Core.Path.{_≡_}
 use mathlib.Core.List.{List, [], _∷_, _++_}
-use Prim.Native.Nat.{ℕ, _+_, _≤_}
+use Prim.Native.Nat.{ℕ, _+_, _≤_, _<_}
 use lib.ListN.{length, take, drop}
 use Rattle.day.specs.declared.Day.{Day}
 use Rattle.lines.specs.Limits.{line-buffer}
@@ -9,7 +9,7 @@ use Rattle.reply.specs.Session.{Session, reply-room, fed, consumed-count}
 use Rattle.stream.specs.declared.feed.Stream.{Stream}
 use Rattle.stream.specs.declared.feed.Fed.{Fed}
 use Rattle.stream.specs.Input.{Plain, Split, all-lines, after-lines, replies}
-use Rattle.stream.specs.Stream.{finished, session, Feeds, Finishes}
+use Rattle.stream.specs.Stream.{finished, session, session-of, stream-of, Feeds, Finishes}
 
 -- one call of `feed`: the bytes handed in, those of the input behind them, the buffer before and after, and what came
 -- back
@@ -60,6 +60,12 @@ Always-split = (input : List ℕ) → Split input
 abbrev pub Room-for-all : Type 0
 Room-for-all =
     (n : ℕ) (x : Session) (l : List ℕ) → length (fed x l .output) + reply-room ≤ n → consumed-count n x l ≡ length l
+
+-- without the room for the longest answer the end of input is not taken: what is held stays, and so does the buffer
+abbrev pub No-room-stays : Type 0
+No-room-stays =
+    (k : Stream) (d e : List ℕ) (r : Fed) → length d < reply-room → Finishes k d e r
+    → (r .stream ≡ stream-of (session-of k)) × (r .consumed ≡ 0) × (r .written ≡ 0) × (e ≡ d)
 
 -- A stream of any state, perhaps with the first bytes of a line kept, that is handed an input in any blocks, each with
 -- any room, and then its end, with room for the longest answer: it writes the answers to the lines of these bytes and
