@@ -69,10 +69,11 @@ No-room-stays =
 
 -- A stream of any state, perhaps with the first bytes of a line kept, that is handed an input in any blocks, each with
 -- any room, and then its end, with room for the longest answer: it writes the answers to the lines of these bytes and
--- the input, from its state on, and nothing else.
+-- the input, from its state on, and nothing else, and holds the state after them.
 abbrev pub Any-chunking : Type 0
 Any-chunking =
     (k : Stream) (input : List ℕ) (fs : List Feeding) → In-blocks k input fs
     → (d e : List ℕ) (r : Fed) → reply-room ≤ length d → Finishes (stream-after k fs) d e r
     → let kept = take (k .kept) (k .pending) in Plain kept → length kept ≤ line-buffer → (i : Split (kept ++ input))
-    → all-written fs ++ take (r .written) e ≡ replies (k .day) (all-lines i)
+    → (all-written fs ++ take (r .written) e ≡ replies (k .day) (all-lines i))
+    × (r .stream .day ≡ after-lines (k .day) (all-lines i))
