@@ -6,7 +6,7 @@ use Prim.Native.Nat.{ℕ, suc, _+_, _-_, _≤_}
 use native.Mathlib.Omega.{arith}
 use lib.Dec.{leb, eqb}
 use lib.ListN.{length, take, drop, replicate, take-append-drop, length-append}
-use lib.Seq.{take-append-seam, take-all}
+use lib.Seq.{take-append-seam, drop-append-seam, take-all}
 use borrow.Author.Tests.{eqb-true, le-leb, lt-leb}
 use Rattle.day.specs.declared.Day.{Day}
 use Rattle.day.specs.Day.{blank}
@@ -17,10 +17,11 @@ use Rattle.reply.proofs.Sessions.{cut-reply, cut-next, fed-append, byte-plain, 
 use Rattle.stream.specs.declared.feed.Stream.{Stream}
 use Rattle.stream.specs.declared.feed.Fed.{Fed}
 use Rattle.stream.specs.Input.{joined, Plain, All-plain, Split, last-line, all-lines, after-lines, replies}
-use Rattle.stream.specs.Stream.{finished, session, new-stream, session-of, silent, Comes-to, Feeds, Finishes}
+use Rattle.stream.specs.Stream.{finished, session, new-stream, session-of, silent, handed-back}
+use Rattle.stream.specs.Stream.{Comes-to, Feeds, Finishes}
 use Rattle.stream.specs.Chunking.{Feeding, In-blocks, stream-after, all-written, all-output}
 use Rattle.stream.specs.Chunking.{Last-line-counts, Any-input, Always-split, Room-for-all, No-room-stays}
-use Rattle.stream.specs.Chunking.{Any-chunking}
+use Rattle.stream.specs.Chunking.{Keeps-behind, Always-keeps-behind, Any-chunking}
 use Rattle.batch.proofs.Rests.{rest-fed}
 
 abbrev pub with-said : Session → List ℕ → Session
@@ -283,6 +284,18 @@ no-room-stays k d e r short h =
       ap (λ (b : Fed). b .written) back,
       o .out-is,
     )
+
+-- what stands behind the answers, and behind the bytes kept
+behind : {y : Session} {n : ℕ} {d e : List ℕ} {r : Fed} → Comes-to y n d e r → Keeps-behind d e r
+behind {y} {n} {d} {e} {r} h =
+    subst⁻¹ (Keeps-behind d e) (h .back-is) (subst⁻¹ (λ (o : List ℕ). Keeps-behind d o (handed-back y n)) (h .out-is)
+    (record {
+      buffer-stays = drop-append-seam (y .output) (drop (length (y .output)) d);
+      zeros-behind = drop-append-seam (y .pending) (replicate (line-buffer - length (y .pending)) 0);
+    }))
+
+pub always-keeps-behind : Always-keeps-behind
+always-keeps-behind k d e r = (λ l h. behind h, behind)
 
 -- with room for all answers every byte is taken
 answers-grow : (x : Session) (l : List ℕ) → length (x .output) ≤ length (fed x l .output)

@@ -1,8 +1,8 @@
 -- A stream that is handed a whole input in blocks.
 use mathlib.Core.Path.{_≡_}
 use mathlib.Core.List.{List, [], _∷_, _++_}
-use Prim.Native.Nat.{ℕ, _+_, _≤_, _<_}
-use lib.ListN.{length, take, drop}
+use Prim.Native.Nat.{ℕ, _+_, _-_, _≤_, _<_}
+use lib.ListN.{length, take, drop, replicate}
 use Rattle.day.specs.declared.Day.{Day}
 use Rattle.lines.specs.Limits.{line-buffer}
 use Rattle.reply.specs.Session.{Session, reply-room, fed, consumed-count}
@@ -66,6 +66,17 @@ abbrev pub No-room-stays : Type 0
 No-room-stays =
     (k : Stream) (d e : List ℕ) (r : Fed) → length d < reply-room → Finishes k d e r
     → (r .stream ≡ stream-of (session-of k)) × (r .consumed ≡ 0) × (r .written ≡ 0) × (e ≡ d)
+
+-- later bytes of the buffer keep their values, and zero bytes stand behind those kept
+pub record Keeps-behind (d e : List ℕ) (r : Fed) : Type 0 where
+  pub buffer-stays : drop (r .written) e ≡ drop (r .written) d
+  pub zeros-behind : let n = r .stream .kept in drop n (r .stream .pending) ≡ replicate (line-buffer - n) 0
+
+-- so it is after a block and at the end of input, whatever the stream, the block and the room
+abbrev pub Always-keeps-behind : Type 0
+Always-keeps-behind =
+    (k : Stream) (d e : List ℕ) (r : Fed)
+    → ((l : List ℕ) → Feeds k l d e r → Keeps-behind d e r) × (Finishes k d e r → Keeps-behind d e r)
 
 -- A stream of any state, perhaps with the first bytes of a line kept, that is handed an input in any blocks, each with
 -- any room, and then its end, with room for the longest answer: it writes the answers to the lines of these bytes and

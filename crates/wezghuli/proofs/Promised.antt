@@ -1,13 +1,12 @@
 -- The promises of `specs/Promises`: what is stored reads back, since the encodings are faithful; a status is the number
 -- of an answer, and the numbers of all questions are below 100.
-use mathlib.Core.Path.{_≡_, refl, ap, sym, _∙_, subst, subst⁻¹}
+use mathlib.Core.Path.{_≡_, refl, ap, sym, _∙_, subst}
 use mathlib.Core.Bool.{Bool, true, false, cond}
 use mathlib.Core.List.{List, [], _∷_, map}
-use Prim.Native.Nat.{ℕ, zero, suc, _-_, _≤_, _<_}
+use Prim.Native.Nat.{ℕ, zero, suc, _≤_, _<_}
 use native.Mathlib.Omega.{arith}
 use lib.Dec.{leb}
-use lib.ListN.{length, getD, drop, replicate}
-use lib.Seq.{drop-append-seam}
+use lib.ListN.{length, getD, replicate}
 use borrow.Author.Tests.{eq-eqb, lt-ltb, le-ltb, le-leb, lt-leb}
 use Rattle.campaigns.specs.declared.Head.{Head}
 use Rattle.campaigns.specs.Choice.{Choice}
@@ -47,7 +46,7 @@ use Rattle.wezghuli.specs.Library.{read-status, write-status}
 use Rattle.wezghuli.specs.Library.{Lent, stream-in, stream-status, status-in, come-to, feed-after, finish-after}
 use Rattle.wezghuli.specs.Library.{lent-state, page-status}
 use Rattle.wezghuli.specs.Search.{search-status, check-status}
-use Rattle.wezghuli.specs.Promises.{Promises, Fills, left-by, statuses, blank-lent, handed-in}
+use Rattle.wezghuli.specs.Promises.{Promises, left-by, statuses, blank-lent, handed-in}
 use Rattle.wezghuli.proofs.Streamed.{has-room, fed-misused, finish-misused, stream-taken, feed-stays}
 use Rattle.wezghuli.proofs.Streamed.{finish-stays}
 use Rattle.wezghuli.proofs.Kept.{noon-keeps, read-keeps, write-keeps, page-keeps, search-keeps, takings-keeps}
@@ -158,28 +157,6 @@ finishes m e =
     subst (λ (b : Bool). Comes-to (cond b (finished x) x) 0 (m .out) (finish-after m .out) (handed-in (finish-after m)))
     (sym (has-room m e))
     (comes (finished x) 0 (m .out) (finish-after m) (rw (eq-eqb (status-in m) 0 e)))
-
--- what stands behind the answers, and behind the bytes kept
-come-fills : (y : Session) (n : ℕ) (m m' : Lent) → m' ≡ come-to y n (m .out) → Fills m m'
-come-fills y n m m' e =
-    let k = length (y .output) in
-    subst⁻¹ (Fills m) e (record {
-      out-is = drop-append-seam (y .output) (drop k (m .out));
-      pending-is = drop-append-seam (y .pending) (replicate (line-buffer - length (y .pending)) 0);
-    })
-
-feed-fills : (l : List ℕ) (m : Lent) → status-in m ≡ 0 → Fills m (feed-after l m)
-unfolding feed-after
-feed-fills l m e =
-    let x = session-of (stream-in m) in
-    let y = fed x (consumed-bytes x l (m .out)) in
-    let n = consumed-count (length (m .out)) x l in
-    come-fills y n m (feed-after l m) (rw (eq-eqb (status-in m) 0 e))
-
-finish-fills : (m : Lent) → status-in m ≡ 0 → Fills m (finish-after m)
-unfolding finish-after
-finish-fills m e =
-    come-fills (finished (session-of (stream-in m))) 0 m (finish-after m) (rw (eq-eqb (status-in m) 0 e))
 
 -- the numbers of questions
 told-number : (x : ℕ → ℕ) (c : Choice) → number (view-answer x c) ≡ 0
@@ -349,8 +326,6 @@ promises = record {
   stream-from-blank = stream-from-blank;
   feeds = feeds;
   finishes = finishes;
-  feed-fills = feed-fills;
-  finish-fills = finish-fills;
   noon-told = noon-told;
   read-told = read-told;
   write-told = write-told;

@@ -6,9 +6,9 @@ use mathlib.Core.Path.{_≡_}
 use mathlib.Core.Bool.{true, false, cond}
 use mathlib.Core.List.{List, [], _∷_, map}
 use mathlib.Core.Logic.{_⊎_}
-use Prim.Native.Nat.{ℕ, _+_, _-_, _≤_, _<_}
+use Prim.Native.Nat.{ℕ, _+_, _≤_, _<_}
 use lib.Dec.{eqb}
-use lib.ListN.{length, getD, take, drop, replicate}
+use lib.ListN.{length, getD, take, replicate}
 use Rattle.campaigns.specs.View.{full}
 use Rattle.day.specs.Day.{blank}
 use Rattle.day.specs.Day as states
@@ -64,12 +64,6 @@ blank-lent d =
 abbrev pub handed-in : Lent → Fed
 handed-in m =
     record { stream = stream-in m; consumed = getD (m .words) 1 0; written = getD (m .words) 2 0 }
-
--- m has become m': behind the answers the bytes of `out` keep their values, and behind the bytes that are kept of a
--- line its buffer has zero bytes
-pub record Fills (m m' : Lent) : Type 0 where
-  pub out-is : let n = getD (m' .words) 2 0 in drop n (m' .out) ≡ drop n (m .out)
-  pub pending-is : let n = getD (m' .words) 0 0 in drop n (m' .pending) ≡ replicate (line-buffer - n) 0
 
 pub record Promises : Type 0 where
   -- the calls that `wezghuli_open`, `wezghuli_add` and `wezghuli_view` make of their arguments
@@ -138,15 +132,12 @@ pub record Promises : Type 0 where
   pub feed-stays : (l : List ℕ) (m : Lent) → status-in m ≡ 0 → status-in (feed-after l m) ≡ 0
   pub finish-stays : (m : Lent) → status-in m ≡ 0 → status-in (finish-after m) ≡ 0
   -- from the blank memory on it is a new stream, and a block and the end of input leave what the stream hands back, so
-  -- that `Chunking.Any-chunking` speaks of them
+  -- that `Any-chunking` and `Always-keeps-behind` of `crates/stream/specs/Chunking.antt` speak of them
   pub stream-from-blank : (out : List ℕ) → stream-in (blank-lent out) ≡ new-stream
   pub feeds : (l : List ℕ) (m : Lent) → status-in m ≡ 0
       → Feeds (stream-in m) l (m .out) (feed-after l m .out) (handed-in (feed-after l m))
   pub finishes : (m : Lent) → status-in m ≡ 0
       → Finishes (stream-in m) (m .out) (finish-after m .out) (handed-in (finish-after m))
-  -- and what stands behind it
-  pub feed-fills : (l : List ℕ) (m : Lent) → status-in m ≡ 0 → Fills m (feed-after l m)
-  pub finish-fills : (m : Lent) → status-in m ≡ 0 → Fills m (finish-after m)
   -- what a search leaves is accepted by the check, and its takings are the greatest
   pub search-checked : (head terms counts views a a' u u' v v' : List ℕ)
       → search-status head terms counts views a u v ≡ 0 → Search-leaves head terms counts views a a' u u' v v'
