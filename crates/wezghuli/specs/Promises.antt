@@ -122,7 +122,8 @@ pub record Promises : Type 0 where
   pub columns : (head terms counts : List ℕ) (i : ℕ) → let c = states.campaign (lent-state head terms counts) i in
       (c .price ≡ getD terms i 0) × (c .budget ≡ getD terms (i + 64) 0) × (c .plays ≡ getD counts i 0)
       × (c .turns ≡ getD counts (i + 64) 0) × (c .age ≡ getD counts (i + 128) 0) × (c .named ≡ getD counts (i + 192) 0)
-  -- the stream in lent memory: the state there, the line buffer, and as many bytes kept as the first word says
+  -- the stream in lent memory: the state that the operations find there, so that blocks and operations may take turns;
+  -- the line buffer, and as many bytes kept as the first word says
   pub stream-is : (m : Lent) → (stream-in m .day ≡ lent-state (m .head) (m .terms) (m .counts))
       × (stream-in m .pending ≡ m .pending) × (stream-in m .kept ≡ getD (m .words) 0 0)
   -- a head, no more bytes kept than a line buffer has and room for the longest answer are a stream, and what a block
