@@ -294,9 +294,6 @@ room-misuse m e k r =
 
 pub promises : Promises
 promises = record {
-  plan-is = λ k d. refl;
-  campaign-is = λ p b. refl;
-  view-is = λ v. refl;
   head-stays = head-stays;
   next-state = next-state;
   last-state = last-state;

@@ -1,7 +1,7 @@
--- What the functions promise to a caller, besides their contracts: a call is made of the arguments as they are,
--- operations in turn are calls in turn, a refusal and a misuse leave all lent memory, what is given is stored, blocks
--- in turn are handed to one stream, the check accepts what the search leaves and its takings are the greatest, each
--- status is the number of the first question that fails, and misuse is told apart from every refusal.
+-- What the functions promise to a caller, besides their contracts: operations in turn are calls in turn, a refusal and
+-- a misuse leave all lent memory, what is given is stored, blocks in turn are handed to one stream, the check accepts
+-- what the search leaves and its takings are the greatest, each status is the number of the first question that fails,
+-- and misuse is told apart from every refusal.
 use mathlib.Core.Path.{_≡_}
 use mathlib.Core.Bool.{true, false, cond}
 use mathlib.Core.List.{List, [], _∷_, map}
@@ -13,11 +13,9 @@ use Rattle.campaigns.specs.View.{full}
 use Rattle.day.specs.Day.{blank}
 use Rattle.day.specs.Day as states
 use Rattle.day.specs.Calls.{number, Call, call}
-use Rattle.day.specs.Calls.Call.{open-plan, add-campaign, show-view}
 use Rattle.questions.specs.Questions.{first-failed}
 use Rattle.noon.specs.Noon.{floor-figure, noon-questions}
 use Rattle.demands.specs.Transcript.{transcript, final}
-use Rattle.demands.specs.Cases.{plan, campaign-of, view}
 use Rattle.lines.specs.declared.Record.{Record}
 use Rattle.lines.specs.declared.Reading.the-variants.{Got}
 use Rattle.lines.specs.Limits.{line-buffer}
@@ -66,10 +64,6 @@ handed-in m =
     record { stream = stream-in m; consumed = getD (m .words) 1 0; written = getD (m .words) 2 0 }
 
 pub record Promises : Type 0 where
-  -- the calls that `wezghuli_open`, `wezghuli_add` and `wezghuli_view` make of their arguments
-  pub plan-is : (k d : ℕ) → plan k d ≡ open-plan (record { depth = k; width = d })
-  pub campaign-is : (p b : ℕ) → campaign-of p b ≡ add-campaign (record { price = p; budget = b })
-  pub view-is : (v : ℕ) → view v ≡ show-view (record { set = v })
   -- an operation leaves a head, and the state that the call hands back
   pub head-stays : (k : Call) (m : Memory) → is-head (m .head) ≡ true → is-head (memory-after k m .head) ≡ true
   pub next-state : (k : Call) (m : Memory) → is-head (m .head) ≡ true → state (memory-after k m) ≡ call (state m) k .day
