@@ -33,7 +33,7 @@ use Rattle.lines.proofs.Inverse.{one-text}
 use Rattle.page.specs.Printing as page
 use Rattle.page.proofs.Promises as pages
 use Rattle.writer.specs.Writing as writer
-use Rattle.writer.proofs.Numbers.{number-and-values}
+use Rattle.writer.proofs.Numbers as writers
 use Rattle.reply.specs.Session.{Session, reply-room, fed, consumed-count}
 use Rattle.stream.specs.Stream.{new-stream, finished, session-of, stream-at, stream-of, consumed-bytes, handed-back}
 use Rattle.stream.specs.Stream.{Comes-to, Feeds, Finishes}
@@ -230,7 +230,7 @@ write-small : (r : Record) (d : List ℕ) → writer.number (writer.writing r d)
 unfolding writer.write-question
 write-small r d =
     let fits = leb (length (writer.line r)) (length d) in
-    subst (λ (q : ℕ). q < 100) (sym (number-and-values r d .number-is))
+    subst (λ (q : ℕ). q < 100) (sym (writers.tells r d .number-is))
     (small (in-range r) (cond fits 0 18) 17 (small fits 0 18 (omega arith) (omega arith)) (omega arith))
 
 a-form : (w : List ℕ) → getD w 0 0 ≤ 12 → is-form w ≡ true
@@ -241,7 +241,7 @@ write-refusal : (w d : List ℕ) → getD w 0 0 ≤ 12 → write-status w d < 10
 write-refusal w d k = rw (a-form w k) (write-small (record-of w) d)
 
 write-told : (w d : List ℕ) → getD w 0 0 ≤ 12 → write-status w d ≡ writer.write-question (record-of w) d
-write-told w d k = rw (a-form w k) (number-and-values (record-of w) d .number-is)
+write-told w d k = rw (a-form w k) (writers.tells (record-of w) d .number-is)
 
 -- printing a page
 page-small : (s : Day) (d : List ℕ) → page.number (page.printing s d) < 100
