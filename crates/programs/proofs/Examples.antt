@@ -178,7 +178,7 @@ any-blocks bs i d room =
       finishes = h;
       writes =
           any-chunking new-stream (in-one bs) fs t d (answered-in z d) (handed-back z 0) some h plain-nil
-          (omega arith) i;
+          (omega arith) i .0;
     }
 
 -- The day.

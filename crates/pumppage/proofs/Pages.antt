@@ -18,8 +18,8 @@ use Rattle.stream.specs.declared.feed.Stream.{Stream}
 use Rattle.stream.specs.declared.feed.Fed.{Fed}
 use Rattle.stream.specs.Stream.{finished, new-stream, session, session-of, silent, Feeds, Finishes}
 use Rattle.stream.specs.Input.{last-line, after-lines, Split}
-use Rattle.stream.proofs.Chunking.{session-next, fed-lines, split, state-at-end}
-use Rattle.stream.proofs.Parts.{stream-more, part-fed, part-upto, part-inside, part-further, taken-further, last-comes}
+use Rattle.stream.proofs.Chunking.{session-next, last-comes, fed-lines, split, state-at-end}
+use Rattle.stream.proofs.Parts.{stream-more, part-fed, part-upto, part-inside, part-further, taken-further}
 use Rattle.wire.specs.Wires.{counted-on, max-reads, input-of}
 use Rattle.wire.proofs.Blocks.{no-more}
 use Rattle.wire.proofs.Heard.{Heard, Ended, heard-none, heard-more, untold, ended-failed, ended-told, ended-spent}

@@ -6,8 +6,8 @@ use Prim.Native.Nat.{ℕ, suc, _+_, _-_, _≤_}
 use native.Mathlib.Omega.{arith}
 use lib.Dec.{leb, eqb}
 use lib.ListN.{length, take, drop, replicate, take-append-drop, length-append}
-use lib.Seq.{take-append-seam, take-all}
-use borrow.Author.Tests.{eqb-true, le-leb}
+use lib.Seq.{take-append-seam, drop-append-seam, take-all}
+use borrow.Author.Tests.{eqb-true, le-leb, lt-leb}
 use Rattle.day.specs.declared.Day.{Day}
 use Rattle.day.specs.Day.{blank}
 use Rattle.reply.specs.Reply.{reply, next}
@@ -17,9 +17,11 @@ use Rattle.reply.proofs.Sessions.{cut-reply, cut-next, fed-append, byte-plain, 
 use Rattle.stream.specs.declared.feed.Stream.{Stream}
 use Rattle.stream.specs.declared.feed.Fed.{Fed}
 use Rattle.stream.specs.Input.{joined, Plain, All-plain, Split, last-line, all-lines, after-lines, replies}
-use Rattle.stream.specs.Stream.{finished, session, new-stream, session-of, silent, Comes-to, Feeds, Finishes}
+use Rattle.stream.specs.Stream.{finished, session, new-stream, session-of, silent, handed-back}
+use Rattle.stream.specs.Stream.{Comes-to, Feeds, Finishes}
 use Rattle.stream.specs.Chunking.{Feeding, In-blocks, stream-after, all-written, all-output}
-use Rattle.stream.specs.Chunking.{Last-line-counts, Any-input, Always-split, Room-for-all, Any-chunking}
+use Rattle.stream.specs.Chunking.{Last-line-counts, Any-input, Always-split, Room-for-all, No-room-stays}
+use Rattle.stream.specs.Chunking.{Keeps-behind, Always-keeps-behind, Any-chunking}
 use Rattle.batch.proofs.Rests.{rest-fed}
 
 abbrev pub with-said : Session → List ℕ → Session
@@ -68,6 +70,10 @@ output-said x l =
     ap (λ (z : Session). finished z .output) (fed-said x l)
     ∙ append-assoc (x .output) (y .output) (replies (y .day) (last-line (y .pending)))
 
+day-said : (x : Session) (l : List ℕ) → finished (fed x l) .day ≡ finished (fed (silent x) l) .day
+unfolding finished
+day-said x l = ap (λ (y : Session). finished y .day) (fed-said x l)
+
 -- In blocks.
 
 -- what is put at the front is what was said
@@ -105,33 +111,60 @@ written-inside {y} {n} {d} h =
     let e = ap length (h .out-is) in
     omega (arith, w, e, length-append (y .output) (drop (length (y .output)) d))
 
--- all that is written, with the end of input, is what the whole input says
+-- the end of input, with room for the longest answer
+pub last-comes : (k : Stream) (d e : List ℕ) (r : Fed) → reply-room ≤ length d → Finishes k d e r
+    → Comes-to (finished (session-of k)) 0 d e r
+last-comes k d e r room f =
+    subst (λ (b : Bool). Comes-to (cond b (finished (session-of k)) (session-of k)) 0 d e r)
+    (le-leb reply-room (length d) room) f
+
+-- the first of the blocks: what the stream comes to, and what is left of the input
+module _ (k : Stream) (f : Feeding) where
+  abbrev come : Session
+  come = fed (session-of k) (take (f .back .consumed) (f .block))
+
+  abbrev left : List ℕ
+  left = drop (f .back .consumed) (f .block) ++ f .later
+
+  comes : Feeds k (f .block) (f .before) (f .after) (f .back)
+      → Comes-to come (f .back .consumed) (f .before) (f .after) (f .back)
+  comes h =
+      subst⁻¹ (λ (i : ℕ). Comes-to (fed (session-of k) (take i (f .block))) i (f .before) (f .after) (f .back))
+      (ap (λ (b : Fed). b .consumed) (h .back-is)) h
+
+  left-follows : (l : List ℕ) → l ≡ f .block ++ f .later → fed (session-of k) l ≡ fed come left
+  left-follows l e =
+      let n = f .back .consumed in
+      ap (fed (session-of k)) (e ∙ ap (λ (w : List ℕ). w ++ f .later) (sym (take-append-drop n (f .block)))
+      ∙ append-assoc (take n (f .block)) (drop n (f .block)) (f .later))
+      ∙ fed-append (session-of k) (take n (f .block)) left
+
+-- with the end of input, all that is written is what the whole input says, and the state is that at its end
 module _ (d e : List ℕ) (r : Fed) (room : reply-room ≤ length d) where
   all-written-is : (k : Stream) (l : List ℕ) (fs : List Feeding) → In-blocks k l fs → Finishes (stream-after k fs) d e r
       → all-written fs ++ take (r .written) e ≡ all-output (session-of k) l
   unfolding fed
   all-written-is k l [] t h =
-      front-said
-      (subst (λ (b : Bool). Comes-to (cond b (finished (session-of k)) (session-of k)) 0 d e r)
-      (le-leb reply-room (length d) room) h)
-      ∙ ap (all-output (session-of k)) (sym t)
+      front-said (last-comes k d e r room h) ∙ ap (all-output (session-of k)) (sym t)
   all-written-is k l (f ∷ fs) t h =
-      let x = session-of k in
-      let n = f .back .consumed in
-      let y = fed x (take n (f .block)) in
-      let m = drop n (f .block) ++ f .later in
-      let o : Comes-to y n (f .before) (f .after) (f .back) =
-      subst⁻¹ (λ (i : ℕ). Comes-to (fed x (take i (f .block))) i (f .before) (f .after) (f .back))
-      (ap (λ (b : Fed). b .consumed) (t .1 .back-is)) (t .1) in
-      let z : fed x l ≡ fed y m =
-      ap (fed x) (t .0 ∙ ap (λ (w : List ℕ). w ++ f .later) (sym (take-append-drop n (f .block)))
-      ∙ append-assoc (take n (f .block)) (drop n (f .block)) (f .later))
-      ∙ fed-append x (take n (f .block)) m in
+      let o = comes k f (t .1) in
       append-assoc (take (f .back .written) (f .after)) (all-written fs) (take (r .written) e)
-      ∙ ap₂ _++_ (front-said o) (all-written-is (f .back .stream) m fs (t .2) h
-      ∙ ap (λ (s : Session). all-output s m) (session-next o))
-      ∙ sym (output-said y m)
-      ∙ sym (ap (λ (s : Session). finished s .output) z)
+      ∙ ap₂ _++_ (front-said o) (all-written-is (f .back .stream) (left k f) fs (t .2) h
+      ∙ ap (λ (s : Session). all-output s (left k f)) (session-next o))
+      ∙ sym (output-said (come k f) (left k f))
+      ∙ sym (ap (λ (s : Session). finished s .output) (left-follows k f l (t .0)))
+
+  state-left-is : (k : Stream) (l : List ℕ) (fs : List Feeding) → In-blocks k l fs → Finishes (stream-after k fs) d e r
+      → r .stream .day ≡ finished (fed (session-of k) l) .day
+  unfolding fed
+  state-left-is k l [] t h =
+      ap (λ (b : Fed). b .stream .day) (last-comes k d e r room h .back-is)
+      ∙ ap (λ (m : List ℕ). finished (fed (session-of k) m) .day) (sym t)
+  state-left-is k l (f ∷ fs) t h =
+      state-left-is (f .back .stream) (left k f) fs (t .2) h
+      ∙ ap (λ (s : Session). finished (fed s (left k f)) .day) (session-next (comes k f (t .1)))
+      ∙ sym (day-said (come k f) (left k f))
+      ∙ sym (ap (λ (s : Session). finished s .day) (left-follows k f l (t .0)))
 
 -- As lines.
 
@@ -234,9 +267,35 @@ kept-first s p l plain short =
 pub any-chunking : Any-chunking
 any-chunking k input fs t d e r room h plain short i =
     let p = take (k .kept) (k .pending) in
-    all-written-is d e r room k input fs t h
-    ∙ ap (λ (y : Session). finished y .output) (kept-first (k .day) p input plain short)
-    ∙ ap (λ (y : Session). y .output) (any-input (k .day) (p ++ input) i)
+    let end = ap finished (kept-first (k .day) p input plain short) ∙ any-input (k .day) (p ++ input) i in (
+      all-written-is d e r room k input fs t h ∙ ap (λ (y : Session). y .output) end,
+      state-left-is d e r room k input fs t h ∙ ap (λ (y : Session). y .day) end,
+    )
+
+-- without room for the longest answer nothing is done at the end of input
+pub no-room-stays : No-room-stays
+no-room-stays k d e r short h =
+    let x = session-of k in
+    let o : Comes-to x 0 d e r =
+    subst (λ (b : Bool). Comes-to (cond b (finished x) x) 0 d e r) (lt-leb reply-room (length d) short) h in
+    let back = o .back-is in (
+      ap (λ (b : Fed). b .stream) back,
+      ap (λ (b : Fed). b .consumed) back,
+      ap (λ (b : Fed). b .written) back,
+      o .out-is,
+    )
+
+-- what stands behind the answers, and behind the bytes kept
+behind : {y : Session} {n : ℕ} {d e : List ℕ} {r : Fed} → Comes-to y n d e r → Keeps-behind d e r
+behind {y} {n} {d} {e} {r} h =
+    subst⁻¹ (Keeps-behind d e) (h .back-is) (subst⁻¹ (λ (o : List ℕ). Keeps-behind d o (handed-back y n)) (h .out-is)
+    (record {
+      buffer-stays = drop-append-seam (y .output) (drop (length (y .output)) d);
+      zeros-behind = drop-append-seam (y .pending) (replicate (line-buffer - length (y .pending)) 0);
+    }))
+
+pub always-keeps-behind : Always-keeps-behind
+always-keeps-behind k d e r = (λ l h. behind h, behind)
 
 -- with room for all answers every byte is taken
 answers-grow : (x : Session) (l : List ℕ) → length (x .output) ≤ length (fed x l .output)

@@ -1,7 +1,6 @@
 -- A block that is fed part by part, each as far as there is room for its answers: a part and then a part is a part
 -- (`stream-more`, `said-more`), and each part takes a byte at least (`part-further`).
 use mathlib.Core.Path.{_≡_, sym, ap, _∙_, subst}
-use mathlib.Core.Bool.{Bool, cond}
 use mathlib.Core.List.{List, [], _∷_, _++_}
 use Prim.Native.Nat.{ℕ, _+_, _-_, _≤_, _<_}
 use native.Mathlib.Omega.{arith}
@@ -12,7 +11,7 @@ use Rattle.reply.specs.Session.{Session, reply-room, fed, consumed-count}
 use Rattle.reply.proofs.Sessions.{fed-append}
 use Rattle.stream.specs.declared.feed.Stream.{Stream}
 use Rattle.stream.specs.declared.feed.Fed.{Fed}
-use Rattle.stream.specs.Stream.{finished, session-of, silent, Comes-to, Feeds, Finishes}
+use Rattle.stream.specs.Stream.{session-of, silent, Feeds}
 use Rattle.stream.proofs.Chunking.{with-said, fed-said, taken-inside}
 
 -- y is what x has come to by l, its answers handed over: b more
@@ -64,10 +63,3 @@ module _ (k : Stream) (l d : List ℕ) (from to : ℕ)
   taken-further =
       let i = consumed-count (length d) (session-of k) (drop from l) in
       sym (ap (λ (j : ℕ). take j l) e ∙ take-add from i l)
-
--- the end of input, with room for the longest answer
-pub last-comes : (k : Stream) (d e : List ℕ) (r : Fed) → reply-room ≤ length d → Finishes k d e r
-    → Comes-to (finished (session-of k)) 0 d e r
-last-comes k d e r room f =
-    subst (λ (b : Bool). Comes-to (cond b (finished (session-of k)) (session-of k)) 0 d e r)
-    (le-leb reply-room (length d) room) f

@@ -1,15 +1,15 @@
 -- A stream that is handed a whole input in blocks.
 use mathlib.Core.Path.{_≡_}
 use mathlib.Core.List.{List, [], _∷_, _++_}
-use Prim.Native.Nat.{ℕ, _+_, _≤_}
-use lib.ListN.{length, take, drop}
+use Prim.Native.Nat.{ℕ, _+_, _-_, _≤_, _<_}
+use lib.ListN.{length, take, drop, replicate}
 use Rattle.day.specs.declared.Day.{Day}
 use Rattle.lines.specs.Limits.{line-buffer}
 use Rattle.reply.specs.Session.{Session, reply-room, fed, consumed-count}
 use Rattle.stream.specs.declared.feed.Stream.{Stream}
 use Rattle.stream.specs.declared.feed.Fed.{Fed}
 use Rattle.stream.specs.Input.{Plain, Split, all-lines, after-lines, replies}
-use Rattle.stream.specs.Stream.{finished, session, Feeds, Finishes}
+use Rattle.stream.specs.Stream.{finished, session, session-of, stream-of, Feeds, Finishes}
 
 -- one call of `feed`: the bytes handed in, those of the input behind them, the buffer before and after, and what came
 -- back
@@ -61,12 +61,30 @@ abbrev pub Room-for-all : Type 0
 Room-for-all =
     (n : ℕ) (x : Session) (l : List ℕ) → length (fed x l .output) + reply-room ≤ n → consumed-count n x l ≡ length l
 
+-- without the room for the longest answer the end of input is not taken: what is held stays, and so does the buffer
+abbrev pub No-room-stays : Type 0
+No-room-stays =
+    (k : Stream) (d e : List ℕ) (r : Fed) → length d < reply-room → Finishes k d e r
+    → (r .stream ≡ stream-of (session-of k)) × (r .consumed ≡ 0) × (r .written ≡ 0) × (e ≡ d)
+
+-- later bytes of the buffer keep their values, and zero bytes stand behind those kept
+pub record Keeps-behind (d e : List ℕ) (r : Fed) : Type 0 where
+  pub buffer-stays : drop (r .written) e ≡ drop (r .written) d
+  pub zeros-behind : let n = r .stream .kept in drop n (r .stream .pending) ≡ replicate (line-buffer - n) 0
+
+-- so it is after a block and at the end of input, whatever the stream, the block and the room
+abbrev pub Always-keeps-behind : Type 0
+Always-keeps-behind =
+    (k : Stream) (d e : List ℕ) (r : Fed)
+    → ((l : List ℕ) → Feeds k l d e r → Keeps-behind d e r) × (Finishes k d e r → Keeps-behind d e r)
+
 -- A stream of any state, perhaps with the first bytes of a line kept, that is handed an input in any blocks, each with
 -- any room, and then its end, with room for the longest answer: it writes the answers to the lines of these bytes and
--- the input, from its state on, and nothing else.
+-- the input, from its state on, and nothing else, and holds the state after them.
 abbrev pub Any-chunking : Type 0
 Any-chunking =
     (k : Stream) (input : List ℕ) (fs : List Feeding) → In-blocks k input fs
     → (d e : List ℕ) (r : Fed) → reply-room ≤ length d → Finishes (stream-after k fs) d e r
     → let kept = take (k .kept) (k .pending) in Plain kept → length kept ≤ line-buffer → (i : Split (kept ++ input))
-    → all-written fs ++ take (r .written) e ≡ replies (k .day) (all-lines i)
+    → (all-written fs ++ take (r .written) e ≡ replies (k .day) (all-lines i))
+    × (r .stream .day ≡ after-lines (k .day) (all-lines i))

@@ -17,7 +17,7 @@ use Rattle.lines.specs.Reading as lines
 use Rattle.writer.specs.declared.Writing.{Writing}
 use Rattle.writer.specs.declared.Writing.the-variants as writing
 use Rattle.writer.specs.Writing as writer
-use Rattle.writer.proofs.Numbers.{number-and-values}
+use Rattle.writer.proofs.Numbers as writers
 use Rattle.page.specs.declared.Printing.{Printing}
 use Rattle.page.specs.declared.Printing.the-variants as printing
 use Rattle.page.specs.Printing as page
@@ -60,7 +60,7 @@ read-keeps l w = words-stay (lines.reading l) w
 
 line-stays : (r : Record) (d : List ℕ) → (writer.number (writer.writing r d) ≡ 0 → ⊥) → writer.written r d ≡ d
 unfolding writer.written
-line-stays r d h = rw (ne-eqb (writer.write-question r d) 0 (λ z. h (number-and-values r d .number-is ∙ z)))
+line-stays r d h = rw (ne-eqb (writer.write-question r d) 0 (λ z. h (writers.tells r d .number-is ∙ z)))
 
 length-stays : (x : Writing) (l : List ℕ) → (writer.number x ≡ 0 → ⊥) → length-told x l ≡ l
 length-stays (writing.Length n) l h = absurd (h refl)

@@ -1,13 +1,12 @@
 -- The promises of `specs/Promises`: what is stored reads back, since the encodings are faithful; a status is the number
 -- of an answer, and the numbers of all questions are below 100.
-use mathlib.Core.Path.{_≡_, refl, ap, sym, _∙_, subst, subst⁻¹}
+use mathlib.Core.Path.{_≡_, refl, ap, sym, _∙_, subst}
 use mathlib.Core.Bool.{Bool, true, false, cond}
 use mathlib.Core.List.{List, [], _∷_, map}
-use Prim.Native.Nat.{ℕ, zero, suc, _-_, _≤_, _<_}
+use Prim.Native.Nat.{ℕ, zero, suc, _≤_, _<_}
 use native.Mathlib.Omega.{arith}
 use lib.Dec.{leb}
-use lib.ListN.{length, getD, drop, replicate}
-use lib.Seq.{drop-append-seam}
+use lib.ListN.{length, getD, replicate}
 use borrow.Author.Tests.{eq-eqb, lt-ltb, le-ltb, le-leb, lt-leb}
 use Rattle.campaigns.specs.declared.Head.{Head}
 use Rattle.campaigns.specs.Choice.{Choice}
@@ -34,7 +33,7 @@ use Rattle.lines.proofs.Inverse.{one-text}
 use Rattle.page.specs.Printing as page
 use Rattle.page.proofs.Promises as pages
 use Rattle.writer.specs.Writing as writer
-use Rattle.writer.proofs.Numbers.{number-and-values}
+use Rattle.writer.proofs.Numbers as writers
 use Rattle.reply.specs.Session.{Session, reply-room, fed, consumed-count}
 use Rattle.stream.specs.Stream.{new-stream, finished, session-of, stream-at, stream-of, consumed-bytes, handed-back}
 use Rattle.stream.specs.Stream.{Comes-to, Feeds, Finishes}
@@ -47,7 +46,7 @@ use Rattle.wezghuli.specs.Library.{read-status, write-status}
 use Rattle.wezghuli.specs.Library.{Lent, stream-in, stream-status, status-in, come-to, feed-after, finish-after}
 use Rattle.wezghuli.specs.Library.{lent-state, page-status}
 use Rattle.wezghuli.specs.Search.{search-status, check-status}
-use Rattle.wezghuli.specs.Promises.{Promises, Fills, left-by, statuses, blank-lent, handed-in}
+use Rattle.wezghuli.specs.Promises.{Promises, left-by, statuses, blank-lent, handed-in}
 use Rattle.wezghuli.proofs.Streamed.{has-room, fed-misused, finish-misused, stream-taken, feed-stays}
 use Rattle.wezghuli.proofs.Streamed.{finish-stays}
 use Rattle.wezghuli.proofs.Kept.{noon-keeps, read-keeps, write-keeps, page-keeps, search-keeps, takings-keeps}
@@ -159,28 +158,6 @@ finishes m e =
     (sym (has-room m e))
     (comes (finished x) 0 (m .out) (finish-after m) (rw (eq-eqb (status-in m) 0 e)))
 
--- what stands behind the answers, and behind the bytes kept
-come-fills : (y : Session) (n : ℕ) (m m' : Lent) → m' ≡ come-to y n (m .out) → Fills m m'
-come-fills y n m m' e =
-    let k = length (y .output) in
-    subst⁻¹ (Fills m) e (record {
-      out-is = drop-append-seam (y .output) (drop k (m .out));
-      pending-is = drop-append-seam (y .pending) (replicate (line-buffer - length (y .pending)) 0);
-    })
-
-feed-fills : (l : List ℕ) (m : Lent) → status-in m ≡ 0 → Fills m (feed-after l m)
-unfolding feed-after
-feed-fills l m e =
-    let x = session-of (stream-in m) in
-    let y = fed x (consumed-bytes x l (m .out)) in
-    let n = consumed-count (length (m .out)) x l in
-    come-fills y n m (feed-after l m) (rw (eq-eqb (status-in m) 0 e))
-
-finish-fills : (m : Lent) → status-in m ≡ 0 → Fills m (finish-after m)
-unfolding finish-after
-finish-fills m e =
-    come-fills (finished (session-of (stream-in m))) 0 m (finish-after m) (rw (eq-eqb (status-in m) 0 e))
-
 -- the numbers of questions
 told-number : (x : ℕ → ℕ) (c : Choice) → number (view-answer x c) ≡ 0
 told-number x nobody = refl
@@ -253,7 +230,7 @@ write-small : (r : Record) (d : List ℕ) → writer.number (writer.writing r d)
 unfolding writer.write-question
 write-small r d =
     let fits = leb (length (writer.line r)) (length d) in
-    subst (λ (q : ℕ). q < 100) (sym (number-and-values r d .number-is))
+    subst (λ (q : ℕ). q < 100) (sym (writers.tells r d .number-is))
     (small (in-range r) (cond fits 0 18) 17 (small fits 0 18 (omega arith) (omega arith)) (omega arith))
 
 a-form : (w : List ℕ) → getD w 0 0 ≤ 12 → is-form w ≡ true
@@ -264,7 +241,7 @@ write-refusal : (w d : List ℕ) → getD w 0 0 ≤ 12 → write-status w d < 10
 write-refusal w d k = rw (a-form w k) (write-small (record-of w) d)
 
 write-told : (w d : List ℕ) → getD w 0 0 ≤ 12 → write-status w d ≡ writer.write-question (record-of w) d
-write-told w d k = rw (a-form w k) (number-and-values (record-of w) d .number-is)
+write-told w d k = rw (a-form w k) (writers.tells (record-of w) d .number-is)
 
 -- printing a page
 page-small : (s : Day) (d : List ℕ) → page.number (page.printing s d) < 100
@@ -317,9 +294,6 @@ room-misuse m e k r =
 
 pub promises : Promises
 promises = record {
-  plan-is = λ k d. refl;
-  campaign-is = λ p b. refl;
-  view-is = λ v. refl;
   head-stays = head-stays;
   next-state = next-state;
   last-state = last-state;
@@ -349,8 +323,6 @@ promises = record {
   stream-from-blank = stream-from-blank;
   feeds = feeds;
   finishes = finishes;
-  feed-fills = feed-fills;
-  finish-fills = finish-fills;
   noon-told = noon-told;
   read-told = read-told;
   write-told = write-told;

@@ -1,23 +1,21 @@
--- What the functions promise to a caller, besides their contracts: a call is made of the arguments as they are,
--- operations in turn are calls in turn, a refusal and a misuse leave all lent memory, what is given is stored, blocks
--- in turn are handed to one stream, the check accepts what the search leaves and its takings are the greatest, each
--- status is the number of the first question that fails, and misuse is told apart from every refusal.
+-- What the functions promise to a caller, besides their contracts: operations in turn are calls in turn, a refusal and
+-- a misuse leave all lent memory, what is given is stored, blocks in turn are handed to one stream, the check accepts
+-- what the search leaves and its takings are the greatest, each status is the number of the first question that fails,
+-- and misuse is told apart from every refusal.
 use mathlib.Core.Path.{_≡_}
 use mathlib.Core.Bool.{true, false, cond}
 use mathlib.Core.List.{List, [], _∷_, map}
 use mathlib.Core.Logic.{_⊎_}
-use Prim.Native.Nat.{ℕ, _+_, _-_, _≤_, _<_}
+use Prim.Native.Nat.{ℕ, _+_, _≤_, _<_}
 use lib.Dec.{eqb}
-use lib.ListN.{length, getD, take, drop, replicate}
+use lib.ListN.{length, getD, take, replicate}
 use Rattle.campaigns.specs.View.{full}
 use Rattle.day.specs.Day.{blank}
 use Rattle.day.specs.Day as states
 use Rattle.day.specs.Calls.{number, Call, call}
-use Rattle.day.specs.Calls.Call.{open-plan, add-campaign, show-view}
 use Rattle.questions.specs.Questions.{first-failed}
 use Rattle.noon.specs.Noon.{floor-figure, noon-questions}
 use Rattle.demands.specs.Transcript.{transcript, final}
-use Rattle.demands.specs.Cases.{plan, campaign-of, view}
 use Rattle.lines.specs.declared.Record.{Record}
 use Rattle.lines.specs.declared.Reading.the-variants.{Got}
 use Rattle.lines.specs.Limits.{line-buffer}
@@ -65,17 +63,7 @@ abbrev pub handed-in : Lent → Fed
 handed-in m =
     record { stream = stream-in m; consumed = getD (m .words) 1 0; written = getD (m .words) 2 0 }
 
--- m has become m': behind the answers the bytes of `out` keep their values, and behind the bytes that are kept of a
--- line its buffer has zero bytes
-pub record Fills (m m' : Lent) : Type 0 where
-  pub out-is : let n = getD (m' .words) 2 0 in drop n (m' .out) ≡ drop n (m .out)
-  pub pending-is : let n = getD (m' .words) 0 0 in drop n (m' .pending) ≡ replicate (line-buffer - n) 0
-
 pub record Promises : Type 0 where
-  -- the calls that `wezghuli_open`, `wezghuli_add` and `wezghuli_view` make of their arguments
-  pub plan-is : (k d : ℕ) → plan k d ≡ open-plan (record { depth = k; width = d })
-  pub campaign-is : (p b : ℕ) → campaign-of p b ≡ add-campaign (record { price = p; budget = b })
-  pub view-is : (v : ℕ) → view v ≡ show-view (record { set = v })
   -- an operation leaves a head, and the state that the call hands back
   pub head-stays : (k : Call) (m : Memory) → is-head (m .head) ≡ true → is-head (memory-after k m .head) ≡ true
   pub next-state : (k : Call) (m : Memory) → is-head (m .head) ≡ true → state (memory-after k m) ≡ call (state m) k .day
@@ -128,7 +116,8 @@ pub record Promises : Type 0 where
   pub columns : (head terms counts : List ℕ) (i : ℕ) → let c = states.campaign (lent-state head terms counts) i in
       (c .price ≡ getD terms i 0) × (c .budget ≡ getD terms (i + 64) 0) × (c .plays ≡ getD counts i 0)
       × (c .turns ≡ getD counts (i + 64) 0) × (c .age ≡ getD counts (i + 128) 0) × (c .named ≡ getD counts (i + 192) 0)
-  -- the stream in lent memory: the state there, the line buffer, and as many bytes kept as the first word says
+  -- the stream in lent memory: the state that the operations find there, so that blocks and operations may take turns;
+  -- the line buffer, and as many bytes kept as the first word says
   pub stream-is : (m : Lent) → (stream-in m .day ≡ lent-state (m .head) (m .terms) (m .counts))
       × (stream-in m .pending ≡ m .pending) × (stream-in m .kept ≡ getD (m .words) 0 0)
   -- a head, no more bytes kept than a line buffer has and room for the longest answer are a stream, and what a block
@@ -138,15 +127,12 @@ pub record Promises : Type 0 where
   pub feed-stays : (l : List ℕ) (m : Lent) → status-in m ≡ 0 → status-in (feed-after l m) ≡ 0
   pub finish-stays : (m : Lent) → status-in m ≡ 0 → status-in (finish-after m) ≡ 0
   -- from the blank memory on it is a new stream, and a block and the end of input leave what the stream hands back, so
-  -- that `Chunking.Any-chunking` speaks of them
+  -- that `Any-chunking` and `Always-keeps-behind` of `crates/stream/specs/Chunking.antt` speak of them
   pub stream-from-blank : (out : List ℕ) → stream-in (blank-lent out) ≡ new-stream
   pub feeds : (l : List ℕ) (m : Lent) → status-in m ≡ 0
       → Feeds (stream-in m) l (m .out) (feed-after l m .out) (handed-in (feed-after l m))
   pub finishes : (m : Lent) → status-in m ≡ 0
       → Finishes (stream-in m) (m .out) (finish-after m .out) (handed-in (finish-after m))
-  -- and what stands behind it
-  pub feed-fills : (l : List ℕ) (m : Lent) → status-in m ≡ 0 → Fills m (feed-after l m)
-  pub finish-fills : (m : Lent) → status-in m ≡ 0 → Fills m (finish-after m)
   -- what a search leaves is accepted by the check, and its takings are the greatest
   pub search-checked : (head terms counts views a a' u u' v v' : List ℕ)
       → search-status head terms counts views a u v ≡ 0 → Search-leaves head terms counts views a a' u u' v v'

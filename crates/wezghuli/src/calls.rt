@@ -14,11 +14,11 @@ ghost use mathlib.Core.Path.{_≡_};
 ghost use Rattle.day.specs.Day.{blank};
 ghost use Rattle.day.specs.Calls.{number};
 ghost use Rattle.day.specs.InPlace.{asked};
-ghost use Rattle.day.specs.Calls.Call.{start-day, ask-tally, close-day, mark-campaign};
+ghost use Rattle.day.specs.Calls.Call.{open-plan, add-campaign, start-day, show-view, ask-tally, close-day};
+ghost use Rattle.day.specs.Calls.Call.{mark-campaign};
 ghost use mathlib.Core.Bool.{true, false};
 ghost use Rattle.day.specs.Day.{head-of};
 ghost use Rattle.encoding.specs.Encoding.{head-words, answer-after};
-ghost use Rattle.demands.specs.Cases.{plan, campaign-of, view};
 ghost use Rattle.wezghuli.specs.Library.{memory, memory-after, status};
 
 // The blank state: Closed, depth 1, width 1, no campaigns.
@@ -81,10 +81,10 @@ pub extern "C" fn wezghuli_open<'a>(
     width: u64,
     answer: &'a mut [u64; 5],
 ) -> u64
-    ensures { λ r. ⌜ r ≡ status (plan depth width)
+    ensures { λ r. ⌜ r ≡ status (open-plan (record { depth = depth; width = width }))
         (memory (now (head .entry)) (now (terms .entry)) (now (counts .entry)) (now (answer .entry))) ⌝ }
     ensures { λ _. ⌜ memory (now (head .exit)) (now (terms .exit)) (now (counts .exit)) (now (answer .exit))
-        ≡ memory-after (plan depth width)
+        ≡ memory-after (open-plan (record { depth = depth; width = width }))
         (memory (now (head .entry)) (now (terms .entry)) (now (counts .entry)) (now (answer .entry))) ⌝ }
 {
     let plan = Plan {
@@ -104,10 +104,10 @@ pub extern "C" fn wezghuli_add<'a>(
     budget: u64,
     answer: &'a mut [u64; 5],
 ) -> u64
-    ensures { λ r. ⌜ r ≡ status (campaign-of price budget)
+    ensures { λ r. ⌜ r ≡ status (add-campaign (record { price = price; budget = budget }))
         (memory (now (head .entry)) (now (terms .entry)) (now (counts .entry)) (now (answer .entry))) ⌝ }
     ensures { λ _. ⌜ memory (now (head .exit)) (now (terms .exit)) (now (counts .exit)) (now (answer .exit))
-        ≡ memory-after (campaign-of price budget)
+        ≡ memory-after (add-campaign (record { price = price; budget = budget }))
         (memory (now (head .entry)) (now (terms .entry)) (now (counts .entry)) (now (answer .entry))) ⌝ }
 {
     let added = Terms {
@@ -143,10 +143,10 @@ pub extern "C" fn wezghuli_view<'a>(
     set: u64,
     answer: &'a mut [u64; 5],
 ) -> u64
-    ensures { λ r. ⌜ r ≡ status (view set)
+    ensures { λ r. ⌜ r ≡ status (show-view (record { set = set }))
         (memory (now (head .entry)) (now (terms .entry)) (now (counts .entry)) (now (answer .entry))) ⌝ }
     ensures { λ _. ⌜ memory (now (head .exit)) (now (terms .exit)) (now (counts .exit)) (now (answer .exit))
-        ≡ memory-after (view set)
+        ≡ memory-after (show-view (record { set = set }))
         (memory (now (head .entry)) (now (terms .entry)) (now (counts .entry)) (now (answer .entry))) ⌝ }
 {
     answer_call(head, terms, counts, Call::Show(View { set: set }), answer)

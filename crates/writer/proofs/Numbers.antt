@@ -10,9 +10,9 @@ use borrow.Author.Tests.{eqb-true, le-leb, lt-leb}
 use Rattle.writer.specs.declared.Writing.the-variants.{Length, Refusal}
 use Rattle.writer.specs.Writing.{line, write-question, writing, written, number, values, Always-tells}
 
-pub number-and-values : Always-tells
+pub tells : Always-tells
 unfolding writing written write-question line
-number-and-values r d = record {
+tells r d = record {
   number-is = numbered (eqb (write-question r d) 0) refl;
   values-are = valued (eqb (write-question r d) 0);
   out-of-range = λ e. (rw e, rw e);

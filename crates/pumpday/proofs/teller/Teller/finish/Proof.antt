@@ -3,8 +3,7 @@ use mathlib.Core.Path.{sym}
 use lib.Seq.{length-take-le}
 use borrow.Author.Needs.{needs}
 use Rattle.stream.specs.Stream.{finished, session-of, Comes-to}
-use Rattle.stream.proofs.Chunking.{front-said, session-next, written-inside}
-use Rattle.stream.proofs.Parts.{last-comes}
+use Rattle.stream.proofs.Chunking.{front-said, session-next, written-inside, last-comes}
 use Rattle.pumpday.proofs.teller.Teller.finish.Statement.{statement}
 use Rattle.pumpday.proofs.teller.Teller.finish.Tie as tie
 
