@@ -28,7 +28,7 @@ use Rattle.day.specs.Day.{head-of, campaign, sound, audited}
 use Rattle.day.specs.Day as states
 use Rattle.day.proofs.State.{sound-facts, sound-at, held-at, empty-at}
 use Rattle.demands.specs.Door.{Depth-fits, Width-fits, Power-fits, Price-fits, Budget-fits, takings}
-use Rattle.demands.specs.Door.{Campaign-sound, new-campaign, Is-sound, Sound-means, Always-audited}
+use Rattle.demands.specs.Door.{Campaign-sound, new-campaign, Is-sound, Sums-are, Sound-means, Always-audited}
 use Rattle.demands.proofs.Meanings.{depth-means, width-means, power-means, price-means, budget-means}
 use Rattle.demands.proofs.SoundCampaign.{campaign-sound}
 use Rattle.demands.proofs.Sound.{whole-sound}
@@ -141,6 +141,10 @@ sound-passes s h = whole-sound s (record {
   phased = phase-means (s .phase) (s .accepted) (takings s) .1 (h .filling-views, h .closed-holds);
   covered = h .claim-covered;
 })
+
+pub sums-are : Sums-are
+unfolding states.total-takings states.total-budgets states.total-claim claim share weight
+sums-are s = (refl, refl, refl)
 
 pub sound-means : Sound-means
 sound-means s = (sound-holds s, sound-passes s)

@@ -13,6 +13,7 @@ use Rattle.campaigns.specs.declared.Plan.{Plan}
 use Rattle.questions.specs.Questions.{asks, accepts}
 use Rattle.day.specs.declared.Day.{Day}
 use Rattle.day.specs.Day.{campaign, sound, audited}
+use Rattle.day.specs.Day as states
 use Rattle.day.specs.Calls.{number, Call, call}
 use Rattle.day.specs.Calls.Call.{open-plan, add-campaign, start-day, show-view, ask-tally, close-day, mark-campaign}
 
@@ -94,6 +95,12 @@ pub record Is-sound (s : Day) : Type 0 where
   -- document 02's paused marks: an entry past the last has none, and in Filling there is none
   pub marks-within : (i : ℕ) → i < 64 → member (s .paused) i ≡ true → i < s .count
   pub filling-marks : s .phase ≡ Filling → s .paused ≡ 0
+
+-- the sums that the tests and the answers name are these, of every state
+abbrev pub Sums-are : Type 0
+Sums-are =
+    (s : Day) → (states.total-budgets s ≡ total-budgets s) × (states.total-takings s ≡ takings s)
+    × (states.total-claim s ≡ total-claim s)
 
 -- question 1: the tests of soundness pass exactly if the state is sound
 abbrev pub Sound-means : Type 0

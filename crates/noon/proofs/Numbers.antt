@@ -9,17 +9,23 @@ use native.Mathlib.Nat.{le-div-iff-mul-le}
 use native.Mathlib.Omega.{arith}
 use lib.Dec.{eqb}
 use borrow.Author.Tests.{ne-eqb}
+use Rattle.powers.specs.Power.{share}
+use Rattle.campaigns.specs.Campaign.{whole}
 use Rattle.day.specs.Day.{sound}
 use Rattle.questions.specs.Questions.{first-failed, asks, accepts}
 use Rattle.questions.proofs.Asks.{asking, accepting}
 use Rattle.noon.specs.declared.Noon.{Noon}
-use Rattle.noon.specs.Noon.{Due-is-most, number, values, noon-questions, refused-or, figures-of, at-noon}
+use Rattle.noon.specs.Noon.{Due-is-most, due, total-due, Floor-figure-is, number, values, noon-questions, refused-or, figures-of, at-noon}
 use Rattle.noon.specs.Noon.{Always-tells}
 
 pub due-is-most : Due-is-most
 due-is-most k w n m h =
     let most = le-div-iff-mul-le {k = k} {x = m} {y = n} h in
     (λ l. (omega (arith, l), most .0 (omega (arith, l))), λ p. let l = most .1 (p .1) in omega (arith, p .0, l))
+
+pub floor-figure-is : Floor-figure-is
+unfolding share total-due due whole
+floor-figure-is s = refl
 
 numbered : (q : ℕ) (x : Noon) → number x ≡ 0 → number (refused-or q x) ≡ q
 numbered zero x e = e

@@ -3,7 +3,7 @@ use mathlib.Core.Path.{_≡_}
 use mathlib.Core.Bool.{true, cond}
 use mathlib.Core.List.{List, [], _∷_}
 use mathlib.Core.Logic.{_↔_}
-use Prim.Native.Nat.{ℕ, zero, suc, _*_, _/_, _≤_, min}
+use Prim.Native.Nat.{ℕ, zero, suc, _-_, _^_, _*_, _/_, _≤_, min}
 use lib.Dec.{eqb}
 use Rattle.finite.specs.Finite.{sum}
 use Rattle.powers.specs.Power.{share}
@@ -35,6 +35,13 @@ total-due s = sum (s .count) (λ i. campaign s i .price * due (s .plan .depth) (
 -- the floor's figure: (d^k − (d−1)^k) times that sum
 abbrev pub floor-figure : Day → ℕ
 floor-figure s = share (s .plan .depth) (s .plan .width) * total-due s
+
+-- the same in plain powers and divisions
+abbrev pub Floor-figure-is : Type 0
+Floor-figure-is =
+    (s : Day) → let k = s .plan .depth in let d = s .plan .width in
+    floor-figure s ≡ (d ^ k - (d - 1) ^ k)
+    * sum (s .count) (λ i. let c = campaign s i in c .price * min (c .budget / c .price) (c .named / k))
 
 -- the number of an answer, 0 where it is accepted, and its values
 abbrev pub number : Noon → ℕ

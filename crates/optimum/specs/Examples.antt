@@ -97,6 +97,8 @@ checkings =
     checking (0 ∷ 0 ∷ 0 ∷ nobody ∷ []) (5 ∷ 3 ∷ []) (2 ∷ 0 ∷ 0 ∷ 0 ∷ []) verdict.Rejected ∷
     -- the last view does not name campaign 1
     checking (0 ∷ 0 ∷ nobody ∷ 1 ∷ []) (5 ∷ 3 ∷ []) (0 ∷ 0 ∷ 0 ∷ 0 ∷ []) verdict.Rejected ∷
+    -- 128 is no campaign, and nobody is 64 alone
+    checking (0 ∷ 1 ∷ 0 ∷ 128 ∷ []) (5 ∷ 3 ∷ []) (0 ∷ 0 ∷ 0 ∷ 0 ∷ []) verdict.Rejected ∷
     -- a question is asked first
     checking (0 ∷ 1 ∷ 0 ∷ []) (5 ∷ 3 ∷ []) (0 ∷ 0 ∷ 0 ∷ 0 ∷ []) (verdict.Refused 18) ∷ []
 

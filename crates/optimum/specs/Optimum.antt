@@ -4,7 +4,7 @@ use mathlib.Core.Path.{_≡_}
 use mathlib.Core.Bool.{Bool, true, false, cond, _&&_}
 use mathlib.Core.List.{List, [], _∷_}
 use mathlib.Core.Logic.{_↔_}
-use Prim.Native.Nat.{ℕ, zero, suc, _≤_, _<_}
+use Prim.Native.Nat.{ℕ, zero, suc, _/_, _≤_, _<_}
 use lib.Dec.{leb, eqb}
 use lib.ListN.{length, take}
 use Rattle.finite.specs.Finite.{sum, one-if, every}
@@ -28,6 +28,12 @@ plan-price s i = campaign s i .price
 
 abbrev pub plan-whole : Day → ℕ → ℕ
 plan-whole s i = whole (campaign s i)
+
+-- so it is of every state, whatever its phase and counts: whole plays are budget / price rounded down
+abbrev pub Plan-is : Type 0
+Plan-is =
+    (s : Day) (i : ℕ)
+    → (plan-price s i ≡ campaign s i .price) × (plan-whole s i ≡ campaign s i .budget / campaign s i .price)
 
 -- the questions, where entries are lent for an allotment, for campaign figures and for view figures
 abbrev pub questions : Day → (views : List ℕ) → (for-allotment for-campaigns for-views : ℕ) → List Question

@@ -11,8 +11,9 @@ use lib.Bits.{xor-lt}
 use lib.Dec.{ltb, eqb, lit<}
 use lib.Pow.{pow-pos, pow-lt, pow-mono, pow-add, mod-pow-add}
 use borrow.Author.Tests.{eqb-true, eqb-false, eq-eqb, ne-eqb, ltb-true, ltb-false}
+use Rattle.finite.specs.Finite.{sum}
 use Rattle.finite.proofs.Tests.{never}
-use Rattle.sets.specs.Set.{member, collect, without, including, beyond}
+use Rattle.sets.specs.Set.{member, Bits-are, collect, without, including, beyond}
 use Rattle.sets.proofs.Bits.{bit, digit}
 
 -- An operation that works digit by digit works member by member.
@@ -188,6 +189,19 @@ collects set p h e =
     same-members set (collect 64 p) h (collect-lt 64 p) (λ i l. e i l ∙ sym (collect-member 64 p i l))
 
 -- A set without another.
+
+-- a set is collected from its members
+collect-sum : (n : ℕ) (p : ℕ → Bool) → sum n (λ i. cond (p i) (2 ^ i) 0) ≡ collect n p
+unfolding collect sum
+collect-sum zero p = refl
+collect-sum (suc n) p = ap (λ (x : ℕ). x + cond (p n) (2 ^ n) 0) (collect-sum n p)
+
+pub bits-are : Bits-are
+bits-are = record {
+  sum-is = λ set l. collect-sum 64 (member set)
+      ∙ same-members (collect 64 (member set)) set (collect-lt 64 (member set)) l (collect-member 64 (member set));
+  none-beyond = λ set i l h. none-above set 64 l i h;
+}
 
 pub without-member : (set out i : ℕ) → i < 64 → member (without set out) i ≡ (member set i && not (member out i))
 unfolding without

@@ -17,10 +17,13 @@ use Rattle.lines.specs.Reading.{reading}
 use Rattle.writer.specs.Writing as writer
 use Rattle.page.specs.Printing as page
 use Rattle.allotments.specs.Allotment.{at}
+use Rattle.optimum.specs.declared.Optimum.{Optimum}
+use Rattle.optimum.specs.declared.Optimum.the-variants.{Takings}
+use Rattle.optimum.specs.Optimum.{takings-answer}
 use Rattle.encoding.specs.Encoding.{answer-after, is-head, is-form, record-of, record-words}
 use Rattle.wezghuli.specs.Library.{Memory, state, memory-after, lent-state, figures-after, line-after}
 use Rattle.wezghuli.specs.Library.{read-into, record-after, length-after, page-after, page-length-after}
-use Rattle.wezghuli.specs.Search.{Search-leaves}
+use Rattle.wezghuli.specs.Search.{Search-leaves, takings-into, takings-after}
 
 pub answer-is : (k : Call) (m : Memory) → is-head (m .head) ≡ true
     → memory-after k m .answer ≡ answer-after (call (state m) k .answer) (m .answer)
@@ -46,6 +49,10 @@ pub page-is : (h t n d l : List ℕ) → is-head h ≡ true → let s = lent-sta
     → (page-after h t n d ≡ page.printed s d) × (page-length-after h t n d l ≡ length (page.page-of s) ∷ [])
 unfolding page.printing
 page-is h t n d l e q = (rw e, rw (e, eq-eqb (page.page-question (lent-state h t n) d) 0 q))
+
+pub takings-is : (h t n a l : List ℕ) (x : ℕ) → is-head h ≡ true → takings-answer (lent-state h t n) a ≡ Takings x
+    → takings-after h t n a l ≡ x ∷ []
+takings-is h t n a l x e q = rw e (ap (λ (r : Optimum). takings-into r l) q)
 
 pub search-beyond : (h t n views a a' u u' v v' : List ℕ) → is-head h ≡ true
     → Search-leaves h t n views a a' u u' v v' → (j : ℕ)

@@ -50,7 +50,7 @@ use Rattle.wezghuli.specs.Promises.{Promises, left-by, statuses, blank-l
 use Rattle.wezghuli.proofs.Streamed.{has-room, fed-misused, finish-misused, stream-taken, feed-stays}
 use Rattle.wezghuli.proofs.Streamed.{finish-stays}
 use Rattle.wezghuli.proofs.Kept.{noon-keeps, read-keeps, write-keeps, page-keeps, search-keeps, takings-keeps}
-use Rattle.wezghuli.proofs.Given.{answer-is, noon-is, read-is, write-is, page-is, search-beyond}
+use Rattle.wezghuli.proofs.Given.{answer-is, noon-is, read-is, write-is, page-is, takings-is, search-beyond}
 use Rattle.wezghuli.proofs.Low.{small, Low, low-small}
 use Rattle.wezghuli.proofs.Low.Low.{none, then}
 use Rattle.wezghuli.proofs.Asked.{search-refusal, check-refusal, takings-refusal, search-checked}
@@ -294,6 +294,8 @@ room-misuse m e k r =
 
 pub promises : Promises
 promises = record {
+  memory-is = λ h t n a. (refl, refl, refl, refl);
+  lent-is = λ h t n p w d. (refl, refl, refl, refl, refl, refl);
   head-stays = head-stays;
   next-state = next-state;
   last-state = last-state;
@@ -314,6 +316,7 @@ promises = record {
   read-is = read-is;
   write-is = λ w d l k. write-is w d l (a-form w k);
   page-is = page-is;
+  takings-is = takings-is;
   blank-words = λ a. blank-words;
   columns = λ h t n i. (refl, refl, refl, refl, refl, refl);
   stream-is = λ m. (refl, refl, refl);

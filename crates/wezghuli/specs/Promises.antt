@@ -28,7 +28,8 @@ use Rattle.stream.specs.declared.feed.Fed.{Fed}
 use Rattle.stream.specs.Stream.{new-stream, Feeds, Finishes}
 use Rattle.allotments.specs.Limits.{max-handed-in}
 use Rattle.allotments.specs.Allotment.{at, nobody}
-use Rattle.optimum.specs.Optimum.{failed, fits, takings-questions, most-of, Best-allotment}
+use Rattle.optimum.specs.declared.Optimum.the-variants.{Takings}
+use Rattle.optimum.specs.Optimum.{failed, fits, takings-questions, takings-answer, most-of, Best-allotment}
 use Rattle.encoding.specs.Encoding.{no-head, no-form, no-stream, no-room, no-fit, is-head, head-words}
 use Rattle.encoding.specs.Encoding.{answer-after, record-words, record-of, stream-words}
 use Rattle.encoding.specs.Faithful.{seven}
@@ -64,6 +65,12 @@ handed-in m =
     record { stream = stream-in m; consumed = getD (m .words) 1 0; written = getD (m .words) 2 0 }
 
 pub record Promises : Type 0 where
+  -- what the contracts say of lent memory they say of all that is lent, as it stands
+  pub memory-is : (head terms counts answer : List ℕ) → let m = memory head terms counts answer in
+      (m .head ≡ head) × (m .terms ≡ terms) × (m .counts ≡ counts) × (m .answer ≡ answer)
+  pub lent-is : (head terms counts pending words out : List ℕ) → let m = lent head terms counts pending words out in
+      (m .head ≡ head) × (m .terms ≡ terms) × (m .counts ≡ counts)
+      × (m .pending ≡ pending) × (m .words ≡ words) × (m .out ≡ out)
   -- an operation leaves a head, and the state that the call hands back
   pub head-stays : (k : Call) (m : Memory) → is-head (m .head) ≡ true → is-head (memory-after k m .head) ≡ true
   pub next-state : (k : Call) (m : Memory) → is-head (m .head) ≡ true → state (memory-after k m) ≡ call (state m) k .day
@@ -95,7 +102,7 @@ pub record Promises : Type 0 where
   pub takings-keeps : (head terms counts a takings : List ℕ) → (takings-status head terms counts a ≡ 0 → ⊥)
       → takings-after head terms counts a takings ≡ takings
   -- the answer of a call is stored, and so is what else was asked for: full, claim and the floor's figure; the record
-  -- of a line; a line or a page, and its length
+  -- of a line; a line or a page, and its length; what an allotment takes
   pub answer-is : (k : Call) (m : Memory) → is-head (m .head) ≡ true
       → memory-after k m .answer ≡ answer-after (call (state m) k .answer) (m .answer)
   pub noon-is : (head terms counts figures : List ℕ) → is-head head ≡ true
@@ -110,6 +117,8 @@ pub record Promises : Type 0 where
       → let s = lent-state head terms counts in page.page-question s out ≡ 0
       → (page-after head terms counts out ≡ page.printed s out)
       × (page-length-after head terms counts out written ≡ length (page.page-of s) ∷ [])
+  pub takings-is : (head terms counts a takings : List ℕ) (x : ℕ) → is-head head ≡ true
+      → takings-answer (lent-state head terms counts) a ≡ Takings x → takings-after head terms counts a takings ≡ x ∷ []
   -- the words of the blank state: Closed, takings 0, depth 1, width 1, no campaigns, no views, no marks
   pub blank-words : (a : List ℕ) → blank-memory a .head ≡ seven 2 0 1 1 0 0 0
   -- campaign i of the arrays: its price and budget; its plays, turns, age and named
