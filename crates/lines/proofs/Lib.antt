@@ -8,5 +8,6 @@ pub mod Templates
 pub mod Plain
 pub mod Choice
 pub mod Inverse
+pub mod Ranges
 pub mod Before
 pub mod Examples
