@@ -3,6 +3,7 @@ pub mod Places
 pub mod NamePlaces
 pub mod Fields
 pub mod Numerals
+pub mod Decimal
 pub mod NameSets
 pub mod Templates
 pub mod Plain
