@@ -1,4 +1,5 @@
 pub mod Divisors
 pub mod Told
 pub mod Numbers
+pub mod Line
 pub mod Examples

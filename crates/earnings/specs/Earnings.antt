@@ -2,11 +2,13 @@
 use mathlib.Core.Path.{_≡_}
 use mathlib.Core.Bool.{cond}
 use mathlib.Core.List.{List, [], _∷_, _++_}
-use Prim.Native.Nat.{ℕ, zero, suc}
+use Prim.Native.Nat.{ℕ, zero, suc, _^_, _<_}
 use lib.Dec.{eqb}
+use lib.ListN.{take, drop}
 use Rattle.lines.specs.declared.Record.the-variants as lines
 use Rattle.lines.specs.Form.{bytes}
 use Rattle.lines.specs.Numeral.{numeral}
+use Rattle.lines.specs.Reading.{seen, numeral-at}
 use Rattle.writer.specs.Writing.{line}
 use Rattle.campaigns.specs.Limits.{max-campaigns}
 use Rattle.day.specs.declared.Day.{Day}
@@ -58,6 +60,24 @@ unfoldable pub figures-text : (takings greatest : ℕ) → List ℕ
 figures-text t g =
     bytes "(takings " ++ (numeral t ++ (bytes ") (greatest " ++ (numeral g ++ (bytes ") (ratio " ++
     (numeral (ratio-of t g .numerator) ++ (bytes "/" ++ (numeral (ratio-of t g .denominator) ++ bytes ")\n")))))))
+
+-- the figures read back from the bytes of their line: words and numerals in turn, and nothing else
+pub record Reads (t g : ℕ) (l : List ℕ) : Type 0 where
+  -- what is left behind each numeral but the last
+  pub behind-takings : List ℕ
+  pub behind-greatest : List ℕ
+  pub behind-numerator : List ℕ
+  pub takings-word : take 9 l ≡ bytes "(takings "
+  pub takings-are : numeral-at (drop 9 l) ≡ seen t behind-takings
+  pub greatest-word : take 12 behind-takings ≡ bytes ") (greatest "
+  pub greatest-is : numeral-at (drop 12 behind-takings) ≡ seen g behind-greatest
+  pub ratio-word : take 9 behind-greatest ≡ bytes ") (ratio "
+  pub numerator-is : numeral-at (drop 9 behind-greatest) ≡ seen (ratio-of t g .numerator) behind-numerator
+  pub stroke-is : take 1 behind-numerator ≡ bytes "/"
+  pub denominator-is : numeral-at (drop 1 behind-numerator) ≡ seen (ratio-of t g .denominator) (bytes ")\n")
+
+abbrev pub Line-reads : Type 0
+Line-reads = (t g : ℕ) → t < 2 ^ 64 → g < 2 ^ 64 → Reads t g (figures-text t g)
 
 -- that of a refusal is document 01's
 abbrev pub earnings-text : Earnings → List ℕ

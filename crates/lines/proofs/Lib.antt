@@ -3,10 +3,12 @@ pub mod Places
 pub mod NamePlaces
 pub mod Fields
 pub mod Numerals
+pub mod Decimal
 pub mod NameSets
 pub mod Templates
 pub mod Plain
 pub mod Choice
 pub mod Inverse
+pub mod Ranges
 pub mod Before
 pub mod Examples

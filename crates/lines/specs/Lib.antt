@@ -4,5 +4,6 @@ pub mod Form
 pub mod Reading
 pub mod Examples
 pub mod OneText
+pub mod Ranges
 pub mod Contracts
 pub mod Before
