@@ -53,8 +53,8 @@ stays {views} {c = c} h (one-more {to'' = to''} f ch) =
     absurd (ends-free h (subst (λ (l : List ℕ). Chain views l to'' c) (stays h f) ch))
 
 module _ (views : List ℕ) (P : ℕ → Type 0) where
-  -- what k chains leave where each view is given so that P holds. A chain takes a free view, and gives one back if it is
-  -- for nobody, as b of them were
+  -- what k chains leave where P holds of whoever has a view. A chain takes a free view, and gives one back if it is for
+  -- nobody, as b of them were
   record Dealt (to : List ℕ) (k b : ℕ) : Type 0 where
     long : length views ≤ length to
     left : holds views to nobody + k ≤ length views + b
@@ -132,7 +132,8 @@ record Spared (views : List ℕ) (c d : ℕ) (to : List ℕ) (unserved : ℕ) : 
 
 module _ {n : ℕ} {price whole : ℕ → ℕ} {views : List ℕ} {c d : ℕ} (few : n ≤ 64) (plan : c < n) (small : d < n)
     (dearer : price d < price c) (names : All-name views c) (plays : length views ≤ whole c) where
-  spared : {to : List ℕ} {unserved : ℕ} → By-falling-price n price whole views to unserved → Spared views c d to unserved
+  spared : {to : List ℕ} {unserved : ℕ} → By-falling-price n price whole views to unserved
+      → Spared views c d to unserved
   spared (start {to} free all) = record {
     long = long-enough to (length views) free;
     each = λ j k e. omega (arith, few, small, free j k, e);
@@ -168,7 +169,8 @@ module _ {n : ℕ} {price whole : ℕ → ℕ} {views : List ℕ} {c d : ℕ} (f
 
 pub not-reached : Not-reached
 not-reached = record {
-  cheaper-first = λ {j = j} few plan small dearer names plays k e by. spared few plan small dearer names plays by .each j k e;
+  cheaper-first = λ {j = j} few plan small dearer names plays k e by.
+      spared few plan small dearer names plays by .each j k e;
   shared = λ {i = i} {j = j} each k l ne by. go i j k l ne (all-or-none each by);
 }
   where
