@@ -15,7 +15,8 @@ use Rattle.day.specs.Day.{sound}
 use Rattle.questions.specs.Questions.{first-failed, asks, accepts}
 use Rattle.questions.proofs.Asks.{asking, accepting}
 use Rattle.noon.specs.declared.Noon.{Noon}
-use Rattle.noon.specs.Noon.{Due-is-most, due, total-due, Floor-figure-is, number, values, noon-questions, refused-or, figures-of, at-noon}
+use Rattle.noon.specs.Noon.{Due-is-most, due, total-due, Floor-figure-is, number, values, noon-questions}
+use Rattle.noon.specs.Noon.{refused-or, figures-of, at-noon}
 use Rattle.noon.specs.Noon.{Always-tells}
 
 pub due-is-most : Due-is-most

@@ -179,6 +179,13 @@ Search-taken = (s : Day) (views allotment allotment' surplus surplus' worth wort
     → Searched s views allotment allotment' surplus surplus' worth worth' r
     → failed s views allotment surplus worth ≡ 0 → takings-answer s (take (length views) allotment') ≡ r
 
+-- and which is made by serving campaigns in falling price
+abbrev pub Search-by-method : Type 0
+Search-by-method = (s : Day) (views allotment allotment' surplus surplus' worth worth' : List ℕ) (r : Optimum)
+    → Searched s views allotment allotment' surplus surplus' worth worth' r
+    → failed s views allotment surplus worth ≡ 0
+    → By-falling-price (s .count) (plan-price s) (plan-whole s) views allotment' 0
+
 -- the number and the values of the two answers
 pub record Tells (s : Day) (views allotment surplus worth : List ℕ) : Type 0 where
   pub search-number : number (search-answer s views allotment surplus worth) ≡ failed s views allotment surplus worth

@@ -11,7 +11,8 @@ use Rattle.wire.specs.Wires.{counted-on, max-reads, input-of, None-empty}
 use Rattle.pumpday.specs.declared.teller.Teller.{Teller}
 
 -- A whole run. There are blocks, none empty, of as many bytes as the reads gave; which bytes these are no contract can
--- say, and that each block is handed on as it was read is read in the source. As one input they are lines and a rest.
+-- say; that each block is handed on as it was read, and that `run` drops no teller, is read in the source. As one
+-- input they are lines and a rest.
 -- Whatever failed, the program's stream holds the state after the first `answered` lines, and as many bytes were told
 -- as answer these from the blank state on. `Teller::tell` requires of its caller that the bytes are due from that
 -- stream; that it writes these bytes is one line, read in the source. Unless a write failed or `max-reads` reads were

@@ -1,5 +1,5 @@
--- What is told: the answers that are due from the program's stream, over its wire; only `src/teller.rt` can make a
--- teller.
+-- What is told: the answers that are due from the program's stream, over its wire; only `src/teller.rt` can put
+-- a teller together.
 use mathlib.Core.Path.{_≡_}
 use mathlib.Core.Bool.{Bool, true, false}
 use mathlib.Core.List.{List, [], _++_}

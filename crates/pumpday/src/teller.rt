@@ -1,5 +1,5 @@
 // What is told: the answers to lines. A teller has the program's wire and the stream that its input is fed to; its
-// fields are private, so that no other code makes one, writes over its wire or changes the stream.
+// fields are private, so that no other code puts one together, writes over its wire or changes the stream.
 ghost use mathlib.Core.Path.{_≡_};
 ghost use Prim.Native.Nat.{_≤_, _<_};
 ghost use lib.ListN.{length};

@@ -1,4 +1,4 @@
--- What is told: the line of a day's earnings, over the program's wire; only `src/teller.rt` can make a teller.
+-- What is told: the line of a day's earnings, over the program's wire; only `src/teller.rt` can put a teller together.
 use mathlib.Core.Path.{_≡_}
 use Rattle.earnings.specs.declared.Earnings.{Earnings}
 use Rattle.earnings.specs.declared.Earnings.the-variants.{Refused}

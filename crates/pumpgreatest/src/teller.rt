@@ -1,5 +1,5 @@
 // What is told: the line of a day's earnings. A teller has the program's wire and the earnings that were told; its
-// fields are private, so that no other code makes one, writes over its wire or sets those earnings.
+// fields are private, so that no other code puts one together, writes over its wire or sets those earnings.
 ghost use mathlib.Core.Path.{_≡_};
 ghost use Prim.Native.Nat.{_<_};
 ghost use lib.ListN.{length};

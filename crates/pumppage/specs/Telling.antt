@@ -1,4 +1,4 @@
--- What is told: the page of a state, over the program's wire; only `src/teller.rt` can make a teller.
+-- What is told: the page of a state, over the program's wire; only `src/teller.rt` can put a teller together.
 use mathlib.Core.Path.{_≡_}
 use Rattle.day.specs.declared.Day.{Day}
 use Rattle.day.specs.Day.{blank}

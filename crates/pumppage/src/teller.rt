@@ -1,5 +1,5 @@
 // What is told: the page of a state. A teller has the program's wire and the state whose page was told; its fields are
-// private, so that no other code makes one, writes over its wire or sets that state.
+// private, so that no other code puts one together, writes over its wire or sets that state.
 ghost use mathlib.Core.Path.{_≡_};
 ghost use Prim.Native.Nat.{_<_};
 ghost use lib.ListN.{length};

@@ -1,6 +1,6 @@
 -- Standard input and output, as far as contracts reach: no contract can say what a read put into the block, or what a
 -- write made of its bytes. A wire counts the reads, the bytes that they gave and the bytes that were told, modulo 2^64;
--- only `src/lib.rt` can make one.
+-- only `src/lib.rt` can put one together, and it is a value, which a program has to go on with.
 use mathlib.Core.Path.{_≡_}
 use mathlib.Core.Bool.{true, false}
 use mathlib.Core.List.{List, [], _∷_, _++_}
@@ -55,7 +55,7 @@ pub record Writes (w : Wire) (b : List ℕ) (v : Wire) : Type 0 where
   pub failed-is : v .failed ≡ w .failed
   pub sent-before : v .sent ≡ true → w .sent ≡ true
 
--- While no count runs over 2^64, a read counts itself and its bytes, and a telling its bytes; neither touches the other.
+-- While no count runs over 2^64, a read counts itself and its bytes, and a telling its bytes; all else stays.
 pub record Wire-counts : Type 0 where
   pub reading : (w : Wire) (l : List ℕ) (n : ℕ) (v : Wire) → Reads w l n v
       → w .reads < max-reads → w .got + n < 2 ^ 64
