@@ -9,6 +9,7 @@ use Rattle.reply.specs.Session.{Session, fed}
 use Rattle.stream.specs.declared.feed.Stream.{Stream}
 use Rattle.stream.specs.Input.{replies, Split, all-lines}
 use Rattle.stream.specs.Stream.{finished, new-stream, session-of, silent}
+use Rattle.programs.specs.Examples.{in-one}
 use Rattle.wire.specs.Wires.{new-wire, Writes}
 use Rattle.pumpday.specs.declared.teller.Teller.{Teller}
 
@@ -30,6 +31,10 @@ pub data Tells-over : Stream → (input b : List ℕ) → Type 0 where
 abbrev pub Told-answers : Type 0
 Told-answers =
     (input b : List ℕ) → Tells-over new-stream input b → (i : Split input) → b ≡ replies blank (all-lines i)
+
+-- and any parts can be told so
+abbrev pub Any-parts : Type 0
+Any-parts = (parts : List (List ℕ)) → (b : List ℕ) × Tells-over new-stream (in-one parts) b
 
 -- the stream has come to y, and the answers of y were told
 pub record Told (w : Teller) (y : Session) (r : Teller) : Type 0 where
