@@ -1,5 +1,5 @@
 -- Soundness by its tests in the order of the code: the limits, then what `tested` has, then the total claim as two
--- sums. So the audit of a record within its limits is `claim-checked` where `tested` passes, and fails where it does
+-- sums. So the audit of a record within its limits is `claim_checked` where `tested` passes, and fails where it does
 -- not.
 use mathlib.Core.Path.{◌≡◌, refl, ap, ◌∙◌}
 use mathlib.Core.Bool.{Bool, true, false, cond, ◌&&◌, and_assoc, and-true}

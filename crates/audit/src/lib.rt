@@ -1,5 +1,7 @@
 // Question 1 in two parts: `limits_hold`, of any head, and `audit_parts`, of any arrays beside a head that passed it.
 // `day::ops::audited` joins them for any state. No sum or product on the way can overflow.
+#![tactic(auto)]
+
 pub mod columns;
 pub mod sums;
 
@@ -16,7 +18,7 @@ use campaigns::weights::weigh;
 use campaigns::{Head, Phase, Plan, Terms};
 
 // Whether the state is sound and, if so, the sum of its budgets, its takings, total claim and full.
-#[derive(Drop)]
+#[derive(Clone, Copy)]
 pub struct Audit {
     pub sound: bool,
     pub budgets: u64,

@@ -10,7 +10,7 @@ use campaigns::weights::weigh;
 use campaigns::{AGES, BUDGETS, Plan, TURNS};
 
 // Whether each campaign has paid at most its budget and, if so, the sums that soundness compares.
-#[derive(Drop)]
+#[derive(Clone, Copy)]
 pub struct Sums {
     pub within: bool,
     pub budgets: u64,
@@ -36,7 +36,7 @@ impl Sums {
 }
 
 // Whether price × plays ≤ budget for each campaign and, if so, the sums that no weight enters.
-#[derive(Drop)]
+#[derive(Clone, Copy)]
 pub struct Spent {
     pub within: bool,
     pub budgets: u64,

@@ -1,4 +1,6 @@
 // Lines that lie whole in the input, each answered in place.
+#![tactic(auto)]
+
 ghost use Rattle.std.specs.Prelude.{◌≡◌, cond, false, ◌+◌, ◌≤◌, length, take, drop};
 ghost use Rattle.lines.specs.Limits.{line_buffer};
 ghost use Rattle.reply.specs.Session.{upto};
@@ -10,7 +12,7 @@ use reply::ROOM;
 use reply::line::{Turn, answer_at};
 
 // Between two lines: the turn, how many bytes of a line are pending, and the place in the input.
-#[derive(Drop)]
+#[derive(Clone, Copy)]
 pub struct Cursor {
     pub turn: Turn,
     pub kept: usize,
@@ -76,9 +78,9 @@ fn first_line_end(s: &[u8], at: usize) -> usize
 // afterwards.
 pub fn keep(pending: &mut [u8], kept: usize, s: &[u8]) -> usize
     requires { (kept ≤ line_buffer) × (length pending.old ≡ line_buffer) }
-    ensures upper_bound { (result ≤ line_buffer) × (take result pending.new
+    ensures line { (result ≤ line_buffer) × (take result pending.new
         ≡ line_of pending.old kept s.now) }
-    ensures pending_len { length pending.new ≡ line_buffer }
+    ensures wide { length pending.new ≡ line_buffer }
 {
     let mut n = kept;
     let mut i = 0;
@@ -125,7 +127,7 @@ pub fn run_batch<'a>(
     terms: &'a mut [u32; 128],
     counts: &'a mut [u16; 256],
 ) -> Cursor
-    requires kept_le_line_buffer { (t.kept ≤ line_buffer) × (length pending.old ≡ line_buffer) × (t.from ≤ length input.now)
+    requires sizes { (t.kept ≤ line_buffer) × (length pending.old ≡ line_buffer) × (t.from ≤ length input.now)
         × (t.turn.at ≤ length out.old) }
     requires ready { Ready t.turn.sound t.turn.head list.old terms.old counts.old }
     ensures { Batch input.now (position t terms.old counts.old)

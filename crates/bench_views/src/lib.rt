@@ -1,6 +1,8 @@
 // A whole day of views and a checksum of what it answers, for a benchmark: a caller pays for one call in another
 // language and not for one at each view. Proved safe; no definition says what the checksum is. No part of the product's
 // library.
+#![tactic(auto)]
+
 use campaigns::{Plan, Terms, View};
 use day::{Answer, Day};
 
@@ -43,7 +45,7 @@ fn filled(start: Day, terms: &[u64]) -> Day {
     day
 }
 
-#[derive(Drop)]
+#[derive(Clone, Copy)]
 pub struct Viewed {
     pub day: Day,
     pub sum: u64,

@@ -1,4 +1,4 @@
--- Laws of a run of puts: forward, `put_then`, and from the last byte to the first, `put-before` and `Backward`.
+-- Laws of a run of puts: forward, `put_then`, and from the last byte to the first, `put_before` and `Backward`.
 -- A run keeps one fact, `Put` of all that stands so far; the next put joins it in front or behind.
 use mathlib.Core.Path.{◌≡◌, refl, sym, ap, ◌∙◌, subst}
 use mathlib.Core.List.{List, [], ◌∷◌, ◌++◌, append_assoc, append-nil}

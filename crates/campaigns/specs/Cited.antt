@@ -26,7 +26,7 @@ pub record Sized (terms counts : List ℕ) : Type 0 where
   pub counts_length : length counts ≡ 256
 
 -- the play of a campaign whose counts are those of one passed over: one turn more, unless an age that reached the depth
--- has brought it (`Laws.played-passed`: the same as rule 2)
+-- has brought it (`Laws.played_passed`: the same as rule 2)
 abbrev pub played : Campaign → Campaign
 played c =
     record {

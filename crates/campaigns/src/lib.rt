@@ -1,6 +1,8 @@
 // A plan, its phases and its campaigns: the rules for one campaign. Campaigns stand by columns in two flat arrays of
 // small integers, which are lent: `terms` has the prices and the budgets; `counts` has the plays, the turns, the ages
 // and how often each was named.
+#![tactic(auto)]
+
 pub mod entry;
 pub mod rules;
 pub mod weights;
@@ -17,26 +19,26 @@ pub const AGES: usize = 128;
 pub const NAMED: usize = 192;
 
 // What is handed to an opening.
-#[derive(Drop)]
+#[derive(Clone, Copy)]
 pub struct Plan {
     pub depth: u64,
     pub width: u64,
 }
 
 // What is handed to an adding.
-#[derive(Drop)]
+#[derive(Clone, Copy)]
 pub struct Terms {
     pub price: u64,
     pub budget: u64,
 }
 
 // What is handed to a view: bit i of the set stands for campaign i.
-#[derive(Drop)]
+#[derive(Clone, Copy)]
 pub struct View {
     pub set: u64,
 }
 
-#[derive(Drop)]
+#[derive(Clone, Copy)]
 pub enum Phase {
     Filling,
     Running,
@@ -45,7 +47,7 @@ pub enum Phase {
 }
 
 // A state but for its campaigns.
-#[derive(Drop)]
+#[derive(Clone, Copy)]
 pub struct Head {
     pub phase: Phase,
     pub plan: Plan,
@@ -56,7 +58,7 @@ pub struct Head {
 }
 
 // One campaign, read out of the arrays.
-#[derive(Drop)]
+#[derive(Clone, Copy)]
 pub struct Campaign {
     pub price: u64,
     pub budget: u64,

@@ -1,5 +1,7 @@
 // The check of an allotment with its figures, for entries and figures of any 64 bits: nothing is added up that could
 // wrap, but counted down from what there is.
+#![tactic(auto)]
+
 ghost use Rattle.std.specs.Prelude.{◌≡◌, true, ◌*◌, ◌<◌, ◌≤◌, leb, eqb, length};
 ghost use Rattle.campaigns.specs.Limits.{max_campaigns};
 ghost use Rattle.finite.specs.Finite.{sum, every};
@@ -15,7 +17,7 @@ use campaigns::entry::wide32;
 const NOBODY: u64 = 64;
 
 // What is left of an amount, and whether there was enough of it.
-#[derive(Drop)]
+#[derive(Clone, Copy)]
 pub struct Rest {
     pub enough: bool,
     pub left: u64,

@@ -1,6 +1,6 @@
 -- What a walk over the named campaigns stores: those below its place are marked as passed over, the others are as they
 -- were; then the play corrects one mark. A store touches one place of each column (`left`), so that it changes one
--- campaign (`put-counts`).
+-- campaign (`put_counts`).
 use mathlib.Core.Path.{◌≡◌, refl, ap, sym, ◌∙◌}
 use mathlib.Core.Bool.{Bool, true, false, cond, ◌&&◌}
 use mathlib.Core.List.{List}

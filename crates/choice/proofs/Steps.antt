@@ -1,6 +1,6 @@
 -- The walk along the members of a set, by the steps of the set's own walk: the members below the place are compared
--- and marked, the others are as they were (`along-steps`). So the walk gives the choice and the marks that stand over
--- all places (`walked-best`, `walked-marks`), and with the play of the best one the counts of rules 2 to 4.
+-- and marked, the others are as they were (`along_steps`). So the walk gives the choice and the marks that stand over
+-- all places (`walked_best`, `walked_marks`), and with the play of the best one the counts of rules 2 to 4.
 use mathlib.Core.Path.{◌≡◌, refl, ap, ap₂, sym, ◌∙◌}
 use mathlib.Core.Bool.{Bool, true, false, cond, ◌&&◌}
 use mathlib.Core.List.{List}

@@ -1,4 +1,6 @@
 // The walk over the campaigns that a view names: the choice, and what the view makes of their counts.
+#![tactic(auto)]
+
 ghost use Rattle.std.specs.Prelude.{◌≡◌, true, ◌≤◌, ◌<◌};
 ghost use Rattle.campaigns.specs.Limits.{max_campaigns};
 ghost use Rattle.campaigns.specs.Campaign.{priced, campaign_at};
@@ -13,7 +15,7 @@ use campaigns::{AGES, Campaign, NAMED, Plan, TURNS, View};
 
 // The best candidate so far: a campaign, what it would pay, and its score. A score of 0 can be the best, so that nobody
 // is told apart by `found`.
-#[derive(Drop)]
+#[derive(Clone, Copy)]
 pub struct Candidate {
     pub found: bool,
     pub campaign: u64,

@@ -1,5 +1,7 @@
 // The day's record: its state and the eight operations on it, which change the lent arrays of its campaigns where they
 // stand.
+#![tactic(auto)]
+
 pub mod in_place;
 pub mod ops;
 pub mod value;
@@ -13,7 +15,7 @@ ghost use Rattle.day.specs.Cited.{refusing};
 use campaigns::{Head, Phase, Plan, Terms, View};
 
 // The whole state, for those who hold it by value. The operations take it by its head and its two arrays.
-#[derive(Drop)]
+#[derive(Clone, Copy)]
 pub struct Day {
     pub phase: Phase,
     pub plan: Plan,
@@ -25,7 +27,7 @@ pub struct Day {
     pub counts: [u16; 256],
 }
 
-#[derive(Drop)]
+#[derive(Clone, Copy)]
 pub enum Answer {
     Refused(u64),
     Done,
@@ -76,21 +78,21 @@ impl Answer {
 }
 
 // The state handed back, and the answer beside it.
-#[derive(Drop)]
+#[derive(Clone, Copy)]
 pub struct Outcome {
     pub day: Day,
     pub answer: Answer,
 }
 
 // The same of an operation in place: what changes of the campaigns has changed in the lent arrays.
-#[derive(Drop)]
+#[derive(Clone, Copy)]
 pub struct Step {
     pub head: Head,
     pub answer: Answer,
 }
 
 // What is asked of the day.
-#[derive(Drop)]
+#[derive(Clone, Copy)]
 pub enum Call {
     Open(Plan),
     Add(Terms),

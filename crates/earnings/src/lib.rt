@@ -1,4 +1,6 @@
 // What the day took beside what it could have earned, as figures and as a line.
+#![tactic(auto)]
+
 pub mod ratio;
 
 ghost use Rattle.std.specs.Prelude.{◌≡◌, ◌≤◌, length};
@@ -16,7 +18,7 @@ use optimum::{Optimum, search};
 use print::{put, put_field};
 
 // The number of the question that failed, or the takings and the greatest takings.
-#[derive(Drop)]
+#[derive(Clone, Copy)]
 pub enum Earnings {
     Refused(u64),
     Figures { takings: u64, greatest: u64 },

@@ -1,4 +1,6 @@
 // Statuses, heads, answers, records and streams as words.
+#![tactic(auto)]
+
 ghost use Rattle.std.specs.Prelude.{◌≡◌, true};
 ghost use Rattle.encoding.specs.Encoding.{is_head, phase_of, tag_of, held_by, head_in, head_words};
 ghost use Rattle.encoding.specs.Encoding.{answer_after, is_form, record_of, record_words, is_stream};

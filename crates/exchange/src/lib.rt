@@ -1,4 +1,6 @@
 // One more view for a campaign, by a chain of exchanges that moves a held view to another campaign.
+#![tactic(auto)]
+
 ghost use Rattle.std.specs.Prelude.{◌≡◌, ◌<◌, ◌≤◌, length};
 ghost use Rattle.exchange.specs.Cited.{NoneFree, first_open, first_free, Bare, Seekable, SoughtIs};
 
@@ -7,7 +9,7 @@ pub const NOBODY: u64 = 64;
 
 // What a search ends with: whether a view was found, the set of campaigns visited, and that of campaigns that are bare:
 // no free view names them. A view that was once given is never free again, so that a bare campaign stays so.
-#[derive(Drop)]
+#[derive(Clone, Copy)]
 pub struct Sought {
     pub found: bool,
     pub visited: u64,

@@ -34,7 +34,7 @@ use Rattle.hindsight.specs.Hindsight.{given_short, Room}
 use Rattle.hindsight.specs.Examples.{recorded_day, Example, paused_listed, SearchWorked, Examples}
 
 -- From the exchanges of the calls and the state at their end, each computed once; that an allotment which the check
--- accepts takes the most is not computed, but proved (`accepted-is-best`).
+-- accepts takes the most is not computed, but proved (`accepted_is_best`).
 example : {cs : List Call} {xs : List Exchange} {s : Day} (allotment surplus worth : List ℕ) {paid most short : ℕ}
     → transcript blank cs ≡ xs → final blank cs ≡ s → Starts blank cs
     → checked s (own_views (history xs)) allotment surplus worth ≡ Accepted → day_takings (history xs) ≡ paid

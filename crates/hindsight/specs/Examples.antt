@@ -43,7 +43,7 @@ pub record Paused (found handed_in allotment surplus worth : List ℕ) : Type 0 
   pub rejected : checked (final blank paused_listed) (own_views (recorded_day paused_listed)) allotment surplus worth
       ≡ Rejected
 
--- the search of the day of `short-calls`: campaign 0 is served first, by view 0; campaign 1 gets view 0 by a chain of
+-- the search of the day of `short_calls`: campaign 0 is served first, by view 0; campaign 1 gets view 0 by a chain of
 -- exchanges, after 0 was given view 1 (`matching/specs/Examples`)
 pub record SearchWorked (allotment surplus worth allotment' surplus' worth' : List ℕ) : Type 0 where
   pub room : Room (recorded_day short_calls) (final blank short_calls) allotment surplus worth

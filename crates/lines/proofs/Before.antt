@@ -1,5 +1,5 @@
 -- What request 5 leaves as it was, and a line that it lets in. A text does not depend on the letter of a slot, and
--- document 01's ranges lie within those of today, so that `text-reads` and `read-text` say it all; forms are compared
+-- document 01's ranges lie within those of today, so that `text_reads` and `read_text` say it all; forms are compared
 -- one by one, by computing.
 use mathlib.Core.Path.{◌≡◌, refl, sym, ap, ◌∙◌}
 use mathlib.Core.Bool.{true, false, ◌&&◌}

@@ -185,6 +185,7 @@ module _ (l : List ℕ) where
   one_fills : {fs : List Record} → AllForms fs → In (chosen l) fs → fills (chosen l) l ≡ true
       → first_of fs l ≡ Got (read (chosen l) l)
   unfolding first_of held_or ended_or
+  one_fills done i h = elim i [ ]
   one_fills (form {f} {fs} p a) i h = go (fills f l) refl i (λ j. one_fills a j h)
     where
       go : (t : Bool) → fills f l ≡ t → In (chosen l) (f ∷ fs)
@@ -221,6 +222,7 @@ chosen_in l =
     (nth forms 10 (lit< tt))))))))
 
 form_of : {p : Record} {fs : List Record} → AllForms fs → In p fs → Form p
+form_of {p = p} done x3 = elim x3 [ ]
 form_of (form f a) (here q) = subst Form (sym q) f
 form_of (form f a) (there j) = form_of a j
 

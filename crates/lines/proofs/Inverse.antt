@@ -1,4 +1,4 @@
--- Reading is the inverse of `text`: the laws of Choice, with the length of the line asked first. `one-text` is what
+-- Reading is the inverse of `text`: the laws of Choice, with the length of the line asked first. `one_text` is what
 -- demand 2 says of lines.
 use mathlib.Core.Path.{◌≡◌, refl, sym, ap, ◌∙◌, subst}
 use mathlib.Core.Bool.{Bool, true, false, cond}

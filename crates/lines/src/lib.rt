@@ -1,4 +1,6 @@
 // Bracket lines: the records, and the reader of one line.
+#![tactic(auto)]
+
 pub mod scan;
 pub mod slots;
 
@@ -11,7 +13,7 @@ use crate::slots::MAX_LINE;
 
 // One line: an input line (the first five and the last two) or an output line. A view is a 64-bit set, bit i standing
 // for campaign i.
-#[derive(Drop)]
+#[derive(Clone, Copy)]
 pub enum Record {
     Plan {
         depth: u64,
@@ -48,7 +50,7 @@ pub enum Record {
 }
 
 // What reading answers: a record, or the number of the first question that fails.
-#[derive(Drop)]
+#[derive(Clone, Copy)]
 pub enum Reading {
     Got(Record),
     Refusal(u64),

@@ -9,7 +9,7 @@ use crate::slots::{MAX_INPUT, MAX_LINE, SET_BITS, slot_max};
 use crate::{Reading, Record};
 
 // The number that was read in a slot, and the place behind it.
-#[derive(Drop)]
+#[derive(Clone, Copy)]
 pub struct Slot {
     pub number: u64,
     pub end: usize,

@@ -22,10 +22,10 @@ Shut n views to closed = (d : ℕ) → d < n → member closed d ≡ true → (j
     → member (at views j) d ≡ true → (at to j < n) × (member closed (at to j) ≡ true)
 
 -- so that a chain never comes to a free view
-no_chain : (n closed : ℕ) {c : ℕ} {views to to' : List ℕ} → n ≤ 64 → Shut n views to closed → c < n
+no_chain : (n closed : ℕ) {views to to' : List ℕ} {c : ℕ} → n ≤ 64 → Shut n views to closed → c < n
     → member closed c ≡ true → Chain views to to' c → ⊥
-no_chain n closed {c} few h l m (given j k nm e) = omega (arith, few, (h c l m j k nm).0, e)
-no_chain n closed {c} few h l m (moved j k nm ne e ch _) =
+no_chain n closed {c = c} few h l m (given j k nm e) = omega (arith, few, (h c l m j k nm).0, e)
+no_chain n closed {c = c} few h l m (moved j k nm ne e ch _) =
     let r = h c l m j k nm in
     no_chain n closed few h (subst (λ (x : ℕ). x < n) e r.0) (sym (ap (member closed) e) ∙ r.1) ch
 

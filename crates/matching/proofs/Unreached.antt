@@ -47,7 +47,7 @@ ends_free : {views to to' : List ℕ} {c : ℕ} → NoneFree to (length views) �
 ends_free h (given j l m e) = h j l e
 ends_free h (moved j l m ne e ch e') = ends_free h ch
 
-stays : {views to to' : List ℕ} {c k : ℕ} → NoneFree to (length views) → Found views to c to' k → to' ≡ to
+stays : {views to : List ℕ} {c : ℕ} {to' : List ℕ} {k : ℕ} → NoneFree to (length views) → Found views to c to' k → to' ≡ to
 stays h none = refl
 stays {views} {c = c} h (one_more {to'' = to''} f ch) =
     absurd (ends_free h (subst (λ (l : List ℕ). Chain views l to'' c) (stays h f) ch))
@@ -76,7 +76,7 @@ module _ (views : List ℕ) (P : ℕ → Type 0) where
       stored j d l o (chained (subst P e (h.each j l)) refl h ch)
       (omega (arith, q, ap (λ (x : ℕ). one_if (eqb x nobody)) e'))
 
-  dealt : {to to' : List ℕ} {c k : ℕ} → c < 64 → P c → length views ≤ length to
+  dealt : {to : List ℕ} {c : ℕ} {to' : List ℕ} {k : ℕ} → c < 64 → P c → length views ≤ length to
       → ((j : ℕ) → j < length views → P (at to j)) → Found views to c to' k → Dealt to' k 0
   dealt {to} l o long each none = record {
     long = long;

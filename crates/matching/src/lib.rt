@@ -1,5 +1,7 @@
 // An allotment of views with the greatest takings: campaigns are served in falling price, each play sought through a
 // chain of exchanges.
+#![tactic(auto)]
+
 ghost use Rattle.std.specs.Prelude.{◌≡◌, ℕ, ◌<◌, ◌≤◌, length};
 ghost use Rattle.campaigns.specs.Limits.{max_campaigns};
 ghost use Rattle.allotments.specs.Allotment.{at, nobody};
@@ -13,7 +15,7 @@ use campaigns::entry::wide32;
 use exchange::NOBODY;
 
 // After a campaign is served: the campaigns closed, and those that no free view names.
-#[derive(Drop)]
+#[derive(Clone, Copy)]
 struct After {
     closed: u64,
     bare: u64,

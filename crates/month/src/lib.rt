@@ -1,5 +1,7 @@
 // The month in exact figures: both totals of up to 31 day records, and the worst day's place. `report` walks a lent
 // slice of records and hands each by value to the methods of `Partial`, which do all the work.
+#![tactic(auto)]
+
 pub mod pairs;
 
 ghost use Rattle.std.specs.Prelude.{◌≡◌, ◌≤◌, take};
@@ -13,14 +15,14 @@ pub const MAX_RECORDS: usize = 31;
 pub const MAX_FIGURE: u64 = 2_000_000_000;
 
 // A day's takings and its greatest possible takings.
-#[derive(Drop)]
+#[derive(Clone, Copy)]
 pub struct DayRecord {
     pub takings: u64,
     pub greatest: u64,
 }
 
 // The number of the question that failed; or both totals with the worst day's place, or without one.
-#[derive(Drop)]
+#[derive(Clone, Copy)]
 pub enum Month {
     Refused(u64),
     Worst {
@@ -47,7 +49,7 @@ impl DayRecord {
 
 // The report so far: whether every record belongs to a day, the totals, whether a day was found that can be the worst,
 // and the worst one's place and record.
-#[derive(Drop)]
+#[derive(Clone, Copy)]
 pub struct Partial {
     pub valid: bool,
     pub takings: u64,

@@ -1,6 +1,8 @@
 // The figures at noon: what a station may compare at any moment of its day. Of a state that calls made the floor is at
 // most the claim, and the claim at most full; of a state that was made up nothing is promised but the figures
 // themselves.
+#![tactic(auto)]
+
 ghost use Rattle.std.specs.Prelude.{◌≡◌, true, ◌≤◌};
 ghost use Rattle.powers.specs.Limits.{max_power};
 ghost use Rattle.powers.specs.Power.{share};
@@ -16,7 +18,7 @@ use campaigns::{Campaign, Head, Plan};
 use day::ops::audited;
 
 // Full, d^k × takings; the total claim; and the floor's figure, (d^k − (d−1)^k) × the prices of what is due.
-#[derive(Drop)]
+#[derive(Clone, Copy)]
 pub enum Noon {
     Refused(u64),
     Figures { full: u64, claim: u64, floor: u64 },

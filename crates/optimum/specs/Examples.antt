@@ -6,7 +6,6 @@ use Rattle.campaigns.specs.Campaign.{fresh}
 use Rattle.day.specs.declared.Day.{Day}
 use Rattle.day.specs.Day.{state_with, no_terms}
 use Rattle.allotments.specs.Allotment.{nobody}
-use Rattle.optimum.specs.declared.Optimum.{Optimum}
 use Rattle.optimum.specs.declared.Optimum.TheVariants as optimum
 use Rattle.optimum.specs.declared.Verdict.{Verdict}
 use Rattle.optimum.specs.declared.Verdict.TheVariants as verdict

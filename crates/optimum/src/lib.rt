@@ -1,5 +1,7 @@
 // What the day could have earned: the search for an allotment with the greatest takings, and its check, for a state of
 // any phase by its head and its two arrays.
+#![tactic(auto)]
+
 ghost use Rattle.std.specs.Prelude.{◌≡◌, ℕ, ◌<◌, ◌≤◌, length};
 ghost use Rattle.campaigns.specs.Limits.{max_campaigns};
 ghost use Rattle.finite.specs.Finite.{every};
@@ -17,14 +19,14 @@ use day::ops::audited;
 const MAX_HANDED_IN: usize = 256;
 
 // The number of the question that failed, or takings: of the search, the greatest.
-#[derive(Drop)]
+#[derive(Clone, Copy)]
 pub enum Optimum {
     Refused(u64),
     Takings(u64),
 }
 
 // The number of the question that failed, or whether the check accepts.
-#[derive(Drop)]
+#[derive(Clone, Copy)]
 pub enum Verdict {
     Refused(u64),
     Accepted,

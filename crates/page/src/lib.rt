@@ -1,4 +1,6 @@
 // The station's page: a line for each campaign and one for the takings, printed into a lent buffer.
+#![tactic(auto)]
+
 ghost use Rattle.std.specs.Prelude.{◌≡◌, ◌++◌, ◌∷◌, [], ◌+◌, ◌*◌, ◌-◌, ◌^◌, ◌≤◌, ◌<◌, length, drop, replicate};
 ghost use Rattle.buffer.specs.Buffer.{Put, RoomFor};
 ghost use Rattle.campaigns.specs.Campaign.{campaign_at};
@@ -15,7 +17,7 @@ use day::ops::audited;
 use print::{put, put_number};
 
 // What printing answers: the length of the page, or the number of the first question that fails.
-#[derive(Drop)]
+#[derive(Clone, Copy)]
 pub enum Printing {
     Length(usize),
     Refusal(u64),

@@ -1,4 +1,6 @@
 // The powers of the widths 1 to 16 with exponents 0 to 32: a power, or 0 where it is above 4,294,967,296.
+#![tactic(auto)]
+
 pub mod table;
 
 ghost use Rattle.std.specs.Prelude.{◌≡◌, ◌≤◌};

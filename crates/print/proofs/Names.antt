@@ -1,4 +1,4 @@
--- The names of a set by its walk. The names of the members in turn are the set's names (`names-members`); the loop that
+-- The names of a set by its walk. The names of the members in turn are the set's names (`names_members`); the loop that
 -- puts them keeps `Names`: some stand, and those of what is left of the walk are to come.
 use mathlib.Core.Path.{◌≡◌, ap, sym, ◌∙◌, subst}
 use mathlib.Core.List.{List, [], ◌∷◌, ◌++◌, append_assoc, append-nil}

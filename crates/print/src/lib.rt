@@ -1,4 +1,6 @@
 // Words, numerals and names: how long they are, and putting them into a lent buffer.
+#![tactic(auto)]
+
 ghost use Rattle.std.specs.Prelude.{◌≡◌, true, ◌∷◌, ◌++◌, ◌+◌, ◌<◌, ◌≤◌, length};
 ghost use Rattle.buffer.specs.Buffer.{Put, RoomFor};
 ghost use Rattle.lines.specs.Limits.{set_bits, max_names};
@@ -9,7 +11,7 @@ ghost use Rattle.print.specs.Cited.{max_counted, Counted};
 use lines::slots::in_slot;
 
 // Whether numbers are in the ranges of their slots, and the length of a line: as far as its slots are counted.
-#[derive(Drop)]
+#[derive(Clone, Copy)]
 pub struct Size {
     pub ok: bool,
     pub len: usize,

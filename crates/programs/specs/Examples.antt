@@ -1,8 +1,8 @@
 -- That the theorem for any chunking has something to speak of: every list of blocks can be handed to a new stream, and
 -- a day in two blocks, with the answers that it gets; a block of which a part is taken for want of room. Document 01's
 -- listing, a day with lines that are refused, a day whose figures all differ, a day with pauses and numbers by the
--- limits, each as a whole input and what answers it; the listing's close, of which `Of-lines.closing-is` and
--- `Of-lines.closing-noon` speak; and the output forms as lines, in any state.
+-- limits, each as a whole input and what answers it; the listing's close, of which `OfLines.closing_is` and
+-- `OfLines.closing_noon` speak; and the output forms as lines, in any state.
 use Rattle.std.specs.Prelude.{◌≡◌, List, [], ◌∷◌, ◌++◌, ℕ, ◌+◌, ◌≤◌, length, take, replicate}
 use Prim.Native.String.{String}
 use Rattle.lines.specs.declared.Record.TheVariants.{Closed}

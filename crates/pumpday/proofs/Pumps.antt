@@ -1,8 +1,8 @@
 -- What parts of an input, taken one after the other, add up to. `Told` says what a teller's stream has come to, and
 -- that its answers were told; since feeding composes, a part and then a part is a part (`tells_more`), a block is the
 -- sum of its parts, and `Reached` carries the sum over the blocks that reads gave. At the end of input the theorem for
--- any input turns what was told into the answers to the lines (`ran-through`); where a run stops before, it is the
--- answers to the lines that end in what was taken (`ran-unsent`, `ran-spent`).
+-- any input turns what was told into the answers to the lines (`ran_through`); where a run stops before, it is the
+-- answers to the lines that end in what was taken (`ran_unsent`, `ran_spent`).
 use mathlib.Core.Path.{◌≡◌, refl, sym, ap, ap₂, ◌∙◌, subst}
 use mathlib.Core.Bool.{Bool, true, false}
 use mathlib.Core.List.{List, [], ◌∷◌, ◌++◌, append_assoc, append-nil}

@@ -11,7 +11,7 @@ use Rattle.pumpday.specs.declared.teller.Teller.{Teller}
 -- input they are lines and a rest.
 -- Whatever failed, the program's stream holds the state after the first `answered` lines, and as many bytes were told
 -- as answer these from the blank state on. `Teller::tell` requires of its caller that the bytes are due from that
--- stream; that it writes these bytes is one line, read in the source. Unless a write failed or `max-reads` reads were
+-- stream; that it writes these bytes is one line, read in the source. Unless a write failed or `max_reads` reads were
 -- made, the last read gave nothing; where it gave nothing and no write failed, all lines are answered. Of the lines
 -- demand 3 and Algorithm 4 hold. `sent` and `failed` are free, being what C answered, but that a
 -- read that failed was the last, as one that gave nothing.

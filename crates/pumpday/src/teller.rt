@@ -9,14 +9,14 @@ ghost use Rattle.pumpday.specs.Cited.{Part, Whole, Taken};
 use stream::feed::Stream;
 use wire::Wire;
 
-#[derive(Drop)]
+#[derive(Clone, Copy)]
 pub struct Teller {
     stream: Stream,
     wire: Wire,
 }
 
 // A teller, and the place up to which it has answered a block.
-#[derive(Drop)]
+#[derive(Clone, Copy)]
 struct Turn {
     teller: Teller,
     from: usize,
@@ -36,13 +36,13 @@ impl Teller {
 
     // Writes what is due from the stream for the bytes that it took, or at the end of input; next is the stream after
     // them.
-    fn tell(self, taken: &[u8], end: bool, next: Stream, bytes: &[u8]) -> Self
+    fn tell(self, rt: HostRuntime, taken: &[u8], end: bool, next: Stream, bytes: &[u8]) -> Self
         requires { (bytes.now ≡ (session_after self.stream taken.now end).output)
             × (session_of next ≡ silent (session_after self.stream taken.now end)) }
         ensures { Told self (session_after self.stream taken.now end) result }
     {
         let wire = self.wire;
-        let sent = wire.write(bytes);
+        let sent = wire.write(rt.stdout(), bytes);
         Teller {
             stream: next,
             wire: sent,
@@ -50,7 +50,7 @@ impl Teller {
     }
 
     // The block from a place on, as far as there is room for its answers, which are told.
-    fn answer_part(self, block: &[u8], from: usize, out: &mut [u8]) -> Turn
+    fn answer_part(self, rt: HostRuntime, block: &[u8], from: usize, out: &mut [u8]) -> Turn
         requires { from ≤ length block.now }
         ensures { Part self block.now out.old from result }
     {
@@ -59,7 +59,7 @@ impl Teller {
         let next = fed.stream;
         let written = fed.written;
         let to = from + fed.consumed;
-        let teller = self.tell(&block[from..to], false, next, &out[..written]);
+        let teller = self.tell(rt, &block[from..to], false, next, &out[..written]);
         Turn {
             teller: teller,
             from: to,
@@ -67,7 +67,7 @@ impl Teller {
     }
 
     // The whole block, part by part, unless a write fails.
-    fn answer_block(self, block: &[u8], out: &mut [u8]) -> Turn
+    fn answer_block(self, rt: HostRuntime, block: &[u8], out: &mut [u8]) -> Turn
         requires { reply_room ≤ length out.old }
         ensures { Whole self block.now result }
     {
@@ -80,7 +80,7 @@ impl Teller {
             if !w.sent() {
                 return t;
             }
-            let next = w.answer_part(block, t.from, out);
+            let next = w.answer_part(rt, block, t.from, out);
             t = next;
         }
         t
@@ -88,12 +88,12 @@ impl Teller {
 
     // One read, and the answers to what it gave, which is borrowed until they are told, so that nothing writes over it.
     // What is left in `out` is free.
-    pub fn turn(self, block: &mut [u8], out: &mut [u8]) -> Self
+    pub fn turn(self, rt: HostRuntime, block: &mut [u8], out: &mut [u8]) -> Self
         requires { (0 < length block.old) × (reply_room ≤ length out.old) }
         ensures { Taken self block.new result }
     {
         let wire = self.wire;
-        let got = wire.read(block);
+        let got = wire.read(rt.stdin(), block);
         let n = got.n;
         let given = &block[..n];
         let stream = self.stream;
@@ -102,12 +102,12 @@ impl Teller {
             stream: stream,
             wire: next,
         };
-        let t = teller.answer_block(given, out);
+        let t = teller.answer_block(rt, given, out);
         t.teller
     }
 
     // The end of input: the answer to a last line without byte 10. What is left in `out` is free.
-    pub fn finish(self, out: &mut [u8]) -> Self
+    pub fn finish(self, rt: HostRuntime, out: &mut [u8]) -> Self
         requires { reply_room ≤ length out.old }
         ensures { Told self (finished (session_of self.stream)) result }
     {
@@ -115,7 +115,7 @@ impl Teller {
         let fed = stream.finish(out);
         let next = fed.stream;
         let written = fed.written;
-        self.tell(b"", true, next, &out[..written])
+        self.tell(rt, b"", true, next, &out[..written])
     }
 
     pub fn ended(self) -> bool
@@ -133,8 +133,8 @@ impl Teller {
     }
 
     // Standard error is free, as of `Wire::complain`.
-    pub fn complain(self) {
+    pub fn complain(self, rt: HostRuntime) {
         let wire = self.wire;
-        wire.complain(b"pumpday");
+        wire.complain(rt.stderr(), b"pumpday");
     }
 }

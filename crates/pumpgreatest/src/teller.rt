@@ -9,14 +9,14 @@ use earnings::Earnings;
 use wire::Wire;
 
 // The earnings are refusal 0 before a line is told.
-#[derive(Drop)]
+#[derive(Clone, Copy)]
 pub struct Teller {
     earnings: Earnings,
     wire: Wire,
 }
 
 // A teller after a read, and how many bytes the read put at the front of the block.
-#[derive(Drop)]
+#[derive(Clone, Copy)]
 pub struct Got {
     pub teller: Teller,
     pub n: usize,
@@ -33,12 +33,12 @@ impl Teller {
         }
     }
 
-    pub fn read(self, block: &mut [u8]) -> Got
+    pub fn read(self, rt: HostRuntime, block: &mut [u8]) -> Got
         requires { 0 < length block.old }
         ensures { Reads self.wire block.new result.n result.teller.wire }
     {
         let wire = self.wire;
-        let got = wire.read(block);
+        let got = wire.read(rt.stdin(), block);
         let earnings = self.earnings;
         let next = got.wire;
         Got {
@@ -51,12 +51,12 @@ impl Teller {
     }
 
     // Writes the line of these earnings.
-    pub fn tell(self, earnings: Earnings, bytes: &[u8]) -> Self
+    pub fn tell(self, rt: HostRuntime, earnings: Earnings, bytes: &[u8]) -> Self
         requires { bytes.now ≡ earnings_text earnings }
         ensures { Told self earnings result }
     {
         let wire = self.wire;
-        let next = wire.write(bytes);
+        let next = wire.write(rt.stdout(), bytes);
         Teller {
             earnings: earnings,
             wire: next,
@@ -78,8 +78,8 @@ impl Teller {
     }
 
     // Standard error is free, as of `Wire::complain`.
-    pub fn complain(self) {
+    pub fn complain(self, rt: HostRuntime) {
         let wire = self.wire;
-        wire.complain(b"pumpgreatest");
+        wire.complain(rt.stderr(), b"pumpgreatest");
     }
 }

@@ -14,7 +14,7 @@ end_state i = after_lines blank (all_lines i)
 -- A whole run. There are blocks, none empty, of as many bytes as the reads gave; which bytes these are no contract can
 -- say; that each block is handed on as it was read, and that `run` drops no teller, is read in the source. As one
 -- input they are lines and a rest.
--- Unless a read failed or `max-reads` reads were made, the last read gave nothing. Where it gave nothing and did not
+-- Unless a read failed or `max_reads` reads were made, the last read gave nothing. Where it gave nothing and did not
 -- fail, the state whose page was told is that at the input's end, and as many bytes were told as its page has; else
 -- nothing was told. `tell` requires of its caller that the bytes are that page; that it writes these bytes is one line,
 -- read in the source.

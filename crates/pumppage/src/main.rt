@@ -1,5 +1,7 @@
 // A recorded day from standard input, and the station's page of the state at its end to standard output. A read or a
 // write that fails is told on standard error; no page is printed of a day that could not be read to its end.
+#![tactic(auto)]
+
 mod teller;
 
 ghost use Rattle.std.specs.Prelude.{◌≡◌, true, ◌≤◌, ◌<◌, length};
@@ -14,15 +16,18 @@ use page::{Printing, print_day};
 use stream::feed::Stream;
 use teller::Teller;
 
+// The bytes of a read at the most, and the room for a page.
+const BLOCK: usize = 65536;
+
 // The stream, and the place in the block.
-#[derive(Drop)]
+#[derive(Clone, Copy)]
 struct Turn {
     stream: Stream,
     from: usize,
 }
 
 // The stream, and the teller after a read.
-#[derive(Drop)]
+#[derive(Clone, Copy)]
 struct Read {
     stream: Stream,
     teller: Teller,
@@ -59,11 +64,17 @@ fn take_block(stream: Stream, block: &[u8], out: &mut [u8]) -> Stream
 
 // One read, and what it gave, which is borrowed until it is taken, so that nothing writes over it. What is left in
 // `out` is free.
-fn read_block(teller: Teller, stream: Stream, block: &mut [u8], out: &mut [u8]) -> Read
+fn read_block(
+    rt: HostRuntime,
+    teller: Teller,
+    stream: Stream,
+    block: &mut [u8],
+    out: &mut [u8],
+) -> Read
     requires { (0 < length block.old) × (reply_room ≤ length out.old) }
     ensures { Taken teller stream block.new result }
 {
-    let r = teller.read(block);
+    let r = teller.read(rt, block);
     let n = r.n;
     let given = &block[..n];
     let w = r.teller;
@@ -75,7 +86,7 @@ fn read_block(teller: Teller, stream: Stream, block: &mut [u8], out: &mut [u8]) 
 }
 
 // A last line without byte 10, and the page. What is left in `out` is free.
-fn finish(teller: Teller, stream: Stream, out: &mut [u8]) -> Teller
+fn finish(rt: HostRuntime, teller: Teller, stream: Stream, out: &mut [u8]) -> Teller
     requires { (reply_room ≤ length out.old) × (sound stream.day ≡ true) }
     ensures { Told teller (finished (session_of stream)).day result }
 {
@@ -83,14 +94,14 @@ fn finish(teller: Teller, stream: Stream, out: &mut [u8]) -> Teller
     let next = fed.stream;
     let day = next.day;
     match print_day(day, out) {
-        Printing::Length(n) => teller.tell(day, &out[..n]),
+        Printing::Length(n) => teller.tell(rt, day, &out[..n]),
         Printing::Refusal(_) => teller,
     }
 }
 
 // Block after block, until a read gives nothing or fails. A proved loop has to end: this one counts down from a number
 // that no run uses up.
-fn run(block: &mut [u8], out: &mut [u8]) -> Teller
+fn run(rt: HostRuntime, block: &mut [u8], out: &mut [u8]) -> Teller
     requires { (0 < length block.old) × (reply_room ≤ length out.old) }
     ensures { Prints result }
 {
@@ -98,14 +109,14 @@ fn run(block: &mut [u8], out: &mut [u8]) -> Teller
     let mut teller = Teller::new();
     let mut turns = u64::MAX;
     while turns > 0 {
-        let t = read_block(teller, stream, block, out);
+        let t = read_block(rt, teller, stream, block, out);
         let next = t.stream;
         let w = t.teller;
         if w.failed() {
             return w;
         }
         if w.ended() {
-            return finish(w, next, out);
+            return finish(rt, w, next, out);
         }
         stream = next;
         teller = w;
@@ -115,9 +126,9 @@ fn run(block: &mut [u8], out: &mut [u8]) -> Teller
 }
 
 // It promises nothing: what a run promises, `run` does, and behind it only standard error is written.
-fn main() {
-    let mut block = io::large_buffer();
-    let mut out = io::large_buffer();
-    let w = run(&mut block, &mut out);
-    w.complain();
+fn main(rt: HostRuntime) {
+    let mut block = [0u8; BLOCK];
+    let mut out = [0u8; BLOCK];
+    let w = run(rt, &mut block, &mut out);
+    w.complain(rt);
 }

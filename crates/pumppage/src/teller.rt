@@ -9,14 +9,14 @@ use day::Day;
 use wire::Wire;
 
 // The state is the blank one before a page is told.
-#[derive(Drop)]
+#[derive(Clone, Copy)]
 pub struct Teller {
     day: Day,
     wire: Wire,
 }
 
 // A teller after a read, and how many bytes the read put at the front of the block.
-#[derive(Drop)]
+#[derive(Clone, Copy)]
 pub struct Got {
     pub teller: Teller,
     pub n: usize,
@@ -34,12 +34,12 @@ impl Teller {
         }
     }
 
-    pub fn read(self, block: &mut [u8]) -> Got
+    pub fn read(self, rt: HostRuntime, block: &mut [u8]) -> Got
         requires { 0 < length block.old }
         ensures { Reads self.wire block.new result.n result.teller.wire }
     {
         let wire = self.wire;
-        let got = wire.read(block);
+        let got = wire.read(rt.stdin(), block);
         let day = self.day;
         let next = got.wire;
         Got {
@@ -52,12 +52,12 @@ impl Teller {
     }
 
     // Writes the page of a state.
-    pub fn tell(self, day: Day, bytes: &[u8]) -> Self
+    pub fn tell(self, rt: HostRuntime, day: Day, bytes: &[u8]) -> Self
         requires { bytes.now ≡ page_of day }
         ensures { Told self day result }
     {
         let wire = self.wire;
-        let next = wire.write(bytes);
+        let next = wire.write(rt.stdout(), bytes);
         Teller {
             day: day,
             wire: next,
@@ -79,8 +79,8 @@ impl Teller {
     }
 
     // Standard error is free, as of `Wire::complain`.
-    pub fn complain(self) {
+    pub fn complain(self, rt: HostRuntime) {
         let wire = self.wire;
-        wire.complain(b"pumppage");
+        wire.complain(rt.stderr(), b"pumppage");
     }
 }

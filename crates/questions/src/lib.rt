@@ -1,5 +1,7 @@
 // Questions at the door that need no more of a state than its head, each list in its order: 3 to 5 of a plan, 6 to 10
 // of a campaign, 11 to 14 of a view, 11 and 15 of a mark. The answer is the number of the first "no", or 0.
+#![tactic(auto)]
+
 ghost use Rattle.std.specs.Prelude.{◌≡◌, ◌≤◌};
 ghost use Rattle.campaigns.specs.Cited.{max_column};
 ghost use Rattle.questions.specs.Questions.{first_failed, plan_questions, add_questions, view_questions};

@@ -1,5 +1,7 @@
 // A recorded day: its lines are fed to a stream and, beside it, its accepted views are kept, each as the set of the
 // campaigns that it found unpaused.
+#![tactic(auto)]
+
 ghost use Rattle.std.specs.Prelude.{◌≡◌, ◌++◌, ◌∷◌, [], ◌≤◌, length};
 ghost use Rattle.lines.specs.Reading.{reading};
 ghost use Rattle.reply.specs.Reply.{request, request_of};

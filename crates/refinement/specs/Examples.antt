@@ -88,7 +88,7 @@ narrow_played =
     (record { set = 1 } ∷ record { set = 1 } ∷ record { set = 2 } ∷ [])
     (Played 0 5 ∷ Nobody ∷ Played 1 3 ∷ [])
 
--- the paper's budgets are those handed in, and of `cents-agrees` those without the cents left over
+-- the paper's budgets are those handed in, and of `cents_agrees` those without the cents left over
 pub record ComputedDays : Type 0 where
   pub listing_agrees : ComputedDay (λ t. t.budget) (calls_made listing) (listing_played listing_terms) listing_players
   -- two finished copies of each make the whole of its budget

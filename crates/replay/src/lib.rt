@@ -1,5 +1,7 @@
 // A list of encoded calls, run: three words a call, its kind and what it is handed. The contract of `replay` is demand
 // 3.
+#![tactic(auto)]
+
 ghost use Rattle.std.specs.Prelude.{◌≡◌, [], ◌∷◌, ◌*◌, ◌≤◌};
 ghost use Rattle.campaigns.specs.Limits.{max_price};
 ghost use Rattle.day.specs.Calls.Call.{open_plan, show_view};
@@ -11,7 +13,7 @@ use campaigns::{Plan, Terms, View};
 use day::{Answer, Day, Outcome};
 
 // The state at a list's end, and the day's takings, added up from the answers.
-#[derive(Drop)]
+#[derive(Clone, Copy)]
 pub struct Replayed {
     pub day: Day,
     pub paid: u64,

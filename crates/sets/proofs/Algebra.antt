@@ -1,4 +1,4 @@
--- Sets made of sets: who is a member of them (`..-member`), and that a set is known by its members (`same-members`), so
+-- Sets made of sets: who is a member of them (`..-member`), and that a set is known by its members (`same_members`), so
 -- that an operation on the bits is the set that its members make.
 use mathlib.Core.Path.{◌≡◌, refl, ap, ap₂, sym, ◌∙◌}
 use mathlib.Core.Bool.{Bool, true, false, cond, not, ◌&&◌, ◌||◌}

@@ -1,5 +1,7 @@
 // A set of numbers from 0 to 63 as a 64-bit number: its size, the sets made of it, and the walk from each member to the
 // next.
+#![tactic(auto)]
+
 ghost use Rattle.std.specs.Prelude.{◌≡◌, ◌<◌};
 ghost use Rattle.sets.specs.Set.{member, size, within, next, without, including, beyond};
 

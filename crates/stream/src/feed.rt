@@ -19,7 +19,7 @@ use reply::line::Turn;
 
 // The state, and the first bytes of a line that has not ended: so many are kept, 201 at most. What feeding hands back
 // has zero bytes behind them.
-#[derive(Drop)]
+#[derive(Clone, Copy)]
 pub struct Stream {
     pub day: Day,
     pub pending: [u8; LINE_BUFFER],
@@ -27,7 +27,7 @@ pub struct Stream {
 }
 
 // The stream after a block, how many bytes of the block were taken, and how many bytes answer them.
-#[derive(Drop)]
+#[derive(Clone, Copy)]
 pub struct Fed {
     pub stream: Stream,
     pub consumed: usize,
@@ -35,7 +35,7 @@ pub struct Fed {
 }
 
 // The same of a stream in lent memory: the head of its state, and how many bytes of a line are kept.
-#[derive(Drop)]
+#[derive(Clone, Copy)]
 pub struct Moved {
     pub head: Head,
     pub kept: usize,
@@ -53,7 +53,7 @@ fn run<'a>(
     terms: &'a mut [u32; 128],
     counts: &'a mut [u16; 256],
 ) -> Cursor
-    requires kept_le_line_buffer { (first.kept ≤ line_buffer) × (length pending.old ≡ line_buffer)
+    requires sizes { (first.kept ≤ line_buffer) × (length pending.old ≡ line_buffer)
         × (first.from ≡ 0) × (first.turn.at ≡ 0) }
     requires ready { Ready first.turn.sound first.turn.head list.old terms.old counts.old }
     ensures { Processed (session (state_of first.turn.head terms.old counts.old)

@@ -1,5 +1,5 @@
 -- What feeding and finishing leave in the lent memory: everything as it was where the status is not 0, and else what
--- the stream in place has become, stored (`fed-stored`, `finish-stored`), which has status 0 again.
+-- the stream in place has become, stored (`fed_stored`, `finish_stored`), which has status 0 again.
 use mathlib.Core.Path.{◌≡◌, refl, sym, ap, ap₂, ◌∙◌, subst}
 use mathlib.Core.Bool.{Bool, true, false, cond}
 use mathlib.Core.List.{List}

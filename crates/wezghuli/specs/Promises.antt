@@ -130,7 +130,7 @@ pub record Promises : Type 0 where
   pub feed_stays : (l : List ℕ) (m : Lent) → status_in m ≡ 0 → status_in (feed_after l m) ≡ 0
   pub finish_stays : (m : Lent) → status_in m ≡ 0 → status_in (finish_after m) ≡ 0
   -- from the blank memory on it is a new stream, and a block and the end of input leave what the stream hands back, so
-  -- that `Any-chunking` and `Always-keeps-behind` of `crates/stream/specs/Chunking.antt` speak of them
+  -- that `AnyChunking` and `AlwaysKeepsBehind` of `crates/stream/specs/Chunking.antt` speak of them
   pub stream_from_blank : (out : List ℕ) → stream_in (blank_lent out) ≡ new_stream
   pub feeds : (l : List ℕ) (m : Lent) → status_in m ≡ 0
       → Feeds (stream_in m) l m.out (feed_after l m).out (handed_in (feed_after l m))
@@ -154,7 +154,7 @@ pub record Promises : Type 0 where
   pub check_best : (head terms counts views a u v : List ℕ) → check_status head terms counts views a u v ≡ 0
       → BestAllotment (lent_state head terms counts) views a
   -- where nothing is misused, a status is 0 or the number of the first question that fails: of a line that is read, as
-  -- `Says` has it; of a check where none fails, 0 if the figures fit and `no-fit` if not
+  -- `Says` has it; of a check where none fails, 0 if the figures fit and `no_fit` if not
   pub noon_told : (head terms counts : List ℕ) → is_head head ≡ true
       → noon_status head terms counts ≡ first_failed (noon_questions (lent_state head terms counts))
   pub read_told : (line : List ℕ) → read.Says line (read_status line) (read.values (reading line))
@@ -191,7 +191,7 @@ pub record Promises : Type 0 where
       → status_in m ≡ no_stream
   pub room_misuse : (m : Lent) → is_head m.head ≡ true → get_or m.words 0 0 ≤ line_buffer
       → length m.out < reply_room → status_in m ≡ no_room
-  -- no refusal has the status of a misuse, of which the least is `no-head`
+  -- no refusal has the status of a misuse, of which the least is `no_head`
   pub call_refusal : (k : Call) (m : Memory) → is_head m.head ≡ true → status k m < no_head
   pub noon_refusal : (head terms counts : List ℕ) → is_head head ≡ true → noon_status head terms counts < no_head
   pub read_refusal : (line : List ℕ) → read_status line < no_head

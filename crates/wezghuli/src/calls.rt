@@ -15,8 +15,7 @@ use day::{Call, Step};
 use encoding::{STATUS_NO_HEAD, answer_after, head_of, head_words, is_head};
 
 // The blank state: Closed, depth 1, width 1, no campaigns.
-#[unsafe(no_mangle)]
-pub extern "C" fn wezghuli_blank<'a>(
+pub fn wezghuli_blank<'a>(
     head: &'a mut [u64; 7],
     terms: &'a mut [u32; 128],
     counts: &'a mut [u16; 256],
@@ -65,8 +64,7 @@ fn answer_call<'a>(
 }
 
 // Opens a plan, with no campaigns, in Filling.
-#[unsafe(no_mangle)]
-pub extern "C" fn wezghuli_open<'a>(
+pub fn wezghuli_open<'a>(
     head: &'a mut [u64; 7],
     terms: &'a mut [u32; 128],
     counts: &'a mut [u16; 256],
@@ -88,8 +86,7 @@ pub extern "C" fn wezghuli_open<'a>(
 }
 
 // Adds a campaign, with zero counts.
-#[unsafe(no_mangle)]
-pub extern "C" fn wezghuli_add<'a>(
+pub fn wezghuli_add<'a>(
     head: &'a mut [u64; 7],
     terms: &'a mut [u32; 128],
     counts: &'a mut [u16; 256],
@@ -111,8 +108,7 @@ pub extern "C" fn wezghuli_add<'a>(
 }
 
 // Starts the day: no campaign is added from now on.
-#[unsafe(no_mangle)]
-pub extern "C" fn wezghuli_start<'a>(
+pub fn wezghuli_start<'a>(
     head: &'a mut [u64; 7],
     terms: &'a mut [u32; 128],
     counts: &'a mut [u16; 256],
@@ -128,8 +124,7 @@ pub extern "C" fn wezghuli_start<'a>(
 }
 
 // Shows a view, bit i of the set naming campaign i: who plays, and what is paid.
-#[unsafe(no_mangle)]
-pub extern "C" fn wezghuli_view<'a>(
+pub fn wezghuli_view<'a>(
     head: &'a mut [u64; 7],
     terms: &'a mut [u32; 128],
     counts: &'a mut [u16; 256],
@@ -146,8 +141,7 @@ pub extern "C" fn wezghuli_view<'a>(
 }
 
 // The four counts of a campaign; the state stays.
-#[unsafe(no_mangle)]
-pub extern "C" fn wezghuli_tally<'a>(
+pub fn wezghuli_tally<'a>(
     head: &'a mut [u64; 7],
     terms: &'a mut [u32; 128],
     counts: &'a mut [u16; 256],
@@ -164,8 +158,7 @@ pub extern "C" fn wezghuli_tally<'a>(
 }
 
 // Closes the day with its takings, total claim and full.
-#[unsafe(no_mangle)]
-pub extern "C" fn wezghuli_close<'a>(
+pub fn wezghuli_close<'a>(
     head: &'a mut [u64; 7],
     terms: &'a mut [u32; 128],
     counts: &'a mut [u16; 256],
@@ -181,8 +174,7 @@ pub extern "C" fn wezghuli_close<'a>(
 }
 
 // Pauses a campaign: it is as one that no view names, until it is resumed.
-#[unsafe(no_mangle)]
-pub extern "C" fn wezghuli_pause<'a>(
+pub fn wezghuli_pause<'a>(
     head: &'a mut [u64; 7],
     terms: &'a mut [u32; 128],
     counts: &'a mut [u16; 256],
@@ -199,8 +191,7 @@ pub extern "C" fn wezghuli_pause<'a>(
 }
 
 // Resumes a campaign.
-#[unsafe(no_mangle)]
-pub extern "C" fn wezghuli_resume<'a>(
+pub fn wezghuli_resume<'a>(
     head: &'a mut [u64; 7],
     terms: &'a mut [u32; 128],
     counts: &'a mut [u16; 256],

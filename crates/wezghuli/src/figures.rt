@@ -6,8 +6,7 @@ use encoding::{STATUS_ACCEPTED, STATUS_NO_HEAD, head_of, is_head};
 use noon::{Noon, at_noon};
 
 // Full, the total claim and the floor's figure; the state stays, and a refusal leaves the figures as they were.
-#[unsafe(no_mangle)]
-pub extern "C" fn wezghuli_noon<'a>(
+pub fn wezghuli_noon<'a>(
     head: &'a [u64; 7],
     terms: &'a [u32; 128],
     counts: &'a [u16; 256],

@@ -31,8 +31,7 @@ fn status_of(verdict: Verdict) -> u64
 
 // An allotment of the views with the greatest takings, with a figure for each campaign and for each view.
 // `wezghuli_takings` gives these takings: a lent array for them would be an eighth parameter.
-#[unsafe(no_mangle)]
-pub extern "C" fn wezghuli_search<'a>(
+pub fn wezghuli_search<'a>(
     head: &'a [u64; 7],
     terms: &'a [u32; 128],
     counts: &'a [u16; 256],
@@ -63,8 +62,7 @@ pub extern "C" fn wezghuli_search<'a>(
 }
 
 // Is this an allotment with figures that fit it, and so one with the greatest takings?
-#[unsafe(no_mangle)]
-pub extern "C" fn wezghuli_check<'a>(
+pub fn wezghuli_check<'a>(
     head: &'a [u64; 7],
     terms: &'a [u32; 128],
     counts: &'a [u16; 256],
@@ -93,8 +91,7 @@ pub extern "C" fn wezghuli_check<'a>(
 
 // The takings of an allotment: of what the search left, the greatest. The state stays, and a refusal leaves the takings
 // as they were.
-#[unsafe(no_mangle)]
-pub extern "C" fn wezghuli_takings<'a>(
+pub fn wezghuli_takings<'a>(
     head: &'a [u64; 7],
     terms: &'a [u32; 128],
     counts: &'a [u16; 256],

@@ -6,8 +6,7 @@ use encoding::{STATUS_ACCEPTED, STATUS_NO_HEAD, head_of, is_head};
 use page::Printing;
 
 // Prints the page at the front of out, and how many bytes it has to written; a refusal leaves both as they were.
-#[unsafe(no_mangle)]
-pub extern "C" fn wezghuli_page<'a>(
+pub fn wezghuli_page<'a>(
     head: &'a [u64; 7],
     terms: &'a [u32; 128],
     counts: &'a [u16; 256],

@@ -11,6 +11,7 @@ use reply::ROOM;
 use stream::feed::{Moved, feed_in_place, finish_in_place};
 
 // What the lent memory is not, or that it is a state and a stream with room for the longest answer.
+#[tactic(auto, unfolding(crate::specs::Library::stream_status))]
 fn status(head: &[u64; 7], words: &[u64; 3], room: usize) -> u64
     ensures { result ≡ stream_status head.now words.now room }
 {
@@ -42,8 +43,7 @@ fn store(moved: Moved, head: &mut [u64; 7], words: &mut [u64; 3])
 
 // Feeds a block of input: each line that ends in it is answered at the front of out, as far as there is room for the
 // longest answer, and the rest is kept.
-#[unsafe(no_mangle)]
-pub extern "C" fn wezghuli_feed<'a>(
+pub fn wezghuli_feed<'a>(
     head: &mut [u64; 7],
     terms: &'a mut [u32; 128],
     counts: &'a mut [u16; 256],
@@ -69,8 +69,7 @@ pub extern "C" fn wezghuli_feed<'a>(
 }
 
 // The end of input: a last line without byte 10 counts if it has bytes.
-#[unsafe(no_mangle)]
-pub extern "C" fn wezghuli_finish<'a>(
+pub fn wezghuli_finish<'a>(
     head: &mut [u64; 7],
     terms: &'a mut [u32; 128],
     counts: &'a mut [u16; 256],

@@ -7,8 +7,7 @@ use lines::Reading;
 use writer::Writing;
 
 // Reads a line, without its byte 10, into a record; a refusal leaves the record as it was.
-#[unsafe(no_mangle)]
-pub extern "C" fn wezghuli_read_line<'a>(line: &'a [u8], words: &'a mut [u64; 6]) -> u64
+pub fn wezghuli_read_line<'a>(line: &'a [u8], words: &'a mut [u64; 6]) -> u64
     ensures { (result ≡ read_status line.now)
         × (words.new ≡ record_after line.now words.old) }
 {
@@ -23,8 +22,7 @@ pub extern "C" fn wezghuli_read_line<'a>(line: &'a [u8], words: &'a mut [u64; 6]
 
 // Writes a record's line, with its byte 10, at the front of out, and how many bytes it has to written; a refusal leaves
 // both as they were.
-#[unsafe(no_mangle)]
-pub extern "C" fn wezghuli_write_line<'a>(
+pub fn wezghuli_write_line<'a>(
     words: &'a [u64; 6],
     out: &'a mut [u8],
     written: &'a mut [u64; 1],

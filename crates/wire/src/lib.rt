@@ -1,14 +1,15 @@
-// Standard input, output and error: no other code of the programs calls C. A wire counts what passes over the first
-// two; its fields are private, so that no other code sets a count.
+// Standard input, output and error: no other code of the programs reads or writes. A wire counts what passes over the
+// first two; its fields are private, so that no other code sets a count.
+#![tactic(auto)]
+
 ghost use Rattle.std.specs.Prelude.{◌≡◌, ◌<◌, length};
 ghost use Rattle.wire.specs.Wires.{new_wire, Reads, Writes};
 
-use libc::{STDERR_FILENO, STDIN_FILENO, STDOUT_FILENO};
-use std::num::wrapping_add_u64;
+use std::io::{Read, Stderr, Stdin, Stdout, Write};
 
 // How many reads were made, how many bytes they gave and how many were told, each modulo 2^64; whether the last read
 // gave nothing and whether it failed, and whether every write went through.
-#[derive(Drop)]
+#[derive(Clone, Copy)]
 pub struct Wire {
     reads: u64,
     got: u64,
@@ -19,7 +20,7 @@ pub struct Wire {
 }
 
 // A wire after a read, and how many bytes the read put at the front of the block.
-#[derive(Drop)]
+#[derive(Clone, Copy)]
 pub struct Got {
     pub wire: Wire,
     pub n: usize,
@@ -41,38 +42,35 @@ impl Wire {
 
     // One read, into a block of one byte at least: into an empty one nothing could be read, and that would be taken for
     // the end of input. One that fails, whatever the reason, gives nothing, as at the end. Free are the first n bytes,
-    // since no contract can say what C put there, and the block behind them.
-    pub fn read(self, block: &mut [u8]) -> Got
+    // since no contract can say what the system put there, and the block behind them.
+    pub fn read(self, mut input: Stdin, block: &mut [u8]) -> Got
         requires { 0 < length block.old }
         ensures { Reads self block.new result.n result.wire }
     {
-        let answer = libc::read(STDIN_FILENO, block);
-        let n = io::count(answer, block);
-        let reads = wrapping_add_u64(self.reads, 1);
-        let got = wrapping_add_u64(self.got, n as u64);
-        let failed = answer < 0;
+        let answer = input.read(block);
+        let failed = answer.is_err();
+        let n = answer.unwrap_or(0);
         Got {
             wire: Wire {
-                reads: reads,
-                got: got,
+                reads: self.reads.wrapping_add(1),
+                got: self.got.wrapping_add(n as u64),
                 told: self.told,
                 ended: n == 0,
-                failed: failed,
+                failed,
                 sent: self.sent,
             },
-            n: n,
+            n,
         }
     }
 
-    pub fn write(self, bytes: &[u8]) -> Self
+    pub fn write(self, mut output: Stdout, bytes: &[u8]) -> Self
         ensures { Writes self bytes.now result }
     {
-        let went = io::write_all(STDOUT_FILENO, bytes);
-        let told = wrapping_add_u64(self.told, bytes.len() as u64);
+        let went = output.write_all(bytes).is_ok();
         Wire {
             reads: self.reads,
             got: self.got,
-            told: told,
+            told: self.told.wrapping_add(bytes.len() as u64),
             ended: self.ended,
             failed: self.failed,
             sent: self.sent & went,
@@ -100,14 +98,14 @@ impl Wire {
     // One line on standard error for a read that failed, and one for a write, each opened by the program's name. It
     // promises nothing: no contract can say what is written, and nothing counts what goes to standard error. The wire
     // is handed over and not given back, so that no count can change.
-    pub fn complain(self, name: &[u8]) {
+    pub fn complain(self, mut error: Stderr, name: &[u8]) {
         if self.failed {
-            io::write_all(STDERR_FILENO, name);
-            io::write_all(STDERR_FILENO, b": standard input could not be read\n");
+            let _name = error.write_all(name);
+            let _rest = error.write_all(b": standard input could not be read\n");
         }
         if !self.sent {
-            io::write_all(STDERR_FILENO, name);
-            io::write_all(STDERR_FILENO, b": standard output could not be written\n");
+            let _name = error.write_all(name);
+            let _rest = error.write_all(b": standard output could not be written\n");
         }
     }
 }

@@ -1,5 +1,5 @@
--- A line is its form's template, filled, with a byte 10 behind it: what the puts of a form make (`puts-line`), and how
--- long it is, its own bytes and those of its slots (`line-slots`). Both hold for every form: a new one needs no law.
+-- A line is its form's template, filled, with a byte 10 behind it: what the puts of a form make (`puts_line`), and how
+-- long it is, its own bytes and those of its slots (`line_slots`). Both hold for every form: a new one needs no law.
 use mathlib.Core.Path.{◌≡◌, refl, sym, ap, ◌∙◌, subst}
 use mathlib.Core.Bool.{Bool, true, false, cond, not}
 use mathlib.Core.List.{List, [], ◌∷◌, ◌++◌, append_assoc}

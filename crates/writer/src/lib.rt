@@ -1,4 +1,6 @@
 // Bracket lines: the writer of one record into a lent buffer.
+#![tactic(auto)]
+
 ghost use Rattle.std.specs.Prelude.{◌≡◌, ◌+◌, length};
 ghost use Rattle.buffer.specs.Buffer.{Put, RoomFor};
 ghost use Rattle.lines.specs.Form.{slot_text};
@@ -9,7 +11,7 @@ use lines::Record;
 use print::{Size, put, put_field};
 
 // What writing answers: the length of the line with its byte 10, or the number of the first question that fails.
-#[derive(Drop)]
+#[derive(Clone, Copy)]
 pub enum Writing {
     Length(usize),
     Refusal(u64),

@@ -1,0 +1,14 @@
+-- The match is the definition: a byte from 48 to 57, one below, one above.
+use native.Mathlib.Omega.{arith}
+use mathlib.Core.Path.{sym}
+use Rattle.lines.proofs.Digits.{digit_yes, digit_below, digit_above}
+use Rattle.lines.proofs.scan.is_digit.Goals as goal
+
+pub returns-in-48-to-57 : goal.returns-in-48-to-57
+returns-in-48-to-57 c = sym (digit_yes c.args.b (omega arith) (omega arith))
+
+pub returns-in_default : goal.returns-in_default
+returns-in_default c = sym (digit_below c.args.b (omega arith))
+
+pub returns-in_default-2 : goal.returns-in_default-2
+returns-in_default-2 c = sym (digit_above c.args.b (omega arith))

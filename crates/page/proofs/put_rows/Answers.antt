@@ -1,0 +1,85 @@
+-- The lines of the campaigns, from the last to the first. The loop's invariant: those from i on stand over spaces.
+use mathlib.Core.Path.{◌≡◌, sym, ap, ◌∙◌, subst}
+use mathlib.Core.List.{List, [], ◌∷◌, ◌++◌}
+use Prim.Native.Nat.{ℕ, suc, ◌*◌, ◌-◌, ◌<◌}
+use native.Mathlib.Omega.{arith}
+use lib.ListN.{drop}
+use Rattle.finite.specs.Finite.{table}
+use Rattle.campaigns.specs.declared.Campaign.{Campaign}
+use Rattle.campaigns.specs.Campaign.{campaign_at}
+use Rattle.page.specs.Page.{Row, RowFits, line_length, row_text, row_lines}
+use Rattle.page.specs.Figures.{page_row}
+use Rattle.page.specs.Cited.{Lays}
+use Rattle.page.proofs.Lays.{lays_none, lays_before, rows_none, rows_before}
+use Rattle.page.proofs.put_rows.Invariants.{rows_of}
+use Rattle.page.proofs.put_rows.Goals as goal
+
+pub loop-i-init : goal.loop-i-init
+loop-i-init c =
+    let a = c.args in
+    let f : ℕ → Row = λ i. page_row (campaign_at a.terms.now a.counts.now i) in (
+      omega arith,
+      subst (Lays a.out.now a.out.now (line_length * a.n) (line_length * a.n)) (rows_none a.n f)
+          (lays_none a.out.now (line_length * a.n)),
+    )
+
+pub put_row-requires : goal.put_row-requires
+put_row-requires c =
+    let start = c.before.before.before.before.before in
+    let o = c.loop-i in
+    let e = c.entry-c.ensures.0 in
+    let fits = start.requires.all_fit (o.i - 1) (omega arith) in (
+      (omega arith, omega (arith, o.invariant.1.same, start.requires.room)),
+      omega (arith, start.requires.few),
+      subst (λ (x : Campaign). RowFits (page_row x)) (sym e) fits,
+    )
+
+-- the line of campaign j before those from i on
+one_more : {d e g : List ℕ} (n : ℕ) (f : ℕ → Row) (j i : ℕ) {r : Row} → j < n → i ≡ suc j
+    → Lays d e (line_length * i) (line_length * n) (row_lines i (drop i (table n f))) → r ≡ f j
+    → Lays e g (line_length * i - line_length) (line_length * i) (row_text j r ++ (10 ∷ []))
+    → Lays d g (line_length * j) (line_length * n) (row_lines j (drop j (table n f)))
+one_more {d} {e} {g} n f j i {r} h s p q l =
+    let at : line_length * i - line_length ≡ line_length * j = omega arith in
+    let all = lays_before p l in
+    let text : (row_text j r ++ (10 ∷ [])) ++ row_lines i (drop i (table n f)) ≡ row_lines j (drop j (table n f)) =
+    ap (λ (x : Row). (row_text j x ++ (10 ∷ [])) ++ row_lines i (drop i (table n f))) q
+    ∙ ap (λ (k : ℕ). (row_text j (f j) ++ (10 ∷ [])) ++ row_lines k (drop k (table n f))) s
+    ∙ rows_before n f j h in
+    subst (λ (k : ℕ). Lays d g k (line_length * n) (row_lines j (drop j (table n f)))) at
+    (subst (Lays d g (line_length * i - line_length) (line_length * n)) text all)
+
+pub loop-i-preserved : goal.loop-i-preserved
+loop-i-preserved c =
+    let turn = c.before.before.before.before.before.before in
+    let a = turn.args in
+    let o = turn.loop-i in
+    let e = c.entry-c.ensures.0 in
+    let p = c.put_row.ensures in
+    let f : ℕ → Row = λ i. page_row (campaign_at a.terms.now a.counts.now i) in
+    let j = o.i - 1 in
+    let s : o.i ≡ suc j = omega arith in
+    (omega arith, one_more a.n f j o.i (omega arith) s o.invariant.1 (ap page_row e) p)
+
+pub returns : goal.returns
+returns c =
+    let a = c.args in
+    let o = c.loop-i in
+    let e : o.i ≡ 0 = omega arith in
+    subst (λ (k : ℕ). Lays a.out.now o.out (line_length * k) (line_length * a.n)
+    (row_lines k (drop k (rows_of a.n a.terms.now a.counts.now)))) e o.invariant.1
+
+pub overflow_mul-to : goal.overflow_mul-to
+overflow_mul-to c = omega arith
+
+pub overflow_sub-i : goal.overflow_sub-i
+overflow_sub-i c = omega arith
+
+pub entry-c-requires : goal.entry-c-requires
+entry-c-requires c = omega (arith, c.requires.few)
+
+pub loop-i-smaller : goal.loop-i-smaller
+loop-i-smaller c = omega arith
+
+pub shape_of-out : goal.shape_of-out
+shape_of-out c = c.loop-i.invariant.1.same
