@@ -47,7 +47,8 @@ ends_free : {views to to' : List ℕ} {c : ℕ} → NoneFree to (length views) �
 ends_free h (given j l m e) = h j l e
 ends_free h (moved j l m ne e ch e') = ends_free h ch
 
-stays : {views to : List ℕ} {c : ℕ} {to' : List ℕ} {k : ℕ} → NoneFree to (length views) → Found views to c to' k → to' ≡ to
+stays : {views to : List ℕ} {c : ℕ} {to' : List ℕ} {k : ℕ} → NoneFree to (length views) → Found views to c to' k
+    → to' ≡ to
 stays h none = refl
 stays {views} {c = c} h (one_more {to'' = to''} f ch) =
     absurd (ends_free h (subst (λ (l : List ℕ). Chain views l to'' c) (stays h f) ch))

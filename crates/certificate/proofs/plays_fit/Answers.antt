@@ -44,8 +44,8 @@ loop-j-preserved c =
     = λ after e h. subst⁻¹ (λ (x : List ℕ). Left a.count a.wholes x (at a.allotment.now) (l.j + 1)) e h in (
       omega arith,
       elim c.if-entry-count.branch [
-        | then-entry-count+else-plays-eq0 w ↦ moved _ w.left-is (left_less a.count a.wholes (at a.allotment.now) l.left l.j
-            l.invariant.1 c.requires.0 w.if-entry-count.true (omega (arith, w.if-plays-eq0.false)))
+        | then-entry-count+else-plays-eq0 w ↦ moved _ w.left-is (left_less a.count a.wholes (at a.allotment.now) l.left
+            l.j l.invariant.1 c.requires.0 w.if-entry-count.true (omega (arith, w.if-plays-eq0.false)))
         | else-entry-count w ↦ moved _ w.left-is (left_same a.count a.wholes (at a.allotment.now) l.left l.j
             l.invariant.1 w.if-entry-count.false)
       ],

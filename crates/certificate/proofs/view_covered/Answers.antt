@@ -65,8 +65,9 @@ returns-then-figure-price c =
     let l = c.loop-left in
     let w = c.wide32-price in
     sym (walked_stop a.view (λ d. leb (at a.prices.now d) (at a.surplus.now d + a.figure)) l.left
-    c.first-at.result c.loop-left-test.true c.first-at.ensures l.invariant a.count (inside (λ d. leb (at c.args.prices.now d) (at c.args.surplus.now d + c.args.figure)) c.requires.2
-    c.loop-left-test.true c.first-at.ensures c.loop-left.invariant)
+    c.first-at.result c.loop-left-test.true c.first-at.ensures l.invariant a.count
+    (inside (λ d. leb (at a.prices.now d) (at a.surplus.now d + a.figure)) c.requires.2 c.loop-left-test.true
+    c.first-at.ensures l.invariant)
     (lt-leb (at a.prices.now c.first-at.result) (at a.surplus.now c.first-at.result + a.figure)
     (omega (arith, c.if-figure-price.true, c.if-own-price.true, w.ensures.0))))
 

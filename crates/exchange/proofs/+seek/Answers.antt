@@ -8,7 +8,8 @@ use Rattle.sets.specs.Set.{member}
 use Rattle.allotments.specs.Allotment.{at}
 use Rattle.exchange.proofs.Search.{left_out}
 use Rattle.exchange.proofs.Seeking.{Seeking, sought_free, seeking_start, holder_small, falls_here, ready_holder}
-use Rattle.exchange.proofs.Seeking.{sought_chain, seeking_failed, seeking_visited, seeking_unnamed, sought_none, told_as}
+use Rattle.exchange.proofs.Seeking.{sought_chain, seeking_failed, seeking_visited, seeking_unnamed, sought_none}
+use Rattle.exchange.proofs.Seeking.{told_as}
 use Rattle.exchange.proofs.+seek.Goals as goal
 use Rattle.exchange.proofs.+seek.Goals.{then-has+then-not-has+else-r, then-has+else-not-has, else-has}
 

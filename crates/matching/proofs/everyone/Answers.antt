@@ -11,7 +11,8 @@ shifted : (n : ℕ) → n < 64 → 1 * 2 ^ n % 2 ^ 64 ≡ 2 ^ n
 shifted n h = ap (λ (x : ℕ). x % 2 ^ 64) (one-mul (2 ^ n)) ∙ mod-eq_of_lt (pow-lt h)
 
 pub returns-then-count-eq64 : goal.returns-then-count-eq64
-returns-then-count-eq64 c = everyone_of c.args.count 18446744073709551615 (sym (ap (λ (x : ℕ). 2 ^ x) c.if-count-eq64.true))
+returns-then-count-eq64 c =
+    everyone_of c.args.count 18446744073709551615 (sym (ap (λ (x : ℕ). 2 ^ x) c.if-count-eq64.true))
 
 below : (c : goal.Else-count-eq64) → c.args.count < 64
 below c = omega (arith, c.requires, c.if-count-eq64.false)

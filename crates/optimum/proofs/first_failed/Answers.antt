@@ -16,17 +16,22 @@ is_sound s a e f = sym (sound_told s a e) ∙ not-false a.sound f
 
 pub returns-then-not-audit : goal.returns-then-not-audit
 unfolding first_failed
-returns-then-not-audit c = rw (sym (sound_told _ _ c.audited-audit.ensures) ∙ not-true c.audited-audit.result.sound c.if-not-audit.true)
+returns-then-not-audit c =
+    let no = not-true c.audited-audit.result.sound c.if-not-audit.true in
+    rw (sym (sound_told _ _ c.audited-audit.ensures) ∙ no)
 
 pub returns-then-n-gt-MAX_HANDED_IN : goal.returns-then-n-gt-MAX_HANDED_IN
 unfolding first_failed
-returns-then-n-gt-MAX_HANDED_IN c = rw (is_sound _ _ c.audited-audit.ensures c.if-not-audit.false, lt-leb _ max_handed_in c.if-n-gt-MAX_HANDED_IN.true)
+returns-then-n-gt-MAX_HANDED_IN c =
+    let yes = is_sound _ _ c.audited-audit.ensures c.if-not-audit.false in
+    rw (yes, lt-leb _ max_handed_in c.if-n-gt-MAX_HANDED_IN.true)
 
 pub returns-then-not-all_within : goal.returns-then-not-all_within
 unfolding first_failed
 returns-then-not-all_within c =
+    let yes = is_sound _ _ c.audited-audit.ensures c.if-not-audit.false in
     rw (
-      is_sound _ _ c.audited-audit.ensures c.if-not-audit.false,
+      yes,
       le-leb _ max_handed_in c.if-n-gt-MAX_HANDED_IN.false,
       sym c.all_within.ensures ∙ c.if-not-all_within.true,
     )
@@ -34,9 +39,21 @@ returns-then-not-all_within c =
 pub returns-then-n-entries : goal.returns-then-n-entries
 unfolding first_failed
 returns-then-n-entries c =
-    rw (is_sound _ _ c.audited-audit.ensures c.if-not-audit.false, le-leb _ max_handed_in c.if-n-gt-MAX_HANDED_IN.false, sym c.all_within.ensures ∙ c.if-not-all_within.false, c.if-n-entries.true)
+    let yes = is_sound _ _ c.audited-audit.ensures c.if-not-audit.false in
+    rw (
+      yes,
+      le-leb _ max_handed_in c.if-n-gt-MAX_HANDED_IN.false,
+      sym c.all_within.ensures ∙ c.if-not-all_within.false,
+      c.if-n-entries.true,
+    )
 
 pub returns : goal.returns
 unfolding first_failed
 returns c =
-    rw (is_sound _ _ c.audited-audit.ensures c.if-not-audit.false, le-leb _ max_handed_in c.if-n-gt-MAX_HANDED_IN.false, sym c.all_within.ensures ∙ c.if-not-all_within.false, c.if-n-entries.false)
+    let yes = is_sound _ _ c.audited-audit.ensures c.if-not-audit.false in
+    rw (
+      yes,
+      le-leb _ max_handed_in c.if-n-gt-MAX_HANDED_IN.false,
+      sym c.all_within.ensures ∙ c.if-not-all_within.false,
+      c.if-n-entries.false,
+    )

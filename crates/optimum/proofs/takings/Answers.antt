@@ -20,15 +20,23 @@ is_sound s a e f = sym (sound_told s a e) ∙ not-false a.sound f
 
 pub returns-then-not-audit : goal.returns-then-not-audit
 unfolding takings_answer first_failed
-returns-then-not-audit c = rw (sym (sound_told _ _ c.audited-audit.ensures) ∙ not-true c.audited-audit.result.sound c.if-not-audit.true)
+returns-then-not-audit c =
+    let no = not-true c.audited-audit.result.sound c.if-not-audit.true in
+    rw (sym (sound_told _ _ c.audited-audit.ensures) ∙ no)
 
 pub returns-then-entries-gt-MAX_HANDED_IN : goal.returns-then-entries-gt-MAX_HANDED_IN
 unfolding takings_answer first_failed
-returns-then-entries-gt-MAX_HANDED_IN c = rw (is_sound _ _ c.audited-audit.ensures c.if-not-audit.false, lt-leb _ max_handed_in c.if-entries-gt-MAX_HANDED_IN.true)
+returns-then-entries-gt-MAX_HANDED_IN c =
+    let yes = is_sound _ _ c.audited-audit.ensures c.if-not-audit.false in
+    rw (yes, lt-leb _ max_handed_in c.if-entries-gt-MAX_HANDED_IN.true)
 
 pub takings-requires : goal.takings-requires
-takings-requires c = ((sound_facts _ (is_sound _ _ c.audited-audit.ensures c.if-not-audit.false)).few, c.if-entries-gt-MAX_HANDED_IN.false, omega arith)
+takings-requires c =
+    let yes = is_sound _ _ c.audited-audit.ensures c.if-not-audit.false in
+    ((sound_facts _ yes).few, c.if-entries-gt-MAX_HANDED_IN.false, omega arith)
 
 pub returns : goal.returns
 unfolding takings_answer first_failed
-returns c = rw (is_sound _ _ c.audited-audit.ensures c.if-not-audit.false, le-leb _ max_handed_in c.if-entries-gt-MAX_HANDED_IN.false, c.takings.ensures)
+returns c =
+    let yes = is_sound _ _ c.audited-audit.ensures c.if-not-audit.false in
+    rw (yes, le-leb _ max_handed_in c.if-entries-gt-MAX_HANDED_IN.false, c.takings.ensures)
