@@ -15,7 +15,7 @@ ghost use Rattle.optimum.specs.Cited.{Divided};
 use campaigns::{BUDGETS, Head};
 use day::ops::audited;
 
-// Question 19's limit: what `first_failed` and `takings` answer by it is proved against `max-handed-in`.
+// Question 19's limit: what `first_failed` and `takings` answer by it is proved against `max_handed_in`.
 const MAX_HANDED_IN: usize = 256;
 
 // The number of the question that failed, or takings: of the search, the greatest.

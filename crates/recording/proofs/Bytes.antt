@@ -1,5 +1,5 @@
 -- Bytes taken one part after the other. Both what a session becomes and what is recorded compose (`took_more`); bytes
--- without a byte 10 record nothing (`took-plain`), and a byte 10 records what the pending line shows (`took-end`).
+-- without a byte 10 record nothing (`took_plain`), and a byte 10 records what the pending line shows (`took_end`).
 use mathlib.Core.Path.{◌≡◌, refl, sym, ap, ap₂, ◌∙◌}
 use mathlib.Core.Bool.{Bool, true, false, cond}
 use mathlib.Core.List.{List, [], ◌∷◌, ◌++◌}

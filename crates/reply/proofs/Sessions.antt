@@ -16,7 +16,7 @@ use Rattle.day.specs.declared.Day.{Day}
 use Rattle.reply.specs.Reply.{request_of, executed, outcome, reply_records, record_lines, reply, next}
 use Rattle.reply.specs.Session.{Session, reply_room, longer, ended, after_byte, fed, consumed_count, upto}
 
--- A line cut at `line-buffer` bytes reads as the whole line does.
+-- A line cut at `line_buffer` bytes reads as the whole line does.
 
 cut_long : (l : List ℕ) → max_line < length l → reading l ≡ Refusal 16
 unfolding reading

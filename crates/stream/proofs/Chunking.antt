@@ -180,7 +180,7 @@ line_said s p l e =
     ∙ ap (λ (d : Day). record { day = d; pending = []; output = p ++ reply s (take line_buffer l) }) (cut_next s l)
     ∙ ap (λ (w : List ℕ). record { day = next s l; pending = []; output = p ++ w }) (cut_reply s l)
 
--- the whole input: each line is answered as the whole line is, and of the rest at most `line-buffer` bytes are held
+-- the whole input: each line is answered as the whole line is, and of the rest at most `line_buffer` bytes are held
 pub fed_lines : (s : Day) (p : List ℕ) (ls : List (List ℕ)) (rest : List ℕ) → AllPlain ls → Plain rest
     → fed (record { day = s; pending = []; output = p }) (joined ls rest)
     ≡ record { day = after_lines s ls; pending = take line_buffer rest; output = p ++ replies s ls }
@@ -210,7 +210,7 @@ replies_append s (l ∷ ls) ms =
     append_assoc (reply s l) (replies (next s l) ls) (replies (after_lines (next s l) ls) ms)
     ∙ ap (λ (w : List ℕ). reply s l ++ w) (replies_append (next s l) ls ms)
 
--- the end of input: a last line of which at most `line-buffer` bytes are held is answered as the whole
+-- the end of input: a last line of which at most `line_buffer` bytes are held is answered as the whole
 last_cut : (s : Day) (rest : List ℕ)
     → (after_lines s (last_line (take line_buffer rest)) ≡ after_lines s (last_line rest))
     × (replies s (last_line (take line_buffer rest)) ≡ replies s (last_line rest))

@@ -1,5 +1,5 @@
 -- A block that is fed part by part, each as far as there is room for its answers: a part and then a part is a part
--- (`stream-more`, `said_more`), and each part takes a byte at least (`part-further`).
+-- (`stream_more`, `said_more`), and each part takes a byte at least (`part_further`).
 use mathlib.Core.Path.{◌≡◌, sym, ap, ◌∙◌, subst}
 use mathlib.Core.List.{List, [], ◌∷◌, ◌++◌}
 use Prim.Native.Nat.{ℕ, ◌+◌, ◌-◌, ◌≤◌, ◌<◌}

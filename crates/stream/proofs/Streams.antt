@@ -36,7 +36,7 @@ always_in_lent_memory m t n p = record {
   written_is = refl;
 }
 
--- no more than `line-buffer` bytes are held
+-- no more than `line_buffer` bytes are held
 pub take_least : (h : List ℕ) (k : ℕ) → length h ≡ line_buffer → take (min k line_buffer) h ≡ take k h
 take_least h k e = go (leb k line_buffer) refl
   where

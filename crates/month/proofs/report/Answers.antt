@@ -23,12 +23,11 @@ loop-i-preserved c =
     let l = c.loop-i in
     let days = c.args.days.now in
     let fits : Fits (after l.so_far (day days l.i) l.i) (l.i + 1) =
-        subst (λ (n : ℕ). Fits (after l.so_far (day days l.i) l.i) n) (sym (add-one l.i))
-        (after_fits l.so_far (day days l.i) l.i _ refl (omega arith) l.invariant.2) in
-    (
+    subst (λ (n : ℕ). Fits (after l.so_far (day days l.i) l.i) n) (sym (add-one l.i))
+    (after_fits l.so_far (day days l.i) l.i _ refl (omega arith) l.invariant.2) in (
       omega arith,
       c.with-so_far.ensures ∙ ap (λ (m : Partial). after m (day days l.i) l.i) l.invariant.1
-      ∙ sym (upto_next days l.i),
+          ∙ sym (upto_next days l.i),
       subst (λ (m : Partial). Fits m (l.i + 1)) (sym c.with-so_far.ensures) fits,
     )
 

@@ -28,14 +28,14 @@ pub overflow_add-takings : goal.overflow_add-takings
 overflow_add-takings c =
     let a = c.args in
     let r = in_range a.self a.day a.place c.requires
-        (all_belong a.self a.day true c.belongs.result c.belongs.ensures c.if-self-belongs.true) in
+    (all_belong a.self a.day true c.belongs.result c.belongs.ensures c.if-self-belongs.true) in
     omega (arith, r.takings_fit, c.requires.takings_fit, c.requires.few)
 
 pub overflow_add-greatest : goal.overflow_add-greatest
 overflow_add-greatest c =
     let a = c.args in
     let r = in_range a.self a.day a.place c.requires
-        (all_belong a.self a.day true c.belongs.result c.belongs.ensures c.if-self-belongs.true) in
+    (all_belong a.self a.day true c.belongs.result c.belongs.ensures c.if-self-belongs.true) in
     omega (arith, r.greatest_fits, c.requires.greatest_fits, c.requires.few)
 
 pub outdoes-requires : goal.outdoes-requires

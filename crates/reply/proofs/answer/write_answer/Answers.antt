@@ -1,4 +1,4 @@
--- Each answer's arm writes the record of its line, at most `answer-room` bytes; a tally writes nothing.
+-- Each answer's arm writes the record of its line, at most `answer_room` bytes; a tally writes nothing.
 use mathlib.Core.Path.{◌≡◌, refl, sym, ap, ◌∙◌, subst}
 use mathlib.Core.Bool.{true}
 use mathlib.Core.List.{List, [], ◌∷◌}

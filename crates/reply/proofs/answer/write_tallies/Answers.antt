@@ -1,4 +1,4 @@
--- The loop keeps: the tallies of the first i campaigns stand from `at` to `to`, at most `answer-room` bytes each.
+-- The loop keeps: the tallies of the first i campaigns stand from `at` to `to`, at most `answer_room` bytes each.
 use mathlib.Core.Path.{◌≡◌, sym, ap, ◌∙◌, subst}
 use mathlib.Core.List.{List, [], ◌∷◌, ◌++◌}
 use Prim.Native.Nat.{ℕ, ◌+◌}

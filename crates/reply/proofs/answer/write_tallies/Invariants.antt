@@ -1,4 +1,4 @@
--- The loop keeps: the tallies of the first i campaigns stand from `at` to `to`, at most `answer-room` bytes each.
+-- The loop keeps: the tallies of the first i campaigns stand from `at` to `to`, at most `answer_room` bytes each.
 use Prim.Native.Nat.{◌+◌, ◌-◌, ◌*◌, ◌≤◌}
 use Rattle.lines.specs.Limits.{answer_room}
 use Rattle.buffer.specs.Buffer.{Put}

@@ -1,4 +1,4 @@
--- The blank state, `line-buffer` zero bytes and none kept are the new stream.
+-- The blank state, `line_buffer` zero bytes and none kept are the new stream.
 use mathlib.Core.Path.{ap}
 use Rattle.finite.specs.Finite.{table}
 use Rattle.lines.specs.Limits.{line_buffer}
