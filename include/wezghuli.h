@@ -1,6 +1,6 @@
 /* Wezghuli: the controller above a fuel pump, as a library.
  *
- * Build the archive with `rt staticlib wezghuli` (target/staticlib/libwezghuli.a) and link it; docs/INTEGRATION.md has
+ * Build the archive with `tests/archive wezghuli` (target/staticlib/libwezghuli.a) and link it; docs/INTEGRATION.md has
  * the rest.
  *
  * Every function may be called with any numbers and any contents of what it is lent: none has a condition on them. It

@@ -44,7 +44,7 @@ const RUST: [&str; 9] = [
 ];
 
 /// The sources of the library itself: its functions, and its constants.
-const LIBRARY: [&str; 2] = ["crates/wezghuli/src", "crates/encoding/src"];
+const LIBRARY: [&str; 3] = ["crates/wezghuli_c/src", "crates/wezghuli/src", "crates/encoding/src"];
 
 /// What is compared.
 #[derive(Clone)]

@@ -1,4 +1,4 @@
-// The product's reader and writer, by the C functions of crates/wezghuli.
+// The product's reader and writer, by the C functions of crates/wezghuli_c.
 use crate::second::Rec;
 
 extern "C" {

@@ -92,7 +92,7 @@ fn lines(file: &PathBuf) -> usize {
 /// The lines of all definitions but those that serve the contracts of inner functions.
 fn all_definitions() -> usize {
     let files = |folder: PathBuf| fs::read_dir(folder).into_iter().flatten().flatten().map(|entry| entry.path());
-    let inner = |file: &PathBuf| file.ends_with("Contracts.antt") || file.ends_with("Lib.antt");
+    let inner = |file: &PathBuf| file.ends_with("Cited.antt") || file.ends_with("Lib.antt");
     files("crates".into()).flat_map(|c| files(c.join("specs"))).filter(|file| !inner(file)).map(|f| lines(&f)).sum()
 }
 

@@ -12,7 +12,7 @@ const KEYWORDS: [&str; 13] = [
 
 /// Names of the machine and of the kit.
 const ELSEWHERE: [&str; 8] =
-    ["cargo", "rustc", "ldd", "abort", "requires", "io::large_buffer", "libc::read", "libc::write"];
+    ["cargo", "rustc", "ldd", "abort", "requires", "libc::read", "libc::write", "os::c::rattle_errno"];
 
 /// Where the paths of the documents begin.
 const ROOTS: [&str; 9] = ["crates", "docs", "tests", "second", "bench", "examples", "include", ".ci", "run"];
@@ -66,13 +66,12 @@ fn names_of(file: &Path) -> HashSet<String> {
     of_text.into_iter().map(str::to_string).chain(own).collect()
 }
 
-/// The files of definitions that a file imports, as `Rattle·CRATE.specs.File` or, of its own crate,
-/// `Rattle·CRATE·specs.specs.File`; what the code declares has no file.
+/// The files of definitions that a file imports, as `Rattle.CRATE.specs.File`; what the code declares has no file.
 pub fn imports(file: &Path) -> Vec<PathBuf> {
     let text = fs::read_to_string(file).unwrap_or_default();
     let imported = |line: &str| {
-        let (of_crate, path) = line.strip_prefix("use Rattle·")?.split_once(['·', '.'])?;
-        let name = words(path.trim_start_matches("specs.")).next()?;
+        let (of_crate, path) = line.strip_prefix("use Rattle.")?.split_once('.')?;
+        let name = words(path.strip_prefix("specs.")?).next()?;
         at(&Path::new("crates").join(of_crate).join("specs").join(name))
     };
     text.lines().filter_map(imported).collect()
@@ -81,7 +80,7 @@ pub fn imports(file: &Path) -> Vec<PathBuf> {
 fn walk(folder: &Path, files: &mut Vec<PathBuf>) {
     for path in fs::read_dir(folder).into_iter().flatten().flatten().map(|entry| entry.path()) {
         match path.is_dir() {
-            true if path.ends_with("target") => {}
+            true if path.ends_with("target") || path.ends_with("out") => {}
             true => walk(&path, files),
             false => files.push(path),
         }

@@ -1,19 +1,17 @@
 //! Single changes of the proved sources, each of which the prover should refuse.
 //!
-//! mutants ROOT FOLDER [--each N] [--limit SECONDS] [--sample N] [--list | --compile] (CRATE | ID)...
-//! ROOT is the project; FOLDER gets `list`, `results`, the logs in `log` and the copy that is changed. What stands in
-//! `results` is not run again, unless the crate is another by now or the time was too short.
+//! mutants ROOT FOLDER WORK [--each N] [--limit SECONDS] [--sample N] [--list | --compile] (CRATE | ID)...
+//! ROOT is the project; FOLDER gets `list`, `results` and the logs in `log`, WORK the copy that is changed. What stands
+//! in `results` is not run again, unless the crate is another by now or the time was too short.
 //! ROOT/tests/mutate/MUTANTS.md is written anew.
 
 mod change;
-mod kit;
 mod prover;
 mod report;
 mod source;
 mod verdict;
 
 use change::{Changer, Scope};
-use kit::Kit;
 use prover::{Prover, Verdict};
 use std::collections::BTreeMap;
 use std::fs;
@@ -23,7 +21,7 @@ use std::process::Command;
 use std::time::Instant;
 use verdict::told_of;
 
-const CRATES: [&str; 28] = [
+const CRATES: [&str; 29] = [
     "sets",
     "powers",
     "exchange",
@@ -52,6 +50,7 @@ const CRATES: [&str; 28] = [
     "pumpgreatest",
     "encoding",
     "wezghuli",
+    "wezghuli_c",
 ];
 
 pub struct Mutant {
@@ -174,40 +173,26 @@ fn mutants(root: &Path, name: &str, each: usize, changer: &Changer) -> Vec<Mutan
     found
 }
 
-/// The crates, what is proved of them, and the tests of the program, copied to a folder of their own.
+/// The crates with what is proved of them, and the tests of the program, copied to a folder of their own.
 fn copy(root: &Path, work: &Path) {
-    let fresh = ["crates", "tests", "second", "docs"];
-    fresh.iter().for_each(|part| drop(fs::remove_dir_all(work.join(part))));
-    fs::create_dir_all(work.join("target")).expect("a folder");
     // the steps of the gate that judge a program read these pages
-    let mut parts = [&fresh[..], &["crates.txt", "run", "README.md"]].concat();
-    // proofs of the same files count in the copy too
-    if !work.join("target/stamp").exists() && root.join("target/stamp").exists() {
-        parts.extend(["target/stamp", "target/rlib", "target/log", "target/bin"]);
-    }
-    for part in parts {
-        let done = Command::new("cp").arg("-r").arg(root.join(part)).arg(work.join(part)).status();
+    for part in ["crates", "tests", "second", "docs", "crates.txt", "run", "README.md"] {
+        let done = Command::new("cp").arg("-a").arg(root.join(part)).arg(work.join(part)).status();
         assert!(done.expect("cp runs").success(), "{part} is not copied");
     }
 }
 
-/// Says which changes do not compile, and which make no other code: the operators should make few of them.
+/// Says which changes do not compile: the operators should make few of them.
 fn compile(prover: &Prover, name: &str, all: &[&Mutant]) {
     let mut bad = 0;
-    let source = |m: &Mutant| fs::read_to_string(prover.work.join(&m.file)).expect("a source file");
-    let Some(first) = all.first() else { return };
-    let before = prover.compiled(name, &first.file, &source(first));
     for mutant in all {
-        let after = prover.compiled(name, &mutant.file, &mutant.changed(&source(mutant)));
-        let why = match &after {
-            Err(error) => error,
-            Ok(_) if after == before => "the same code",
-            Ok(_) => continue,
-        };
-        println!("{}: {}: {why}", mutant.id, mutant.diff());
-        bad += 1;
+        let source = fs::read_to_string(prover.work.join(&mutant.file)).expect("a source file");
+        if let Err(why) = prover.compiled(name, &mutant.file, &mutant.changed(&source)) {
+            println!("{}: {}: {why}", mutant.id, mutant.diff());
+            bad += 1;
+        }
     }
-    println!("{name}: {bad} of {} are no changes of the code", all.len());
+    println!("{name}: {bad} of {} do not compile", all.len());
 }
 
 struct Options {
@@ -311,8 +296,8 @@ fn put(folder: &Path, mutant: &Mutant, verdict: &Verdict) {
 
 fn main() {
     let args: Vec<String> = std::env::args().skip(1).collect();
-    let (root, folder) = (PathBuf::from(&args[0]), PathBuf::from(&args[1]));
-    let o = options(&args[2..]);
+    let [root, folder, work] = [0, 1, 2].map(|i| PathBuf::from(&args[i]));
+    let o = options(&args[3..]);
     let all = all(&root, o.each);
     let line =
         |m: &Mutant| format!("{}\t{}:{}\t{}\t{}\t{}\n", m.id, m.file.display(), m.line, m.item, m.operator, m.diff());
@@ -322,9 +307,8 @@ fn main() {
         return;
     }
     let results = folder.join("results");
-    let work = folder.join("work");
     copy(&root, &work);
-    let prover = Prover { kit: Kit::of(&work), work, limit: o.limit };
+    let prover = Prover { work, limit: o.limit };
     for name in &o.crates {
         let known = report::read(&results);
         let of_crate: Vec<&Mutant> = all.iter().filter(|m| m.name == *name || m.id == *name).collect();

@@ -1,10 +1,9 @@
 //! A copy of the project in which one line is changed at a time, and what the prover says of it.
 
-use crate::kit::{fill, inner, Kit};
 use crate::verdict::{ended, first, short, verdict, Run};
 use std::fs::{self, File};
 use std::path::{Path, PathBuf};
-use std::process::Command;
+use std::process::{Command, Stdio};
 use std::time::Instant;
 
 /// What the programs read and write is not proved but tested: the crates that have it, and the steps of the gate.
@@ -15,11 +14,10 @@ const TESTED: [(&str, &[&[&str]]); 4] = [
     ("pumpgreatest", &[&["tests/gate/run"]]),
 ];
 
-/// The crate that is checked in the least time.
-const SMALLEST: &str = "finite";
+/// Runs a program on its stored day, once it is proved.
+const STORED_DAY: &str = "rt run < stdin > out/written && cmp out/written stdout";
 
 pub struct Prover {
-    pub kit: Kit,
     /// The copy.
     pub work: PathBuf,
     /// Seconds for one change.
@@ -35,53 +33,53 @@ pub struct Verdict {
 }
 
 impl Prover {
-    fn run(&self, command: &str, name: &str, limit: u64) -> Run {
-        let limit = limit.to_string();
-        let output = Command::new("timeout").args([&limit, "rt", command, name]).current_dir(&self.work).output();
-        ended(output.expect("timeout and rt are there"))
+    fn folder(&self, name: &str) -> PathBuf {
+        self.work.join("crates").join(name)
     }
 
-    fn incremental(&self) -> PathBuf {
-        self.work.join("incremental")
+    fn is_program(&self, name: &str) -> bool {
+        self.folder(name).join("src/main.rt").is_file()
     }
 
-    /// What is checked of the crate as it is.
-    fn kept(&self) -> PathBuf {
-        self.work.join("kept")
+    /// What a command says in the crate's folder in the copy.
+    fn run(&self, command: &[&str], name: &str, limit: u64) -> Run {
+        let mut timed = Command::new("timeout");
+        timed.arg(limit.to_string()).args(command).current_dir(self.folder(name)).stdin(Stdio::null());
+        ended(timed.output().expect("timeout and rt are there"))
     }
 
-    /// The crate's folder in the copy, checked as `rt dev` checks it over what is checked there.
-    fn quick(&self, name: &str, checked: &Path, folder: &str) -> Run {
-        fill(&self.incremental(), checked, folder);
-        self.kit.check(name, &self.work.join("crates").join(name), &self.incremental(), self.limit)
+    /// The crate in the copy, checked over what `rt` kept of the checks before; a program is run on its stored day too.
+    fn proved(&self, name: &str, limit: u64) -> Run {
+        let command: &[&str] = if self.is_program(name) { &["sh", "-c", STORED_DAY] } else { &["rt", "check"] };
+        self.run(command, name, limit)
     }
 
     /// The crate as it is must be proved, in whatever time (0), and its steps of the gate must pass, or nothing can be
     /// told of its changes.
     pub fn baseline(&self, name: &str) -> Result<(), String> {
-        let proved = |what: &str, run: Run| match run.status {
-            Some(0) => Ok(()),
-            _ => Err(format!("{what} fails without any change:\n{}", run.log)),
-        };
-        proved("rt check", self.run("check", name, 0))?;
-        self.failed_step(name).map_or(Ok(()), |log| Err(format!("a step fails without any change:\n{log}")))?;
-        // any run shows the name of the prover's folder
-        proved("rt dev", self.run("dev", SMALLEST, 0))?;
-        let folder = inner(&self.work.join("target/inc").join(SMALLEST));
-        proved("the check", self.quick(name, &self.kit.checked(name), &folder))?;
-        let _ = fs::remove_dir_all(self.kept());
-        fs::rename(self.incremental(), self.kept()).map_err(|error| error.to_string())
+        let run = self.proved(name, 0);
+        if run.status != Some(0) {
+            return Err(format!("rt fails without any change:\n{}", run.log));
+        }
+        self.failed_step(name).map_or(Ok(()), |log| Err(format!("a step fails without any change:\n{log}")))
     }
 
-    /// The crate's code as the compiler sees it, or its first error. It proves nothing and takes a second.
-    pub fn compiled(&self, name: &str, file: &Path, changed: &str) -> Result<String, String> {
-        self.with(file, changed, || {
-            let run = self.run("mir", name, self.limit);
-            match run.status {
-                Some(0) => Ok(run.log),
-                _ => Err(first(&run.log, |l| l.contains("error")).unwrap_or("no error is shown").into()),
-            }
-        })
+    /// Whether the compiler takes the crate, or its first error. It proves nothing.
+    pub fn compiled(&self, name: &str, file: &Path, changed: &str) -> Result<(), String> {
+        let run = self.with(file, changed, || self.run(&["rt", "check", "--only", ""], name, self.limit));
+        match first(&run.log, |l| l.contains(": error[")) {
+            Some(line) => Err(line.into()),
+            None if run.status.is_none() => Err("no answer in time".into()),
+            None => Ok(()),
+        }
+    }
+
+    /// The code of the crate as it stands, which is built only where it is proved.
+    fn code(&self, name: &str) -> Option<Vec<u8>> {
+        let library = format!("out/rlib/{name}.rlib/toolchain/mir.json");
+        let (command, made) = if self.is_program(name) { ("run", format!("out/{name}")) } else { ("lib", library) };
+        let run = self.run(&["rt", command], name, self.limit);
+        fs::read(self.folder(name).join(made)).ok().filter(|_| run.status == Some(0))
     }
 
     /// Something done while a file is changed.
@@ -92,17 +90,6 @@ impl Prover {
         let done = job();
         fs::write(&path, before).expect("the file as it was");
         done
-    }
-
-    /// This refuses as `rt check` does, in less time; what it takes for proved is proved again by `rt check`.
-    fn proved(&self, name: &str) -> Run {
-        let folder = inner(&self.kept());
-        let quick = self.quick(name, &self.kept().join(&folder), &folder);
-        if quick.status == Some(0) {
-            self.run("check", name, self.limit)
-        } else {
-            quick
-        }
     }
 
     /// The log of the first step that fails with the crate as it is changed.
@@ -137,8 +124,7 @@ impl Prover {
         for (path, (_, text)) in paths.iter().zip(changed) {
             fs::write(path, text).expect("the changed file");
         }
-        let folder = inner(&self.kept());
-        let run = self.quick(name, &self.kept().join(&folder), &folder);
+        let run = self.run(&["rt", "check"], name, self.limit);
         for (path, text) in paths.iter().zip(before) {
             fs::write(path, text).expect("the file as it was");
         }
@@ -148,7 +134,7 @@ impl Prover {
     pub fn judge(&self, name: &str, file: &Path, changed: &str) -> Verdict {
         let start = Instant::now();
         let (run, failed) = self.with(file, changed, || {
-            let run = self.proved(name);
+            let run = self.proved(name, self.limit);
             let failed = if run.status == Some(0) { self.failed_step(name) } else { None };
             (run, failed)
         });
@@ -159,8 +145,11 @@ impl Prover {
             (word, why, log) = ("noticed by a test", short(step.lines().next()), step);
         }
         let unchanged = fs::read_to_string(self.work.join(file)).expect("a source file");
-        if word == "SURVIVED" && self.compiled(name, file, changed) == self.compiled(name, file, &unchanged) {
-            word = "the same code";
+        if word == "SURVIVED" {
+            let code = self.with(file, changed, || self.code(name));
+            if code.is_some() && code == self.with(file, &unchanged, || self.code(name)) {
+                word = "the same code";
+            }
         }
         Verdict { word, why: why.replace(&format!("{}/", self.work.display()), ""), log, seconds }
     }

@@ -86,7 +86,7 @@ fn intro(each: usize) -> String {
         Made by `tests/mutants` on {}. `tests/mutants CRATE...`, or with ids, runs what was not run on the crate as it \
         is and writes this page; `--list` only lists, `--compile` only compiles, `--sample N` takes some N of a crate, \
         `--each N` takes more of each function, `--limit SECONDS` is the time for one (300). The results stand in \
-        `target/mutants`, or in the folder that MUTANTS names; `rt ci` removes the former.\n\n\
+        `target/mutants`, or in the folder that MUTANTS names.\n\n\
         Changes of several functions are tried at once, and each is told by the first error in its own function's \
         proof, which rests on no other body; what that does not tell of is tried alone.\n\n\
         The first error of the log tells, as document 90 asks; the logs stand beside the results. *Refused*: it says \

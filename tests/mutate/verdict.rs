@@ -3,9 +3,6 @@
 use std::path::Path;
 use std::process::Output;
 
-/// The program whose changes may be proved and noticed by its run.
-pub const PROGRAM: &str = "pumpday";
-
 /// The log of a run, and how it ended; None after the time limit.
 pub struct Run {
     pub log: String,
@@ -13,7 +10,8 @@ pub struct Run {
 }
 
 /// Errors that say that a proof no longer fits the code's steps, and not that a fact fails.
-const SHAPE: [&str; 4] = ["was not admitted", "that can be named from here", "not in scope", " has no field "];
+const SHAPE: [&str; 5] =
+    ["was not admitted", "that can be named from here", "not in scope", " has no field ", " has no `"];
 
 pub fn first<'a>(log: &'a str, is: impl Fn(&&str) -> bool) -> Option<&'a str> {
     log.lines().find(|line| is(line))
@@ -53,7 +51,7 @@ pub fn tells(line: &str) -> Option<&'static str> {
 }
 
 /// What the prover says of a function whose proof it makes, where a need is left.
-const NEED_LEFT: &str = "`search` does not close";
+const NEED_LEFT: &str = "`search` did not prove";
 
 /// What a log says of one function of a crate, `name` or `Type::name` in a source file, and the line that tells: the
 /// first error in its own proof, or what is left over where the prover makes the proof. A function's proof rests on its
@@ -67,8 +65,10 @@ pub fn told_of(name: &str, file: &Path, function: &str, log: &str) -> Option<(&'
         (false, "lib" | "main") => ("/proofs".into(), format!("fn {name}::{function}")),
         (false, _) => (format!("/proofs/{module}"), format!("fn {name}::{module}::{function}")),
     };
-    let proofs = ["", "+"].map(|cycle| format!("{folder}/{cycle}{}/Proof.antt:", function.replace("::", "/")));
-    let own = |line: &&str| tells(line).is_some() && proofs.iter().any(|path| line.contains(path));
+    let proofs = ["", "+"].map(|cycle| format!("{folder}/{cycle}{}/", function.replace("::", "/")));
+    let files = ["Answers.antt:", "Invariants.antt:", "Proof.antt:"];
+    let in_file = |line: &str, path: &str| files.iter().any(|file| line.contains(&format!("{path}{file}")));
+    let own = |line: &&str| tells(line).is_some() && proofs.iter().any(|path| in_file(line, path));
     let left = |line: &&str| line.contains(&format!("{path}: no proof: ")) && line.contains(NEED_LEFT);
     match first(log, own) {
         Some(line) => tells(line).map(|word| (word, short(Some(line)))),
@@ -76,15 +76,19 @@ pub fn told_of(name: &str, file: &Path, function: &str, log: &str) -> Option<(&'
     }
 }
 
-/// Told by the first error of the log that does not only follow from a callee's: the later ones may follow from it. rt
-/// runs a program that it has proved on its stored input: what fails then is that run, or it does not end.
+/// What rt says of a crate that it has proved, and of a program that it proved and built before.
+const PROVED: &str = "logic=proved ";
+const UNCHANGED: &str = "rt: nothing has changed since the last proved build";
+
+/// Told by the first error of the log that does not only follow from a callee's: the later ones may follow from it. A
+/// program that is proved is run on its stored input: what fails then is that run, or it does not end.
 pub fn verdict(run: &Run) -> (&'static str, String) {
     let told = first(&run.log, |line| tells(line).is_some()).or_else(|| first(&run.log, |line| error(line).is_some()));
     let told = told.and_then(|line| error(line).map(|word| (word, short(Some(line)))));
-    let proved = run.log.lines().rfind(|line| line.starts_with(&format!("rt: {PROGRAM} proved")));
+    let proved = run.log.lines().any(|line| line.starts_with(PROVED) || line.starts_with(UNCHANGED));
     match run.status {
         Some(0) => ("SURVIVED", String::new()),
-        _ if proved.is_some() => ("noticed by a test", short(proved)),
+        _ if proved => ("noticed by a test", short(run.log.lines().last())),
         None => ("no answer in time", String::new()),
         Some(_) => told.unwrap_or_else(|| ("unclear", short(first(&run.log, |l| l.contains("error"))))),
     }
@@ -124,10 +128,10 @@ mod tests {
 
     #[test]
     fn a_function_is_told_by_its_own_proof() {
-        let log = "/proofs/a/Proof.antt:1:2: error: `a-spec`: `close` was not admitted\n\
-            /proofs/m/T/b/Proof.antt:3:4: error: `returns`: the two types differ\n\
-            /proofs/m/+e/Proof.antt:5:6: error: `e`: module `Tie` has no `Need` that can be named from here\n\
-            fn c::m::d: no proof: expected `d-spec`; `search` does not close `returns`\n";
+        let log = "./proofs/a/Proof.antt:1:2: error: `a-spec`: `close` was not admitted\n\
+            ./proofs/m/T/b/Answers.antt:3:4: error: `returns`: the two types differ\n\
+            ./proofs/m/+e/Invariants.antt:5:6: error: `e`: module `Goals` has no `Need` that can be named from here\n\
+            fn c::m::d: no proof: expected answers in ./proofs/m/d/Answers.antt; `search` did not prove `returns`\n";
         let word = |file: &str, function: &str| told_of("c", Path::new(file), function, log).map(|told| told.0);
         assert_eq!(word("src/lib.rt", "a"), None);
         assert_eq!(word("src/lib.rt", "T::b"), Some("refused"));
@@ -139,13 +143,14 @@ mod tests {
 
     #[test]
     fn a_program_that_is_proved_has_failed_its_run() {
-        let (other, proved) = ("rt: desk proved (unchanged since it was last proved)\n", "rt: pumpday proved (86 s)\n");
-        let failed = "rt: pumpday proved, and its run FAILED (0 s)\n";
-        assert_eq!(word(&[other, proved, failed], Some(1)), "noticed by a test");
-        assert_eq!(word(&[other, proved], None), "noticed by a test");
-        assert_eq!(word(&[other, proved], Some(0)), "SURVIVED");
-        assert_eq!(word(&[other, FACT_ERROR], Some(1)), "refused");
-        assert_eq!(word(&[other], None), "no answer in time");
+        let (proved, unchanged) = ("logic=proved functions=1\n", "rt: nothing has changed since the last proved build\n");
+        let failed = "out/written stdout differ: byte 1, line 1\n";
+        assert_eq!(word(&[proved, failed], Some(1)), "noticed by a test");
+        assert_eq!(word(&[unchanged, failed], Some(1)), "noticed by a test");
+        assert_eq!(word(&[proved], None), "noticed by a test");
+        assert_eq!(word(&[proved], Some(0)), "SURVIVED");
+        assert_eq!(word(&["logic=not-proved\n", FACT_ERROR], Some(1)), "refused");
+        assert_eq!(word(&["rt: chose --jobs 2 for pumpday\n"], None), "no answer in time");
     }
 
     #[test]

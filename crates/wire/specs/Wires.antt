@@ -9,7 +9,7 @@ abbrev pub counted_on : ℕ → List ℕ → ℕ
 counted_on n l = (n + length l) % 2 ^ 64
 
 abbrev pub new_wire : Wire
-new_wire = record { reads = 0; got = 0; told = 0; ended = false; failed = false; sent = true }
+new_wire = record { reads = 0; got = 0; told = 0; ended = false; failed = false; sent = true; unread = false }
 
 -- nothing was read or told yet, and nothing ended or failed
 abbrev pub NewWireIs : Type 0

@@ -5,10 +5,11 @@
 ghost use Rattle.std.specs.Prelude.{◌≡◌, ◌<◌, length};
 ghost use Rattle.wire.specs.Wires.{new_wire, Reads, Writes};
 
-use std::io::{Read, Stderr, Stdin, Stdout, Write};
+use std::io::{ErrorKind, Read, Stderr, Stdin, Stdout, Write};
 
 // How many reads were made, how many bytes they gave and how many were told, each modulo 2^64; whether the last read
-// gave nothing and whether it failed, and whether every write went through.
+// gave nothing and whether it failed, and whether every write went through. Whether nobody reads the output any more is
+// known for `complain` alone.
 #[derive(Clone, Copy)]
 pub struct Wire {
     reads: u64,
@@ -17,6 +18,7 @@ pub struct Wire {
     ended: bool,
     failed: bool,
     sent: bool,
+    unread: bool,
 }
 
 // A wire after a read, and how many bytes the read put at the front of the block.
@@ -37,6 +39,7 @@ impl Wire {
             ended: false,
             failed: false,
             sent: true,
+            unread: false,
         }
     }
 
@@ -58,6 +61,7 @@ impl Wire {
                 ended: n == 0,
                 failed,
                 sent: self.sent,
+                unread: self.unread,
             },
             n,
         }
@@ -66,7 +70,12 @@ impl Wire {
     pub fn write(self, mut output: Stdout, bytes: &[u8]) -> Self
         ensures { Writes self bytes.now result }
     {
-        let went = output.write_all(bytes).is_ok();
+        let answer = output.write_all(bytes);
+        let went = answer.is_ok();
+        let unread = match answer {
+            Ok(()) => false,
+            Err(error) => matches!(error.kind(), ErrorKind::BrokenPipe),
+        };
         Wire {
             reads: self.reads,
             got: self.got,
@@ -74,6 +83,7 @@ impl Wire {
             ended: self.ended,
             failed: self.failed,
             sent: self.sent & went,
+            unread: self.unread | unread,
         }
     }
 
@@ -95,15 +105,16 @@ impl Wire {
         self.sent
     }
 
-    // One line on standard error for a read that failed, and one for a write, each opened by the program's name. It
-    // promises nothing: no contract can say what is written, and nothing counts what goes to standard error. The wire
-    // is handed over and not given back, so that no count can change.
+    // One line on standard error for a read that failed, and one for a write, each opened by the program's name; none
+    // where whoever read the output went away, which is no fault. It promises nothing: no contract can say what is
+    // written, and nothing counts what goes to standard error. The wire is handed over and not given back, so that no
+    // count can change.
     pub fn complain(self, mut error: Stderr, name: &[u8]) {
-        if self.failed {
+        if self.failed & !self.unread {
             let _name = error.write_all(name);
             let _rest = error.write_all(b": standard input could not be read\n");
         }
-        if !self.sent {
+        if !self.sent & !self.unread {
             let _name = error.write_all(name);
             let _rest = error.write_all(b": standard output could not be written\n");
         }
