@@ -1,7 +1,8 @@
 -- Allotments of views, their takings, and the figures that show an allotment to be greatest. There are n campaigns,
 -- each with a price and whole plays, and m views, each a set of names; what stands at an index is a function of it, and
 -- `to j` is who is given view j.
-use Rattle.std.specs.Prelude.{◌≡◌, Bool, true, cond, ◌||◌, ◌⊎◌, List, [], ◌∷◌, ℕ, ◌+◌, ◌*◌, ◌≤◌, ◌<◌, leb, ltb, eqb, get_or}
+use Rattle.std.specs.Prelude.{◌≡◌, Bool, true, cond, ◌||◌, ◌⊎◌, List, [], ◌∷◌, ℕ, ◌+◌, ◌*◌, ◌≤◌, ◌<◌, leb, ltb, eqb}
+use Rattle.std.specs.Prelude.{get_or}
 use Rattle.finite.specs.Finite.{sum, count, every, all}
 use Rattle.sets.specs.Set.{member}
 

@@ -36,7 +36,8 @@ pub fn first_open(n: usize, allotment: &[u64], from: usize) -> usize
 // The first view that names the campaign and is given to nobody, or their number where there is none. Those below
 // `first` are given. The holder is tested first: that branch is foreseen, the other is not.
 fn free_view(views: &[u64], allotment: &[u64], campaign: u64, first: usize, bare: u64) -> usize
-    requires views_in_bounds { (length views.now ≤ length allotment.now) × (campaign < 64) × (first ≤ length views.now) }
+    requires views_in_bounds { (length views.now ≤ length allotment.now) × (campaign < 64)
+        × (first ≤ length views.now) }
     requires none_free { NoneFree allotment.now first × Bare views.now allotment.now bare }
     ensures { result ≡ first_free views.now allotment.now campaign }
 {

@@ -1,6 +1,7 @@
 -- What reading a line answers: the record whose text it is, 16 or 17. Each form is tried in turn; OneText says that
 -- this is the inverse of `text`.
-use Rattle.std.specs.Prelude.{ℕ, zero, suc, ◌+◌, ◌*◌, ◌-◌, ◌^◌, Bool, true, false, cond, ◌&&◌, List, [], ◌∷◌, ltb, leb, eqb, length, get_or}
+use Rattle.std.specs.Prelude.{ℕ, zero, suc, ◌+◌, ◌*◌, ◌-◌, ◌^◌, Bool, true, false, cond, ◌&&◌, List, [], ◌∷◌, ltb}
+use Rattle.std.specs.Prelude.{leb, eqb, length, get_or}
 use Rattle.lines.specs.Limits.{max_line, set_bits}
 use Rattle.lines.specs.Form.{campaign_slot, names_slot, is_slot, template, in_slot}
 use Rattle.lines.specs.declared.Record.{Record}

@@ -82,7 +82,8 @@ fn dearest(prices: &[u32; 128], unserved: u64) -> u64
         let c = sets::first(left);
         let at = c as usize;
         let p = prices[at];
-        if top < p {
+        let dearer = top < p;
+        if dearer {
             best = c;
             top = p;
         }

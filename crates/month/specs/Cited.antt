@@ -1,5 +1,6 @@
 -- Names for the contracts of the functions that take one record after the other.
-use Rattle.std.specs.Prelude.{◌≡◌, Bool, true, false, cond, not, ◌&&◌, ◌||◌, List, ℕ, ◌+◌, ◌*◌, ◌≤◌, ◌<◌, ltb, length, get_or}
+use Rattle.std.specs.Prelude.{◌≡◌, Bool, true, false, cond, not, ◌&&◌, ◌||◌, List, ℕ, ◌+◌, ◌*◌, ◌≤◌, ◌<◌, ltb, length}
+use Rattle.std.specs.Prelude.{get_or}
 use Rattle.month.specs.declared.DayRecord.{DayRecord}
 use Rattle.month.specs.declared.Month.{Month}
 use Rattle.month.specs.declared.Month.TheVariants.{Refused, Worst, NoWorst}

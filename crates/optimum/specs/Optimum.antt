@@ -1,6 +1,7 @@
 -- What the day could have earned: the questions of the search and of the check, and what each gives. Beyond question 1
 -- only the plan of the state counts: prices, budgets and the number of campaigns. A view is its set of unpaused names.
-use Rattle.std.specs.Prelude.{◌≡◌, Bool, true, false, cond, ◌&&◌, List, [], ◌∷◌, ◌↔◌, ℕ, zero, suc, ◌/◌, ◌≤◌, ◌<◌, leb, eqb, length, take}
+use Rattle.std.specs.Prelude.{◌≡◌, Bool, true, false, cond, ◌&&◌, List, [], ◌∷◌, ◌↔◌, ℕ, zero, suc, ◌/◌, ◌≤◌, ◌<◌}
+use Rattle.std.specs.Prelude.{leb, eqb, length, take}
 use Rattle.finite.specs.Finite.{sum, one_if, every}
 use Rattle.sets.specs.Set.{member, within}
 use Rattle.campaigns.specs.Campaign.{whole}

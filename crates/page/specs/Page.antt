@@ -1,6 +1,7 @@
 -- Document 02's station's page: its lines, and what is read from its bytes alone. It knows no state: Figures has the
 -- figures of one.
-use Rattle.std.specs.Prelude.{ℕ, zero, suc, ◌+◌, ◌*◌, ◌-◌, ◌/◌, ◌%◌, ◌^◌, ◌≤◌, ◌<◌, cond, List, [], ◌∷◌, ◌++◌, length, take, drop, replicate}
+use Rattle.std.specs.Prelude.{ℕ, zero, suc, ◌+◌, ◌*◌, ◌-◌, ◌/◌, ◌%◌, ◌^◌, ◌≤◌, ◌<◌, cond, List, [], ◌∷◌, ◌++◌, length}
+use Rattle.std.specs.Prelude.{take, drop, replicate}
 use Rattle.lines.specs.Numeral.{numeral}
 use Rattle.lines.specs.Form.{bytes}
 use Rattle.lines.specs.Reading.{is_digit}

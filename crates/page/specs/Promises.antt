@@ -1,6 +1,7 @@
 -- What is promised of every page: "No figure that the limits allow overflows its columns. The figures can be read back
 -- from a page alone, and no two different sets print alike."
-use Rattle.std.specs.Prelude.{ℕ, ◌+◌, ◌*◌, ◌/◌, ◌%◌, ◌<◌, ◌≡◌, true, cond, List, [], ◌∷◌, eqb, length, drop, replicate, get_or}
+use Rattle.std.specs.Prelude.{ℕ, ◌+◌, ◌*◌, ◌/◌, ◌%◌, ◌<◌, ◌≡◌, true, cond, List, [], ◌∷◌, eqb, length, drop}
+use Rattle.std.specs.Prelude.{replicate, get_or}
 use Rattle.day.specs.declared.Day.{Day}
 use Rattle.day.specs.Day.{campaign, total_takings, sound}
 use Rattle.lines.specs.Form.{bytes}

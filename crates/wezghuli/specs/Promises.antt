@@ -2,7 +2,8 @@
 -- a misuse leave all lent memory, what is given is stored, blocks in turn are handed to one stream, the check accepts
 -- what the search leaves and its takings are the greatest, each status is the number of the first question that fails,
 -- and misuse is told apart from every refusal.
-use Rattle.std.specs.Prelude.{◌≡◌, true, false, cond, List, [], ◌∷◌, map, ◌⊎◌, ℕ, ◌+◌, ◌≤◌, ◌<◌, eqb, length, get_or, take, replicate}
+use Rattle.std.specs.Prelude.{◌≡◌, true, false, cond, List, [], ◌∷◌, map, ◌⊎◌, ℕ, ◌+◌, ◌≤◌, ◌<◌, eqb, length, get_or}
+use Rattle.std.specs.Prelude.{take, replicate}
 use Rattle.campaigns.specs.View.{full}
 use Rattle.day.specs.Day.{blank}
 use Rattle.day.specs.Day as states
@@ -118,7 +119,8 @@ pub record Promises : Type 0 where
   -- campaign i of the arrays: its price and budget; its plays, turns, age and named
   pub columns : (head terms counts : List ℕ) (i : ℕ) → let c = states.campaign (lent_state head terms counts) i in
       (c.price ≡ get_or terms i 0) × (c.budget ≡ get_or terms (i + 64) 0) × (c.plays ≡ get_or counts i 0)
-      × (c.turns ≡ get_or counts (i + 64) 0) × (c.age ≡ get_or counts (i + 128) 0) × (c.named ≡ get_or counts (i + 192) 0)
+      × (c.turns ≡ get_or counts (i + 64) 0) × (c.age ≡ get_or counts (i + 128) 0)
+      × (c.named ≡ get_or counts (i + 192) 0)
   -- the stream in lent memory: the state that the operations find there, so that blocks and operations may take turns;
   -- the line buffer, and as many bytes kept as the first word says
   pub stream_is : (m : Lent) → ((stream_in m).day ≡ lent_state m.head m.terms m.counts)

@@ -1,5 +1,7 @@
 -- Counting goes on: what reads gave, block after block, is counted as one input.
-use Rattle.std.proofs.Common.{◌≡◌, ℕ, suc, ◌+◌, ◌%◌, ◌^◌, ◌<◌, true, false, List, [], ◌∷◌, ◌++◌, length, take, sym, refl, ap, ◌∙◌, subst, append-nil, mod-eq_of_lt, arith, length-append, length-take-le, eqb-true}
+use Rattle.std.proofs.Common.{◌≡◌, ℕ, suc, ◌+◌, ◌%◌, ◌^◌, ◌<◌, true, false, List, [], ◌∷◌, ◌++◌, length, take, sym}
+use Rattle.std.proofs.Common.{refl, ap, ◌∙◌, subst, append-nil, mod-eq_of_lt, arith, length-append, length-take-le}
+use Rattle.std.proofs.Common.{eqb-true}
 use native.Mathlib.Nat.{mod-add-mod}
 use borrow.Author.Tests.{eqb-false}
 use Rattle.wire.specs.declared.Wire.{Wire}

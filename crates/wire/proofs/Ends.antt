@@ -1,5 +1,6 @@
 -- What a wire begins with and counts, what ends an input, and how many reads a program can make.
-use Rattle.std.proofs.Common.{ℕ, ◌+◌, ◌%◌, ◌^◌, sym, refl, ap, ◌∙◌, mod-eq_of_lt, arith, length-take-le, eq-eqb, eqb-true}
+use Rattle.std.proofs.Common.{ℕ, ◌+◌, ◌%◌, ◌^◌, sym, refl, ap, ◌∙◌, mod-eq_of_lt, arith, length-take-le, eq-eqb}
+use Rattle.std.proofs.Common.{eqb-true}
 use Rattle.wire.specs.Wires.{NewWireIs, EmptyReadEnds, MaxReadsIs, WireCounts}
 
 pub empty_read_ends : EmptyReadEnds

@@ -1,7 +1,8 @@
 -- Standard input and output, as far as contracts reach: no contract can say what a read put into the block, or what a
 -- write made of its bytes. A wire counts the reads, the bytes that they gave and the bytes that were told, modulo 2^64;
 -- only `src/lib.rt` can put one together, and it is a value, which a program has to go on with.
-use Rattle.std.specs.Prelude.{◌≡◌, ℕ, ◌+◌, ◌-◌, ◌%◌, ◌^◌, ◌<◌, ◌≤◌, true, false, ◌↔◌, List, [], ◌∷◌, ◌++◌, length, take, ◌==◌}
+use Rattle.std.specs.Prelude.{◌≡◌, ℕ, ◌+◌, ◌-◌, ◌%◌, ◌^◌, ◌<◌, ◌≤◌, true, false, ◌↔◌, List, [], ◌∷◌, ◌++◌, length}
+use Rattle.std.specs.Prelude.{take, ◌==◌}
 use Rattle.wire.specs.declared.Wire.{Wire}
 
 -- n, and as many more as l has bytes

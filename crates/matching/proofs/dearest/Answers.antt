@@ -7,7 +7,7 @@ use Rattle.matching.proofs.Turns.{rest_of, at_hand, rest_fewer}
 use Rattle.matching.proofs.Choosing.{same_choosing, choose_start, choose_dearer, choose_same}
 use Rattle.matching.proofs.Choosing.{choose_end}
 use Rattle.matching.proofs.dearest.Goals as goal
-use Rattle.matching.proofs.dearest.Goals.{then-top-p, else-top-p}
+use Rattle.matching.proofs.dearest.Goals.{then-dearer, else-dearer}
 
 -- the least that is not served
 start : (c : goal.After-first-best) → c.first-best.result < 64
@@ -32,11 +32,11 @@ pub loop-left-preserved : goal.loop-left-preserved
 loop-left-preserved c =
     let l = c.loop-left in
     let e = rest_of l.left c.first-c.ensures c.rest-left-in-loop-left.ensures in
-    elim c.if-top-p.branch [
-      | then-top-p w ↦ same_choosing w.best-is w.top-is
-          (choose_dearer l.invariant c.loop-left-test.true c.first-c.ensures e w.if-top-p.true)
-      | else-top-p w ↦ same_choosing w.best-is w.top-is
-          (choose_same l.invariant c.loop-left-test.true c.first-c.ensures e w.if-top-p.false)
+    elim c.if-dearer.branch [
+      | then-dearer w ↦ same_choosing w.best-is w.top-is
+          (choose_dearer l.invariant c.loop-left-test.true c.first-c.ensures e w.if-dearer.true)
+      | else-dearer w ↦ same_choosing w.best-is w.top-is
+          (choose_same l.invariant c.loop-left-test.true c.first-c.ensures e w.if-dearer.false)
     ]
 
 pub returns : goal.returns

@@ -9,7 +9,8 @@ use Rattle.noon.proofs.total_due.Given as goal
 
 abbrev pub invariant-loop-i : goal.invariant-loop-i
 invariant-loop-i l =
-    (l.i ≤ l.n) × (l.all ≡ sum l.i (λ j. (campaign_at l.terms l.counts j).price * due l.depth (campaign_at l.terms l.counts j)))
+    (l.i ≤ l.n)
+    × (l.all ≡ sum l.i (λ j. (campaign_at l.terms l.counts j).price * due l.depth (campaign_at l.terms l.counts j)))
     × (l.all ≤ l.i * 4_294_967_296)
 
 abbrev pub decreases-loop-i : goal.decreases-loop-i

@@ -6,7 +6,8 @@ use Rattle.buffer.specs.Buffer.{over}
 use Rattle.page.proofs.clear.Given as goal
 
 abbrev pub invariant-loop-i : goal.invariant-loop-i
-invariant-loop-i l = (l.i ≤ l.n) × (l.out ≡ over l.initial.out 0 (replicate l.i 32)) × (length l.out ≡ length l.initial.out)
+invariant-loop-i l = (l.i ≤ l.n) × (l.out ≡ over l.initial.out 0 (replicate l.i 32))
+    × (length l.out ≡ length l.initial.out)
 
 abbrev pub decreases-loop-i : goal.decreases-loop-i
 decreases-loop-i l = l.n - l.i

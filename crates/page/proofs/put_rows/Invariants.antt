@@ -14,7 +14,8 @@ rows_of n t k = table n (λ i. page_row (campaign_at t k i))
 
 abbrev pub invariant-loop-i : goal.invariant-loop-i
 invariant-loop-i l =
-    (l.i ≤ l.n) × Lays l.initial.out l.out (line_length * l.i) (line_length * l.n) (row_lines l.i (drop l.i (rows_of l.n l.terms l.counts)))
+    (l.i ≤ l.n)
+    × Lays l.initial.out l.out (line_length * l.i) (line_length * l.n) (row_lines l.i (drop l.i (rows_of l.n l.terms l.counts)))
 
 abbrev pub decreases-loop-i : goal.decreases-loop-i
 decreases-loop-i l = l.i

@@ -6,7 +6,8 @@ use Rattle.buffer.specs.Buffer.{over}
 use Rattle.print.proofs.put.Given as goal
 
 abbrev pub invariant-loop-i : goal.invariant-loop-i
-invariant-loop-i l = (l.i ≤ length l.word) × (l.out ≡ over l.initial.out l.at (take l.i l.word)) × (length l.out ≡ length l.initial.out)
+invariant-loop-i l = (l.i ≤ length l.word) × (l.out ≡ over l.initial.out l.at (take l.i l.word))
+    × (length l.out ≡ length l.initial.out)
 
 abbrev pub decreases-loop-i : goal.decreases-loop-i
 decreases-loop-i l = length l.word - l.i

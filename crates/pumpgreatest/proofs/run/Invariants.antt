@@ -8,7 +8,8 @@ use Rattle.pumpgreatest.proofs.run.Given as goal
 
 abbrev pub invariant-loop-turns : goal.invariant-loop-turns
 invariant-loop-turns l =
-    (length l.block ≡ length l.initial.block) × (length l.views ≡ length l.initial.views) × (length l.out ≡ length l.initial.out)
+    (length l.block ≡ length l.initial.block) × (length l.views ≡ length l.initial.views)
+    × (length l.out ≡ length l.initial.out)
     × Reached l.initial.views l.stream l.views l.teller l.turns
 
 abbrev pub decreases-loop-turns : goal.decreases-loop-turns

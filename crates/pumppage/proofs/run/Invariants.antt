@@ -7,7 +7,8 @@ use Rattle.pumppage.proofs.run.Given as goal
 
 abbrev pub invariant-loop-turns : goal.invariant-loop-turns
 invariant-loop-turns l =
-    (length l.block ≡ length l.initial.block) × (length l.out ≡ length l.initial.out) × Reached l.stream l.teller l.turns
+    (length l.block ≡ length l.initial.block) × (length l.out ≡ length l.initial.out)
+    × Reached l.stream l.teller l.turns
 
 abbrev pub decreases-loop-turns : goal.decreases-loop-turns
 decreases-loop-turns l = l.turns

@@ -8,7 +8,8 @@ use Rattle.pumppage.proofs.take_block.Given as goal
 
 abbrev pub invariant-loop-t : goal.invariant-loop-t
 invariant-loop-t l =
-    (length l.out ≡ length l.initial.out) × (l.t.from ≤ length l.block) × Took l.initial.t.stream (take l.t.from l.block) l.t.stream
+    (length l.out ≡ length l.initial.out) × (l.t.from ≤ length l.block)
+    × Took l.initial.t.stream (take l.t.from l.block) l.t.stream
 
 abbrev pub decreases-loop-t : goal.decreases-loop-t
 decreases-loop-t l = length l.block - l.t.from

@@ -7,7 +7,8 @@ use Rattle.campaigns.proofs.weights.falling.Given as goal
 
 abbrev pub invariant-loop-i : goal.invariant-loop-i
 invariant-loop-i l =
-    (l.i ≤ l.depth + 1) × (l.power ≡ l.base ^ l.i) × ((j : ℕ) → j < l.i → get_or l.list (l.depth - j) 0 ≡ l.base ^ j) × (length l.list ≡ 33)
+    (l.i ≤ l.depth + 1) × (l.power ≡ l.base ^ l.i) × ((j : ℕ) → j < l.i → get_or l.list (l.depth - j) 0 ≡ l.base ^ j)
+    × (length l.list ≡ 33)
 
 abbrev pub decreases-loop-i : goal.decreases-loop-i
 decreases-loop-i l = l.depth + 1 - l.i

@@ -8,7 +8,8 @@ use Rattle.campaigns.proofs.weights.raise.Given as goal
 
 abbrev pub invariant-loop-i : goal.invariant-loop-i
 invariant-loop-i l =
-    (l.i ≤ l.depth + 1) × (l.power ≡ l.width ^ l.i) × ((a : ℕ) → a < l.i → a ≤ l.depth → get_or l.list a 0 ≡ weight l.depth l.width a)
+    (l.i ≤ l.depth + 1) × (l.power ≡ l.width ^ l.i)
+    × ((a : ℕ) → a < l.i → a ≤ l.depth → get_or l.list a 0 ≡ weight l.depth l.width a)
     × ((a : ℕ) → l.i ≤ a → a ≤ l.depth → get_or l.list a 0 ≡ (l.width - 1) ^ (l.depth - a)) × (length l.list ≡ 33)
 
 abbrev pub decreases-loop-i : goal.decreases-loop-i

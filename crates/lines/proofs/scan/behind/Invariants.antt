@@ -9,7 +9,8 @@ use Rattle.lines.proofs.scan.behind.Given as goal
 
 abbrev pub invariant-loop-i : goal.invariant-loop-i
 invariant-loop-i l =
-    (l.i ≤ length l.word) × (stripped (drop l.i l.word) (some (drop (l.at + l.i) l.s)) ≡ stripped l.word (place l.s l.at))
+    (l.i ≤ length l.word)
+    × (stripped (drop l.i l.word) (some (drop (l.at + l.i) l.s)) ≡ stripped l.word (place l.s l.at))
 
 abbrev pub decreases-loop-i : goal.decreases-loop-i
 decreases-loop-i l = length l.word - l.i

@@ -9,7 +9,8 @@ use Rattle.lines.proofs.scan.more_digits.Given as goal
 
 abbrev pub invariant-loop-i : goal.invariant-loop-i
 invariant-loop-i l =
-    (l.i ≤ length l.s) × (digits l.number (drop l.i l.s) ≡ digits l.first (drop l.at l.s)) × (1 ≤ l.number) × (l.number ≤ slot_max l.slot)
+    (l.i ≤ length l.s) × (digits l.number (drop l.i l.s) ≡ digits l.first (drop l.at l.s)) × (1 ≤ l.number)
+    × (l.number ≤ slot_max l.slot)
 
 abbrev pub decreases-loop-i : goal.decreases-loop-i
 decreases-loop-i l = length l.s - l.i

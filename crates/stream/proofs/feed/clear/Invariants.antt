@@ -13,7 +13,8 @@ zeroed h n k = over h n (replicate k 0)
 
 abbrev pub invariant-loop-i : goal.invariant-loop-i
 invariant-loop-i l =
-    (l.n ≤ l.i) × (l.i ≤ line_buffer) × (length l.pending ≡ line_buffer) × (l.pending ≡ zeroed l.initial.pending l.n (l.i - l.n))
+    (l.n ≤ l.i) × (l.i ≤ line_buffer) × (length l.pending ≡ line_buffer)
+    × (l.pending ≡ zeroed l.initial.pending l.n (l.i - l.n))
 
 abbrev pub decreases-loop-i : goal.decreases-loop-i
 decreases-loop-i l = line_buffer - l.i
