@@ -5,9 +5,9 @@ use std::fs;
 use std::path::{Path, PathBuf};
 
 /// The words before a name that is defined.
-const KEYWORDS: [&str; 13] = [
-    "pub", "abbrev", "unfoldable", "record", "data", "module", "extern", "\"C\"", "fn", "struct", "enum", "const",
-    "mod",
+const KEYWORDS: [&str; 14] = [
+    "pub", "abbrev", "unfoldable", "record", "data", "module", "extern", "\"C\"", "fn", "struct", "enum", "trait",
+    "const", "mod",
 ];
 
 /// Names of the machine and of the kit.

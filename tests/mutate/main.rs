@@ -21,7 +21,7 @@ use std::process::Command;
 use std::time::Instant;
 use verdict::told_of;
 
-const CRATES: [&str; 29] = [
+const CRATES: [&str; 30] = [
     "sets",
     "powers",
     "exchange",
@@ -45,6 +45,7 @@ const CRATES: [&str; 29] = [
     "recording",
     "replay",
     "wire",
+    "teller",
     "pumpday",
     "pumppage",
     "pumpgreatest",

@@ -7,8 +7,9 @@ use std::process::{Command, Stdio};
 use std::time::Instant;
 
 /// What the programs read and write is not proved but tested: the crates that have it, and the steps of the gate.
-const TESTED: [(&str, &[&[&str]]); 4] = [
+const TESTED: [(&str, &[&[&str]]); 5] = [
     ("wire", &[&["tests/gate/pipe"], &["tests/gate/days", "50"]]),
+    ("teller", &[&["tests/gate/page"], &["tests/gate/run"]]),
     ("pumpday", &[&["tests/gate/pipe"], &["tests/gate/days", "50"]]),
     ("pumppage", &[&["tests/gate/page"], &["tests/gate/run"]]),
     ("pumpgreatest", &[&["tests/gate/run"]]),

@@ -24,23 +24,21 @@ const WORDS: [&str; 8] = [
 /// Why lent memory may hold anything before the search.
 const SEARCHED: &str = "the search puts what is read of it, whatever stood there";
 /// Survivors that mean the same: the item, the change, and why.
-const SAME: [(&str, &str, &str); 11] = [
-    ("complete", "return 0; → return 1;", "with no byte pending the line is the input's own; no one asks the number"),
+const SAME: [(&str, &str, &str); 8] = [
+    ("complete", "if kept == 0 { 0 } else { keep(pending, kept, s) } → \
+        if kept == 0 { 1 } else { keep(pending, kept, s) }", "with no byte pending the line is the input's own; no one \
+        asks the number"),
     ("earned_at", "let mut allotment: [u64; 256] = [0; 256]; → let mut allotment: [u64; 256] = [1; 256];", SEARCHED),
     ("earned_at", "let mut surplus: [u64; 64] = [0; 64]; → let mut surplus: [u64; 64] = [1; 64];", SEARCHED),
     ("earned_at", "let mut worth: [u64; 256] = [0; 256]; → let mut worth: [u64; 256] = [1; 256];", SEARCHED),
-    ("put_figures", "let to = put_field(out, to, b\") (ratio \", b'M', ratio.numerator); → \
-        let to = put_field(out, to, b\") (ratio \", b'N', ratio.numerator);", "the letter bounds the number, which \
-        both bounds allow, and not its text"),
-    ("at_most", "if wide > most { → if wide >= most {", "at the limit both give the limit"),
-    ("main", "let mut views: [u64; ENTRIES] = [0; ENTRIES]; → let mut views: [u64; ENTRIES] = [1; ENTRIES];", "a view \
-        is put before it is read"),
-    ("at_most_held", "if n > LINE_BUFFER { → if n >= LINE_BUFFER {", "at the limit both give the limit"),
-    ("feed_in_place", "let mut list: [u64; 33] = [0; 33]; → let mut list: [u64; 33] = [1; 33];", "the weights are put \
-        before they are read, or the state is not sound and nobody reads them"),
+    ("put_figures", "let to = put_field(out, to, b\") (greatest \", Slot::Money, greatest); → \
+        let to = put_field(out, to, b\") (greatest \", Slot::Input, greatest);", "a number reads alike in every slot \
+        but that of names"),
+    ("run", "views: [0; ENTRIES], → views: [1; ENTRIES],", "a view is put before it is read"),
+    ("feed_in_place", "let mut list = [0; 33]; → let mut list = [1; 33];", "the weights are put before they are read, \
+        or the state is not sound and nobody reads them"),
     ("ENTRIES", "const ENTRIES: usize = 257; → const ENTRIES: usize = 258;", "any number above 256 will do: a day of \
         more views is refused either way"),
-    ("sized", "true → false", "no caller looks at the answer; the fact that it gives is all that is asked for"),
 ];
 
 fn why_same(m: &Mutant) -> &'static str {

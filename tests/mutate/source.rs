@@ -43,7 +43,10 @@ pub fn items(lines: &[&str]) -> Vec<Item> {
             let opens = |n: &usize| lines[*n].ends_with('{') && !lines[*n].contains('⌜');
             let start = (at..end).find(opens).map_or(end, |n| n + 1);
             let parameters = typed(&lines[at..start]).filter(|(_, number)| *number).map(|(name, _)| name).collect();
-            found.push(Item { name: format!("{owner}{name}"), parameters, body: start..end });
+            // a trait's function may have no body
+            if lines[at..start].iter().all(|line| !line.ends_with(';')) {
+                found.push(Item { name: format!("{owner}{name}"), parameters, body: start..end });
+            }
         }
         if let Some(name) = declared(line, "const") {
             let end = if line.ends_with(';') { at } else { closing(lines, at, depth, &["];", "};"]) };

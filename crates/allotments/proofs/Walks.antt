@@ -3,16 +3,14 @@
 use mathlib.Core.Path.{◌≡◌, refl, ap, sym, ◌∙◌, subst}
 use mathlib.Core.Logic.{◌⊎◌, inl, inr}
 use mathlib.Core.Bool.{Bool, true, false, ◌&&◌}
-use Prim.Native.Nat.{ℕ, ◌+◌, ◌^◌, ◌<◌}
+use Prim.Native.Nat.{ℕ, ◌^◌, ◌<◌}
 use native.Mathlib.Omega.{arith}
 use lib.Dec.{ltb}
-use lib.ListN.{length}
 use borrow.Author.Tests.{ltb-true, ltb-false}
 use Rattle.finite.proofs.Tests.{never, both_left, both_right}
 use Rattle.sets.specs.Set.{member, next, beyond}
-use Rattle.sets.specs.Walk.{members}
 use Rattle.sets.proofs.Algebra.{empty_member, beyond_member, beyond_lt}
-use Rattle.sets.proofs.Walk.{next_is, first_is, members_next}
+use Rattle.sets.proofs.Walk.{next_is, first_is}
 use Rattle.allotments.proofs.Cases.{same_or_not}
 
 -- a part of a set that is left to walk, and a fact of each of the others
@@ -31,14 +29,6 @@ module _ (left : ℕ) (small : left < 2 ^ 64) (some : left ≡ 0 → ⊥) (c : �
 
   pub hand_in : member left c ≡ true
   hand_in = ap (member left) c_is ∙ (next_is left 0 (omega arith)).here (omega (arith, hand_small))
-
-  -- those above it are left, one fewer
-  pub fewer : (left' : ℕ) → left' ≡ beyond left c → length (members left') < length (members left)
-  fewer left' e =
-      let l : next left 0 < 64 = omega (arith, hand_small) in
-      let q : length (members left) ≡ 1 + length (members (beyond left (next left 0))) = ap length
-      (members_next left l) ∙ omega arith in
-      omega (arith, q, ap (λ (x : ℕ). length (members x)) (e ∙ ap (beyond left) c_is))
 
   pub above : (d : ℕ) → d < 64 → member (beyond left c) d ≡ true → (member left d ≡ true) × (c < d)
   above d l e =

@@ -2,10 +2,11 @@
 -- sums. So the audit of a record within its limits is `claim_checked` where `tested` passes, and fails where it does
 -- not.
 use mathlib.Core.Path.{◌≡◌, refl, ap, ◌∙◌}
-use mathlib.Core.Bool.{Bool, true, false, cond, ◌&&◌, and_assoc, and-true}
+use mathlib.Core.Bool.{Bool, true, false, ◌&&◌, and_assoc, and-true}
 use Prim.Native.Nat.{ℕ, ◌+◌, ◌-◌, ◌*◌, ◌≤◌, ◌<◌}
 use native.Mathlib.Omega.{arith}
 use lib.Dec.{leb}
+use Rattle.std.specs.Prelude.{Option, Some, None, is_some, cond}
 use borrow.Author.Tests.{leb-true}
 use Rattle.finite.specs.Finite.{every}
 use Rattle.finite.proofs.Tests.{both_left, both_right, every_cut, never}
@@ -24,7 +25,7 @@ use Rattle.audit.specs.declared.Audit.{Audit}
 use Rattle.audit.specs.Sound.{marks_hold, sound_record, not_sound, sound_figures, audit_of}
 use Rattle.audit.specs.Cited.{limits_hold, waiting, sums_of, empty_from, claim_sum, claim_checked}
 use Rattle.audit.proofs.Totals.{held}
-use Rattle.audit.proofs.Claims.{tested, each}
+use Rattle.audit.proofs.Claims.{tested, each, some_given, none_given}
 
 -- soundness in the order of the code
 regroup : (a b c m x y e f g : Bool)
@@ -89,17 +90,25 @@ module _ (h : Head) (f : ℕ → Campaign) where
   audit_outside e = rw (outside e)
 
   -- what the audit tells
-  pub audit_sound : (a : Audit) → a ≡ audit_of h f → a.sound ≡ sound_record h f
+  pub audit_some : {a : Audit} → Some a ≡ audit_of h f → (sound_record h f ≡ true) × (a ≡ sound_figures h f)
   unfolding audit_of
-  audit_sound a e = ap (λ (x : Audit). x.sound) e ∙ go (sound_record h f)
+  audit_some e = some_given e
+
+  pub audit_sound : (a : Option Audit) → a ≡ audit_of h f → is_some a ≡ sound_record h f
+  unfolding audit_of
+  audit_sound a e = rw e (go (sound_record h f))
     where
-      go : (b : Bool) → (cond b (sound_figures h f) not_sound).sound ≡ b
+      go : (b : Bool) → is_some (cond b (Some (sound_figures h f)) not_sound) ≡ b
       go true = refl
       go false = refl
 
-  pub audit_figures : (a : Audit) → a ≡ audit_of h f → sound_record h f ≡ true → a ≡ sound_figures h f
+  pub audit_figures : sound_record h f ≡ true → audit_of h f ≡ Some (sound_figures h f)
   unfolding audit_of
-  audit_figures a e s = e ∙ ap (λ (b : Bool). cond b (sound_figures h f) not_sound) s
+  audit_figures s = rw s
+
+  pub audit_none : None ≡ audit_of h f → sound_record h f ≡ false
+  unfolding audit_of
+  audit_none e = none_given _ e
 
   -- within the limits
   module _ (e : limits_hold h ≡ true) where

@@ -1,5 +1,6 @@
 -- Names for the contracts of the audit: what the tests by columns, the sums and the last test find.
-use Rattle.std.specs.Prelude.{Bool, true, false, cond, ◌&&◌, ℕ, ◌+◌, ◌-◌, ◌*◌, ◌≤◌, ◌<◌, leb, ltb, eqb}
+use Rattle.std.specs.Prelude.{Bool, true, cond, ◌&&◌, ℕ, ◌+◌, ◌-◌, ◌*◌, ◌≤◌, ◌<◌, leb, ltb, eqb}
+use Rattle.std.specs.Prelude.{Option, Some, None}
 use Rattle.finite.specs.Finite.{sum, every}
 use Rattle.powers.specs.Power.{weight, share}
 use Rattle.campaigns.specs.declared.Campaign.{Campaign}
@@ -38,30 +39,22 @@ waiting pl c = weight pl.depth pl.width c.age - weight pl.depth pl.width 0
 
 unfoldable pub sums_of : Plan → ℕ → (ℕ → Campaign) → Sums
 sums_of pl n f = record {
-  within = true;
   budgets = budgets n f;
   takings = takings pl n f;
   turned = sum n (λ i. (f i).price * (f i).turns);
   waited = sum n (λ i. (f i).price * waiting pl (f i));
 }
 
-abbrev pub no_sums : Sums
-no_sums = record { within = false; budgets = 0; takings = 0; turned = 0; waited = 0 }
-
 -- the part of them that no weight enters, where each campaign has paid at most its budget
-abbrev pub no_spending : Spent
-no_spending = record { within = false; budgets = 0; takings = 0; turned = 0 }
-
 abbrev pub spendings : ℕ → (ℕ → Campaign) → Spent
 spendings n f = record {
-  within = true;
   budgets = budgets n f;
   takings = sum n (λ i. spending (f i));
   turned = sum n (λ i. (f i).price * (f i).turns);
 }
 
-unfoldable pub spent_of : ℕ → (ℕ → Campaign) → Spent
-spent_of n f = cond (paid_columns n f) (spendings n f) no_spending
+unfoldable pub spent_of : ℕ → (ℕ → Campaign) → Option Spent
+spent_of n f = cond (paid_columns n f) (Some (spendings n f)) None
 
 -- the part of the weights, and the bounds under which it fits
 unfoldable pub waited_of : Plan → ℕ → (ℕ → Campaign) → ℕ
@@ -72,8 +65,8 @@ pub record EntriesBounded (pl : Plan) (n : ℕ) (f : ℕ → Campaign) : Type 0 
   pub age_most : (i : ℕ) → i < n → (f i).age ≤ pl.depth
 
 -- all of them, where each campaign has paid at most its budget
-unfoldable pub summed : Plan → ℕ → (ℕ → Campaign) → Sums
-summed pl n f = cond (paid_columns n f) (sums_of pl n f) no_sums
+unfoldable pub summed : Plan → ℕ → (ℕ → Campaign) → Option Sums
+summed pl n f = cond (paid_columns n f) (Some (sums_of pl n f)) None
 
 -- of the first m entries, those from n on have no terms, no counts, or neither
 unfoldable pub no_terms_from : ℕ → (ℕ → Campaign) → ℕ → Bool
@@ -105,13 +98,13 @@ pub record Bounded (s : Sums) : Type 0 where
 abbrev pub claim_sum : Plan → Sums → ℕ
 claim_sum pl s = s.turned * share pl.depth pl.width + s.waited
 
-unfoldable pub claim_checked : Plan → Sums → Audit
-claim_checked pl s =
-    cond (leb (claim_sum pl s) (full pl s.takings))
-    (record {
-      sound = true;
-      budgets = s.budgets;
-      takings = s.takings;
-      claim = claim_sum pl s;
-      full = full pl s.takings;
-    }) not_sound
+abbrev pub claim_figures : Plan → Sums → Audit
+claim_figures pl s = record {
+  budgets = s.budgets;
+  takings = s.takings;
+  claim = claim_sum pl s;
+  full = full pl s.takings;
+}
+
+unfoldable pub claim_checked : Plan → Sums → Option Audit
+claim_checked pl s = cond (leb (claim_sum pl s) (full pl s.takings)) (Some (claim_figures pl s)) not_sound

@@ -1,6 +1,7 @@
 -- Soundness: the tests of its sentence in document 01, of a state's head and its entries (f i is entry i); and the
 -- audit, which also gives the figures of a sound state.
-use Rattle.std.specs.Prelude.{Bool, true, false, cond, not, ◌&&◌, ◌||◌, List, [], ◌∷◌, ℕ, leb, ltb, eqb}
+use Rattle.std.specs.Prelude.{Bool, cond, not, ◌&&◌, ◌||◌, List, [], ◌∷◌, ℕ, leb, ltb, eqb}
+use Rattle.std.specs.Prelude.{Option, Some, None}
 use Rattle.finite.specs.Finite.{all, every}
 use Rattle.sets.specs.Set.{within}
 use Rattle.campaigns.specs.declared.Campaign.{Campaign}
@@ -30,18 +31,17 @@ unfoldable pub sound_record : Head → (ℕ → Campaign) → Bool
 sound_record h f = all (sound_tests h f)
 
 -- an audit that fails
-abbrev pub not_sound : Audit
-not_sound = record { sound = false; budgets = 0; takings = 0; claim = 0; full = 0 }
+abbrev pub not_sound : Option Audit
+not_sound = None
 
 -- one that passes: the sum of the budgets, the takings, the total claim and full
 abbrev pub sound_figures : Head → (ℕ → Campaign) → Audit
 sound_figures h f = record {
-  sound = true;
   budgets = budgets h.count f;
   takings = takings h.plan h.count f;
   claim = claims h.plan h.count f;
   full = full h.plan (takings h.plan h.count f);
 }
 
-unfoldable pub audit_of : Head → (ℕ → Campaign) → Audit
-audit_of h f = cond (sound_record h f) (sound_figures h f) not_sound
+unfoldable pub audit_of : Head → (ℕ → Campaign) → Option Audit
+audit_of h f = cond (sound_record h f) (Some (sound_figures h f)) not_sound

@@ -23,11 +23,7 @@ fn priced_all<'a>(n: usize, terms: &'a [u32; 128], counts: &'a [u16; 256]) -> bo
     for i in 0..n {
         let price = terms[i];
         let budget = terms[i + BUDGETS];
-        fit = fit
-            & (1 <= price)
-            & (price <= MAX_PRICE)
-            & (price <= budget)
-            & (budget <= MAX_BUDGET);
+        fit &= (1 <= price) & (price <= MAX_PRICE) & (price <= budget) & (budget <= MAX_BUDGET);
     }
     fit
 }
@@ -47,8 +43,7 @@ fn ordered_all<'a>(
     for i in 0..n {
         let turns = counts[i + TURNS];
         let named = counts[i + NAMED];
-        fit = fit
-            & (counts[i + AGES] < depth)
+        fit &= (counts[i + AGES] < depth)
             & (counts[i] <= turns)
             & (turns <= named)
             & (named <= accepted);
@@ -63,7 +58,7 @@ fn no_terms_from<'a>(n: usize, terms: &'a [u32; 128], counts: &'a [u16; 256]) ->
 {
     let mut any: u32 = 0;
     for i in n..64 {
-        any = any | terms[i] | terms[i + BUDGETS];
+        any |= terms[i] | terms[i + BUDGETS];
     }
     any == 0
 }
@@ -75,7 +70,7 @@ fn no_counts_in<'a>(n: usize, m: usize, terms: &'a [u32; 128], counts: &'a [u16;
 {
     let mut any: u16 = 0;
     for i in n..m {
-        any = any | counts[i] | counts[i + TURNS] | counts[i + AGES] | counts[i + NAMED];
+        any |= counts[i] | counts[i + TURNS] | counts[i + AGES] | counts[i + NAMED];
     }
     any == 0
 }
@@ -85,11 +80,7 @@ fn untouched_all<'a>(phase: Phase, n: usize, terms: &'a [u32; 128], counts: &'a 
     requires { n ≤ max_campaigns }
     ensures { result ≡ untouched_columns phase n (campaign_at terms.now counts.now) }
 {
-    match phase {
-        Phase::Filling => no_counts_in(0, n, terms, counts),
-        Phase::Running => true,
-        Phase::Closed(_) => true,
-    }
+    !phase.filling() || no_counts_in(0, n, terms, counts)
 }
 
 // The entries from n on are all zero.
@@ -97,7 +88,7 @@ fn empty_from<'a>(n: usize, terms: &'a [u32; 128], counts: &'a [u16; 256]) -> bo
     requires { n ≤ max_campaigns }
     ensures { result ≡ empty_from n (campaign_at terms.now counts.now) }
 {
-    no_terms_from(n, terms, counts) & no_counts_in(n, 64, terms, counts)
+    no_terms_from(n, terms, counts) && no_counts_in(n, 64, terms, counts)
 }
 
 // Every test by columns. It is made before any sum: prices and ages that pass it bound what is summed.
@@ -106,11 +97,10 @@ pub fn columns_hold<'a>(head: Head, n: usize, terms: &'a [u32; 128], counts: &'a
     ensures { result ≡ columns_hold head.phase head.plan head.accepted n
         (campaign_at terms.now counts.now) }
 {
-    let phase = head.phase;
     let depth = head.plan.depth as u16;
     let views = head.accepted as u16;
     priced_all(n, terms, counts)
-        & ordered_all(n, depth, views, terms, counts)
-        & untouched_all(phase, n, terms, counts)
-        & empty_from(n, terms, counts)
+        && ordered_all(n, depth, views, terms, counts)
+        && untouched_all(head.phase, n, terms, counts)
+        && empty_from(n, terms, counts)
 }

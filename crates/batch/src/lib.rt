@@ -24,26 +24,17 @@ pub fn line_end(s: &[u8], at: usize) -> usize
     requires { at ≤ length s.now }
     ensures { (result ≡ at + upto (drop at s.now)) × (result ≤ length s.now) }
 {
-    let mut i = at;
-    while i < s.len() {
-        if s[i] == b'\n' {
-            return i;
-        }
-        i += 1;
-    }
-    i
+    let rest = &s[at..];
+    at + rest.iter().position(|b| *b == b'\n').unwrap_or(rest.len())
 }
 
-// Does a byte 10 stand among 32 bytes? All are looked at, so that the compiler compares many at once.
-fn ends_in_block(s: &[u8], at: usize) -> bool
-    requires { at + 32 ≤ length s.now }
-    ensures { result ≡ false → upto (drop at s.now) ≡ 32 + upto (drop (at + 32) s.now) }
+// Does a byte 10 stand in the block? All bytes are looked at, so that the compiler compares many at once.
+fn has_line_end(block: &[u8]) -> bool
+    ensures { result ≡ false → upto block.now ≡ length block.now }
 {
     let mut any = false;
-    let mut k = 0;
-    while k < 32 {
-        any = any | (s[at + k] == b'\n');
-        k += 1;
+    for b in block {
+        any |= *b == b'\n';
     }
     any
 }
@@ -55,10 +46,7 @@ fn past_blocks(s: &[u8], at: usize) -> usize
         × (result ≤ length s.now) }
 {
     let mut i = at;
-    while 32 <= s.len() - i {
-        if ends_in_block(s, i) {
-            return i;
-        }
+    while s.len() - i >= 32 && !has_line_end(&s[i..i + 32]) {
         i += 32;
     }
     i
@@ -82,17 +70,12 @@ pub fn keep(pending: &mut [u8], kept: usize, s: &[u8]) -> usize
         ≡ line_of pending.old kept s.now) }
     ensures wide { length pending.new ≡ line_buffer }
 {
-    let mut n = kept;
-    let mut i = 0;
-    while i < s.len() {
-        if n >= LINE_BUFFER {
-            return n;
-        }
-        pending[n] = s[i];
-        n += 1;
-        i += 1;
+    let n = s.len().min(LINE_BUFFER - kept);
+    // not by copy_from_slice, which calls a further function of the C library
+    for i in 0..n {
+        pending[kept + i] = s[i];
     }
-    n
+    kept + n
 }
 
 // The same where a byte is kept; a line that lies whole in the input is not copied.
@@ -100,20 +83,14 @@ fn complete(pending: &mut [u8], kept: usize, s: &[u8]) -> usize
     requires { (kept ≤ line_buffer) × (length pending.old ≡ line_buffer) }
     ensures { Completed pending.old kept s.now pending.new result }
 {
-    if kept == 0 {
-        return 0;
-    }
-    keep(pending, kept, s)
+    if kept == 0 { 0 } else { keep(pending, kept, s) }
 }
 
 // The first of two slices, or the second.
 fn choose<'a>(first: bool, a: &'a [u8], b: &'a [u8]) -> &'a [u8]
     ensures { result.now ≡ cond first a.now b.now }
 {
-    if first {
-        return a;
-    }
-    b
+    if first { a } else { b }
 }
 
 // Line after line, while a line ends in the input and there is room for its answer. The first may have bytes pending.
@@ -134,22 +111,19 @@ pub fn run_batch<'a>(
         pending.old out.old (position result terms.new counts.new)
         pending.new out.new }
 {
-    let mut turn = t.turn;
-    let mut kept = t.kept;
-    let mut from = t.from;
+    let Cursor {
+        mut turn,
+        mut kept,
+        mut from,
+    } = t;
     let mut end = first_line_end(input, from);
-    while (end < input.len()) & (ROOM <= out.len() - turn.at) {
+    while end < input.len() && ROOM <= out.len() - turn.at {
         let n = complete(pending, kept, &input[from..end]);
         let line = choose(kept == 0, &input[from..end], &pending[..n]);
-        let next = answer_at(turn, line, out, list, terms, counts);
-        turn = next;
+        turn = answer_at(turn, line, out, list, terms, counts);
         kept = 0;
         from = end + 1;
         end = line_end(input, from);
     }
-    Cursor {
-        turn: turn,
-        kept: kept,
-        from: from,
-    }
+    Cursor { turn, kept, from }
 }

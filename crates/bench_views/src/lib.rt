@@ -17,12 +17,7 @@ fn fold_answer(sum: u64, answer: Answer) -> u64 {
         Answer::Done => fold(sum, 128),
         Answer::Played { campaign, paid } => fold(fold(sum, campaign), paid),
         Answer::Nobody => fold(sum, 129),
-        Answer::Tallied {
-            plays: _,
-            turns: _,
-            age: _,
-            named: _,
-        } => fold(sum, 130),
+        Answer::Tallied { .. } => fold(sum, 130),
         Answer::Closing {
             takings,
             claim,
@@ -34,13 +29,12 @@ fn fold_answer(sum: u64, answer: Answer) -> u64 {
 // The day with the campaigns whose prices and budgets stand in pairs.
 fn filled(start: Day, terms: &[u64]) -> Day {
     let mut day = start;
-    for i in 0..terms.len() / 2 {
-        let outcome = day.add(Terms {
-            price: terms[i * 2],
-            budget: terms[i * 2 + 1],
-        });
-        let next = outcome.day;
-        day = next;
+    for pair in terms.chunks_exact(2) {
+        let added = Terms {
+            price: pair[0],
+            budget: pair[1],
+        };
+        day = day.add(added).day;
     }
     day
 }
@@ -54,14 +48,12 @@ pub struct Viewed {
 fn shown(start: Day, views: &[u64]) -> Viewed {
     let mut day = start;
     let mut sum: u64 = 0;
-    for i in 0..views.len() {
-        let outcome = day.view(View { set: views[i] });
-        let next = outcome.day;
-        day = next;
-        let answer = outcome.answer;
-        sum = fold_answer(sum, answer);
+    for set in views {
+        let outcome = day.view(View { set: *set });
+        day = outcome.day;
+        sum = fold_answer(sum, outcome.answer);
     }
-    Viewed { day: day, sum: sum }
+    Viewed { day, sum }
 }
 
 // The same with the counts changed where they stand.
@@ -70,52 +62,30 @@ fn shown_in_place(start: Day, views: &[u64]) -> Viewed {
     let mut terms = start.terms;
     let mut counts = start.counts;
     let mut sum: u64 = 0;
-    for i in 0..views.len() {
-        let step = day::in_place::view(head, View { set: views[i] }, &mut terms, &mut counts);
-        let next = step.head;
-        head = next;
-        let answer = step.answer;
-        sum = fold_answer(sum, answer);
+    for set in views {
+        let step = day::in_place::view(head, View { set: *set }, &mut terms, &mut counts);
+        head = step.head;
+        sum = fold_answer(sum, step.answer);
     }
-    let phase = head.phase;
-    let plan = head.plan;
     Viewed {
-        day: Day {
-            phase: phase,
-            plan: plan,
-            count: head.count,
-            accepted: head.accepted,
-            paused: head.paused,
-            terms: terms,
-            counts: counts,
-        },
-        sum: sum,
+        day: Day::from_parts(head, terms, counts),
+        sum,
     }
-}
-
-fn wide(x: u16) -> u64 {
-    x as u64
 }
 
 // The counts of the campaigns, four for each in turn: they stand in four columns of 64.
 fn fold_counts(start: u64, day: Day) -> u64 {
     let mut sum = start;
     for i in 0..256 {
-        sum = fold(sum, wide(day.counts[i % 4 * 64 + i / 4]));
+        sum = fold(sum, u64::from(day.counts[i % 4 * 64 + i / 4]));
     }
     sum
 }
 
 // A plan opened on the blank state, with its campaigns, and started.
 fn started(depth: u64, width: u64, terms: &[u64]) -> Day {
-    let opened = Day::blank().open(Plan {
-        depth: depth,
-        width: width,
-    });
-    let empty = opened.day;
-    let full = filled(empty, terms);
-    let started = full.start();
-    started.day
+    let opened = Day::blank().open(Plan { depth, width });
+    filled(opened.day, terms).start().day
 }
 
 // A day of views, each by value.
@@ -127,8 +97,7 @@ pub extern "C" fn bench_views_by_value(
     views: &[u64],
 ) -> u64 {
     let end = shown(started(depth, width, terms), views);
-    let day = end.day;
-    fold_counts(end.sum, day)
+    fold_counts(end.sum, end.day)
 }
 
 // The same in place.
@@ -140,6 +109,5 @@ pub extern "C" fn bench_views_in_place(
     views: &[u64],
 ) -> u64 {
     let end = shown_in_place(started(depth, width, terms), views);
-    let day = end.day;
-    fold_counts(end.sum, day)
+    fold_counts(end.sum, end.day)
 }

@@ -19,26 +19,26 @@ pub const AGES: usize = 128;
 pub const NAMED: usize = 192;
 
 // What is handed to an opening.
-#[derive(Clone, Copy)]
+#[derive(Clone, Copy, Debug, PartialEq, Eq)]
 pub struct Plan {
     pub depth: u64,
     pub width: u64,
 }
 
 // What is handed to an adding.
-#[derive(Clone, Copy)]
+#[derive(Clone, Copy, Debug, PartialEq, Eq)]
 pub struct Terms {
     pub price: u64,
     pub budget: u64,
 }
 
 // What is handed to a view: bit i of the set stands for campaign i.
-#[derive(Clone, Copy)]
+#[derive(Clone, Copy, Debug, PartialEq, Eq)]
 pub struct View {
     pub set: u64,
 }
 
-#[derive(Clone, Copy)]
+#[derive(Clone, Copy, Debug, PartialEq, Eq)]
 pub enum Phase {
     Filling,
     Running,
@@ -47,7 +47,7 @@ pub enum Phase {
 }
 
 // A state but for its campaigns.
-#[derive(Clone, Copy)]
+#[derive(Clone, Copy, Debug, PartialEq, Eq)]
 pub struct Head {
     pub phase: Phase,
     pub plan: Plan,
@@ -58,7 +58,7 @@ pub struct Head {
 }
 
 // One campaign, read out of the arrays.
-#[derive(Clone, Copy)]
+#[derive(Clone, Copy, Debug, PartialEq, Eq)]
 pub struct Campaign {
     pub price: u64,
     pub budget: u64,

@@ -3,23 +3,25 @@ use mathlib.Core.Path.{◌≡◌, refl, ap, sym, ◌∙◌, subst}
 use mathlib.Core.Logic.{◌⊎◌, inl, inr}
 use mathlib.Core.Bool.{Bool, true, false, cond, ◌&&◌}
 use mathlib.Core.List.{List, [], ◌∷◌}
-use Prim.Native.Nat.{ℕ, ◌+◌, ◌-◌, ◌*◌, ◌/◌, ◌^◌, ◌≤◌, ◌<◌}
-use native.Mathlib.Nat.{div-lt_iff_lt-mul, not-suc-le-zero}
+use Prim.Native.Nat.{ℕ, ◌+◌, ◌-◌, ◌*◌, ◌^◌, ◌≤◌, ◌<◌}
+use native.Mathlib.Nat.{not-suc-le-zero}
 use native.Mathlib.Omega.{arith}
 use lib.Dec.{leb, eqb}
-use lib.ListN.{length, set, length-set}
+use lib.ListN.{length, set, take, length-set}
 use lib.Seq.{get_or-set_same, get_or-set_other}
-use borrow.Author.Tests.{eqb-true, eqb-false, eq-eqb, ne_eqb, lt-ltb, le-ltb, leb-true, leb-false}
+use borrow.Author.Tests.{eqb-true, eq-eqb, ne_eqb, lt-ltb, le-ltb, leb-true, leb-false}
 use borrow.Author.Tests.{le-leb, lt-leb}
+use Rattle.std.specs.Prelude.{Option, Some, None, MatchOption}
+use Rattle.std.specs.Option.{option_eq}
+use Rattle.std.proofs.lemmas.List.{get_or-take}
 use Rattle.finite.specs.Finite.{sum, one_if, count, every, all}
-use Rattle.finite.proofs.Sums.{sum_zero, sum_next, sum_upto, count_below}
-use Rattle.finite.proofs.Tests.{every_of, every_not, every_next, both_join}
+use Rattle.finite.proofs.Sums.{sum_zero, sum_next, sum_upto, sum_eq, count_below}
+use Rattle.finite.proofs.Tests.{every_of, every_not, every_next, every_eq, both_join, same_test}
 use Rattle.sets.specs.Set.{member, next, beyond}
 use Rattle.sets.proofs.Bits.{bit_past, bit_false}
 use Rattle.allotments.specs.Allotment.{at, times, brings, takings}
 use Rattle.allotments.proofs.Walks.{Walking, walking_end, hand_small, hand_in, walking_turn}
 use Rattle.allotments.proofs.Cases.{same_or_not, one_same, one_other}
-use Rattle.certificate.specs.declared.Rest.{Rest}
 use Rattle.certificate.specs.Cited.{rest_left}
 
 -- tests that passed so far
@@ -173,18 +175,6 @@ module _ (n : ℕ) (price to : ℕ → ℕ) (j : ℕ) where
   summed_same sum now l = let p : brings n price (to j) ≡ 0 = rw (le-ltb (to j) n l) in
       (omega (arith, now.0, takings_next, p), omega (arith, now.1))
 
--- a figure times plays is more than what is left exactly if the figure is more than their quotient
-pub past_quotient : (left plays own : ℕ) → 0 < plays → left / plays < own → left < own * plays
-past_quotient left plays own p h = (div-lt_iff_lt-mul p).0 h
-
-pub within_quotient : (left plays own : ℕ) → 0 < plays → own ≤ left / plays → own * plays ≤ left
-within_quotient left plays own p h = go (leb (own * plays) left) refl
-  where
-    go : (b : Bool) → leb (own * plays) left ≡ b → own * plays ≤ left
-    go true e = leb-true (own * plays) left e
-    go false e = absurd (let l : left / plays < own = (div-lt_iff_lt-mul p).1 (leb-false (own * plays) left e) in omega
-        arith)
-
 sum_longer : (j n : ℕ) (f : ℕ → ℕ) → j ≤ n → sum j f ≤ sum n f
 sum_longer j n f h =
     let q : (n - j) + j ≡ n = omega arith in
@@ -198,44 +188,53 @@ module _ (n : ℕ) (f : ℕ → ℕ) (amount left j : ℕ) (now : left + sum j f
   counted_past : j < n → left < f j → amount < sum n f
   counted_past l h = omega (arith, sum_next j f, sum_longer (j + 1) n f (omega arith))
 
-  pub counted_short : j < n → left < f j → record { enough = false; left = 0 } ≡ rest_left (sum n f) amount
-  counted_short l h =
-      let past = counted_past l h in
-      let none : amount - sum n f ≡ 0 = omega arith in
-      rw (lt-leb (sum n f) amount past, none)
+  pub counted_short : j < n → left < f j → None ≡ rest_left (sum n f) amount
+  counted_short l h = rw (lt-leb (sum n f) amount (counted_past l h))
 
-  pub counted_rest : j ≡ n → record { enough = true; left = left } ≡ rest_left (sum n f) amount
+  pub counted_rest : j ≡ n → Some left ≡ rest_left (sum n f) amount
   counted_rest e =
       let rest : amount - sum n f ≡ left = omega (arith, ap (λ (k : ℕ). sum k f) e) in
       rw (le-leb (sum n f) amount (omega (arith, ap (λ (k : ℕ). sum k f) e)), rest)
 
-  pub counted_over : j < n → left < f j → false ≡ eqb (sum n f) amount
-  counted_over l h = sym (ne_eqb (sum n f) amount (λ e. omega (arith, counted_past l h)))
-
-  pub counted_out : j ≡ n → eqb left 0 ≡ eqb (sum n f) amount
-  counted_out e = go (eqb left 0) refl
-    where
-      go : (b : Bool) → eqb left 0 ≡ b → b ≡ eqb (sum n f) amount
-      go true q = sym (eq-eqb (sum n f) amount (omega (arith, eqb-true left 0 q, ap (λ (k : ℕ). sum k f) e)))
-      go false q = sym (ne_eqb (sum n f) amount (λ s. eqb-false left 0 q (omega (arith, ap (λ (k : ℕ). sum k f) e))))
-
--- the figures sum to the takings exactly if enough is left for the campaigns and the views take the rest
-pub figures_rest : (s v t : ℕ) → (leb s t && eqb v (t - s)) ≡ eqb (s + v) t
-figures_rest s v t = go (leb s t) refl
+-- the figures sum to the takings exactly if nothing is left of those after the campaigns and the views
+pub figures_joined : (less rest : Option ℕ) {b : Bool} (s w : ℕ) {t t' : ℕ} → t ≡ t' → less ≡ rest_left s t
+    → MatchOption less (rest ≡ None) (λ x. rest ≡ rest_left w x) → b ≡ option_eq eqb rest (Some 0)
+    → b ≡ eqb (s + w) t'
+figures_joined less rest {b} s w {t} {t'} e l m q =
+    q ∙ go (leb s t) refl (subst (λ (x : Option ℕ). MatchOption x (rest ≡ None) (λ x. rest ≡ rest_left w x)) l m)
+    ∙ ap (eqb (s + w)) e
   where
-    same : (b : Bool) → s ≤ t → eqb v (t - s) ≡ b → b ≡ eqb (s + v) t
-    same true l e = sym (eq-eqb (s + v) t (omega (arith, eqb-true v (t - s) e)))
-    same false l e = sym (ne_eqb (s + v) t (λ q. eqb-false v (t - s) e (omega arith)))
+    all_taken : (c : Bool) → leb w (t - s) ≡ c → s ≤ t
+        → option_eq eqb (cond c (Some (t - s - w)) None) (Some 0) ≡ eqb (s + w) t
+    all_taken true f h = same_test (eqb (t - s - w) 0) (eqb (s + w) t)
+        (λ k. eq-eqb (s + w) t (omega (arith, eqb-true (t - s - w) 0 k, leb-true w (t - s) f)))
+        (λ k. eq-eqb (t - s - w) 0 (omega (arith, eqb-true (s + w) t k)))
+    all_taken false f h = sym (ne_eqb (s + w) t (λ k. omega (arith, leb-false w (t - s) f)))
 
-    go : (b : Bool) → leb s t ≡ b → (b && eqb v (t - s)) ≡ eqb (s + v) t
-    go true e = same (eqb v (t - s)) (leb-true s t e) refl
-    go false e = sym (ne_eqb (s + v) t (λ q. omega (arith, leb-false s t e)))
+    go : (c : Bool) → leb s t ≡ c → MatchOption (cond c (Some (t - s)) None) (rest ≡ None) (λ x. rest ≡ rest_left w x)
+        → option_eq eqb rest (Some 0) ≡ eqb (s + w) t
+    go true f n = ap (λ (x : Option ℕ). option_eq eqb x (Some 0)) n ∙ all_taken (leb w (t - s)) refl (leb-true s t f)
+    go false f n = ap (λ (x : Option ℕ). option_eq eqb x (Some 0)) n
+        ∙ sym (ne_eqb (s + w) t (λ k. omega (arith, leb-false s t f)))
 
-pub figures_joined : (rest : Rest) (v : Bool) (s w t t' : ℕ) → t ≡ t' → rest ≡ rest_left s t → v ≡ eqb w rest.left
-    → (rest.enough && v) ≡ eqb (s + w) t'
-figures_joined rest v s w t t' e r h =
-    ap (λ (b : Bool). rest.enough && b) (h ∙ ap (λ (x : Rest). eqb w x.left) r) ∙ ap (λ (x : Rest). x.enough &&
-    eqb w (t - s)) r ∙ figures_rest s w t ∙ ap (λ (x : ℕ). eqb (s + w) x) e
+-- the first entries of a list, as a part of it
+pub sum_front : (n : ℕ) (xs : List ℕ) → sum n (at (take n xs)) ≡ sum n (at xs)
+sum_front n xs = sum_eq n (at (take n xs)) (at xs) (λ j l. get_or-take n xs j 0 l)
+
+pub takings_front : (count : ℕ) (price : ℕ → ℕ) (n : ℕ) (xs : List ℕ)
+    → takings count price n (at (take n xs)) ≡ takings count price n (at xs)
+unfolding takings
+takings_front count price n xs =
+    sum_eq n (λ j. brings count price (at (take n xs) j)) (λ j. brings count price (at xs j))
+    (λ j l. ap (brings count price) (get_or-take n xs j 0 l))
+
+pub plays_front : (m n : ℕ) (wholes xs : List ℕ) → every m (λ i. leb (times n (at (take n xs)) i) (at wholes i))
+    ≡ every m (λ i. leb (times n (at xs) i) (at wholes i))
+unfolding times count
+plays_front m n wholes xs =
+    every_eq m (λ i. leb (times n (at (take n xs)) i) (at wholes i)) (λ i. leb (times n (at xs) i) (at wholes i))
+    (λ i k. ap (λ (x : ℕ). leb x (at wholes i)) (sum_eq n (λ j. one_if (eqb (at (take n xs) j) i))
+    (λ j. one_if (eqb (at xs j) i)) (λ j l. ap (λ (x : ℕ). one_if (eqb x i)) (get_or-take n xs j 0 l))))
 
 -- the parts of the check, as the code joins them
 pub parts_joined : {a b c d a' b' c' d' : Bool} → a ≡ a' → b ≡ b' → c ≡ c' → d ≡ d' → (((a && b) && c) && d) ≡ all

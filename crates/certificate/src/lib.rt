@@ -11,26 +11,14 @@ ghost use Rattle.allotments.specs.Allotment.{at, times, takings, entry_fits, cov
 ghost use Rattle.allotments.specs.Cited.{Market, EnoughLent};
 ghost use Rattle.certificate.specs.Cited.{rest_left};
 
-use campaigns::entry::wide32;
-
-// The entry of a view that is given to nobody.
-const NOBODY: u64 = 64;
-
-// What is left of an amount, and whether there was enough of it.
-#[derive(Clone, Copy)]
-pub struct Rest {
-    pub enough: bool,
-    pub left: u64,
-}
+use allotments::NOBODY;
+use sets::Members;
 
 // Is the entry nobody, or a campaign that the view names?
 fn entry_fits(view: u64, entry: u64) -> bool
     ensures { result ≡ entry_fits view entry }
 {
-    if entry < 64 {
-        return sets::has(view, entry);
-    }
-    entry == NOBODY
+    entry == NOBODY || entry < 64 && sets::has(view, entry)
 }
 
 fn entries_fit(views: &[u64], allotment: &[u64]) -> bool
@@ -38,14 +26,10 @@ fn entries_fit(views: &[u64], allotment: &[u64]) -> bool
     ensures { result ≡ every (length views.now)
         (λ j. entry_fits (at views.now j) (at allotment.now j)) }
 {
-    let mut j = 0;
-    while j < views.len() {
-        if !entry_fits(views[j], allotment[j]) {
-            return false;
-        }
-        j += 1;
-    }
-    true
+    views
+        .iter()
+        .zip(allotment)
+        .all(|(view, entry)| entry_fits(*view, *entry))
 }
 
 // Is no campaign given more than its whole plays? Each view that it is given takes one of them.
@@ -54,18 +38,14 @@ fn plays_fit(count: u64, wholes: [u32; 64], n: usize, allotment: &[u64]) -> bool
     ensures { result ≡ every count (λ i. leb (times n (at allotment.now) i) (at wholes i)) }
 {
     let mut left = wholes;
-    let mut j = 0;
-    while j < n {
-        let entry = allotment[j];
-        if entry < count {
-            let i = entry as usize;
-            let plays = left[i];
-            if plays == 0 {
+    for entry in &allotment[..n] {
+        if *entry < count {
+            let i = *entry as usize;
+            if left[i] == 0 {
                 return false;
             }
-            left[i] = plays - 1;
+            left[i] -= 1;
         }
-        j += 1;
     }
     true
 }
@@ -82,17 +62,12 @@ fn view_covered<'a>(
     requires { (count ≤ max_campaigns) × (count ≤ length surplus.now) × (within count view ≡ true) }
     ensures { result ≡ covered count (at prices.now) (at surplus.now) view figure }
 {
-    let mut left = view;
-    while left != 0 {
-        let at = sets::first(left) as usize;
-        let price = wide32(prices[at]);
-        let own = surplus[at];
-        if own < price {
-            if figure < price - own {
-                return false;
-            }
+    for c in Members(view) {
+        let at = c as usize;
+        let price = u64::from(prices[at]);
+        if figure < price.saturating_sub(surplus[at]) {
+            return false;
         }
-        left = sets::rest(left);
     }
     true
 }
@@ -109,12 +84,10 @@ fn views_covered<'a>(
     ensures { result ≡ every (length views.now) (λ j. covered count (at prices.now)
         (at surplus.now) (at views.now j) (at worth.now j)) }
 {
-    let mut j = 0;
-    while j < views.len() {
-        if !view_covered(count, prices, surplus, views[j], worth[j]) {
+    for (j, view) in views.iter().enumerate() {
+        if !view_covered(count, prices, surplus, *view, worth[j]) {
             return false;
         }
-        j += 1;
     }
     true
 }
@@ -125,63 +98,38 @@ pub fn takings<'a>(count: u64, prices: &'a [u32; 128], n: usize, allotment: &'a 
     ensures { result ≡ takings count (at prices.now) n (at allotment.now) }
 {
     let mut sum = 0;
-    let mut j = 0;
-    while j < n {
-        let entry = allotment[j];
-        if entry < count {
-            let at = entry as usize;
-            sum += wide32(prices[at]);
+    for entry in &allotment[..n] {
+        if *entry < count {
+            let at = *entry as usize;
+            sum += u64::from(prices[at]);
         }
-        j += 1;
     }
     sum
 }
 
-// What is left of an amount after each campaign's figure times its whole plays. A figure that the rest cannot pay is
-// found by a quotient.
-fn less_campaigns(count: u64, wholes: [u32; 64], surplus: &[u64], amount: u64) -> Rest
+// What is left of an amount after each campaign's figure times its whole plays, if it is enough for them.
+fn less_campaigns(count: u64, wholes: [u32; 64], surplus: &[u64], amount: u64) -> Option<u64>
     requires { (count ≤ max_campaigns) × (count ≤ length surplus.now) }
     ensures { result ≡ rest_left (sum count (λ i. at surplus.now i * at wholes i)) amount }
 {
     let mut left = amount;
-    let mut i = 0;
-    while i < count {
-        let at = i as usize;
-        let plays = wide32(wholes[at]);
-        let own = surplus[at];
-        if 0 < plays {
-            if left / plays < own {
-                return Rest {
-                    enough: false,
-                    left: 0,
-                };
-            }
-            left -= own * plays;
-        }
-        i += 1;
+    for i in 0..count as usize {
+        let part = surplus[i].checked_mul(u64::from(wholes[i]))?;
+        left = left.checked_sub(part)?;
     }
-    Rest {
-        enough: true,
-        left: left,
-    }
+    Some(left)
 }
 
-// Are the view figures together the amount?
-fn views_sum_to(n: usize, worth: &[u64], amount: u64) -> bool
+// What is left of an amount after each view's figure, if it is enough for them.
+fn less_views(n: usize, worth: &[u64], amount: u64) -> Option<u64>
     requires { n ≤ length worth.now }
-    ensures { result ≡ eqb (sum n (at worth.now)) amount }
+    ensures { result ≡ rest_left (sum n (at worth.now)) amount }
 {
     let mut left = amount;
-    let mut j = 0;
-    while j < n {
-        let own = worth[j];
-        if left < own {
-            return false;
-        }
-        left -= own;
-        j += 1;
+    for own in &worth[..n] {
+        left = left.checked_sub(*own)?;
     }
-    left == 0
+    Some(left)
 }
 
 // Is this an allotment with figures that fit it?
@@ -203,7 +151,9 @@ pub fn certified<'a>(
     let n = views.len();
     let allotted = entries_fit(views, allotment) & plays_fit(count, wholes, n, allotment);
     let covered = views_covered(count, prices, views, surplus, worth);
-    let rest = less_campaigns(count, wholes, surplus, takings(count, prices, n, allotment));
-    let equal = rest.enough & views_sum_to(n, worth, rest.left);
-    allotted & covered & equal
+    let sum = takings(count, prices, n, allotment);
+    let rest = less_campaigns(count, wholes, surplus, sum).and_then(|left| less_views(
+        n, worth, left,
+    ));
+    allotted & covered & (rest == Some(0))
 }

@@ -1,8 +1,9 @@
 -- The choice as a walk over the named campaigns: a stretch of unnamed ones leaves the candidate, and a named one is
 -- compared with it. So the candidate at the end is the choice among all places, and, where every name is in the plan,
 -- that among its campaigns.
-use mathlib.Core.Path.{◌≡◌, refl, ap, sym, ◌∙◌}
-use mathlib.Core.Bool.{Bool, true, false, cond, not, ◌||◌}
+use Rattle.std.specs.Prelude.{Option, Some, None}
+use mathlib.Core.Path.{◌≡◌, refl, ap, sym, subst}
+use mathlib.Core.Bool.{Bool, true, false, cond}
 use Prim.Native.Nat.{ℕ, suc, ◌+◌, ◌≤◌, ◌<◌}
 use native.Mathlib.Numerals.{add-one}
 use lib.Dec.{ltb}
@@ -18,21 +19,21 @@ use Rattle.campaigns.specs.Choice.{Choice, best, against, ahead, choice}
 use Rattle.campaigns.specs.Choice.Choice.{nobody, plays}
 use Rattle.campaigns.specs.View.{names, pays, offer, figure, able, chosen_of}
 use Rattle.campaigns.proofs.Choices.{Fits, best_fits}
-use Rattle.choice.specs.Candidates.{as_candidate, compared, candidate_of}
+use Rattle.choice.specs.Candidates.{as_candidate, displaced, compared, candidate_of}
 
 -- a campaign against the choice so far, as candidates
 module _ (x o : ℕ → ℕ) (i : ℕ) where
   abbrev tried : Candidate
-  tried = record { found = true; campaign = i; paid = o i; score = x i }
+  tried = record { campaign = i; paid = o i; score = x i }
 
-  abbrev better : Candidate → Candidate
-  better b = cond (not b.found || ltb b.score (x i)) tried b
+  abbrev better : Option Candidate → Option Candidate
+  better b = cond (displaced b (x i)) (Some tried) b
 
   meets : (ch : Choice) → as_candidate x o (against (ahead x) ch i) ≡ better (as_candidate x o ch)
   meets nobody = refl
   meets (plays m) = go (ltb (x m) (x i))
     where
-      go : (b : Bool) → as_candidate x o (cond b (plays i) (plays m)) ≡ cond b tried (as_candidate x o (plays m))
+      go : (b : Bool) → as_candidate x o (cond b (plays i) (plays m)) ≡ cond b (Some tried) (as_candidate x o (plays m))
       go true = refl
       go false = refl
 
@@ -69,19 +70,23 @@ module _ (pl : Plan) (w : View) (f : ℕ → Campaign) where
   abbrev Able : ℕ → ℕ → Type 0
   Able n m = (m < n) × (names w m ≡ true) × (pays pl w m (f m) ≡ true)
 
-  pub candidate_able : (n : ℕ) (b : Candidate) → b ≡ candidate_of pl w f n → b.found ≡ true → Able n b.campaign
+  pub candidate_able : (n : ℕ) (b : Candidate) → Some b ≡ candidate_of pl w f n → Able n b.campaign
   unfolding candidate_of choice
-  candidate_able n b e t =
-      rw e
-      (go (chosen_of n pl w f) (best_fits n (able pl w f) (ahead figures))
-      (sym (ap (λ (x : Candidate). x.found) e) ∙ t))
+  candidate_able n b e = go (chosen_of n pl w f) (best_fits n (able pl w f) (ahead figures)) e
     where
-      go : (ch : Choice) → Fits n (able pl w f) ch → (as_candidate figures offered ch).found ≡ true
-          → Able n (as_candidate figures offered ch).campaign
-      go nobody h x = absurd (never false refl x)
+      found : Option Candidate → Bool
+      found None = false
+      found (Some x) = true
+
+      held : Option Candidate → ℕ
+      held None = 0
+      held (Some x) = x.campaign
+
+      go : (ch : Choice) → Fits n (able pl w f) ch → Some b ≡ as_candidate figures offered ch → Able n b.campaign
+      go nobody h x = absurd (never false refl (sym (ap found x)))
       go (plays m) h x =
           let p = pays pl w m (f m) in
-          (h.0, both_left (names w m) p h.1, both_right (names w m) p h.1)
+          subst (Able n) (sym (ap held x)) (h.0, both_left (names w m) p h.1, both_right (names w m) p h.1)
 
   -- with every name below n, the choice among all 64 places is that among the first n
   pub choice_within : (n : ℕ) → n ≤ 64 → within n w.set ≡ true → chosen_of 64 pl w f ≡ chosen_of n pl w f

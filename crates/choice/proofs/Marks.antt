@@ -1,8 +1,9 @@
 -- What a walk over the named campaigns stores: those below its place are marked as passed over, the others are as they
 -- were; then the play corrects one mark. A store touches one place of each column (`left`), so that it changes one
 -- campaign (`put_counts`).
+use Rattle.std.specs.Prelude.{Some}
 use mathlib.Core.Path.{◌≡◌, refl, ap, sym, ◌∙◌}
-use mathlib.Core.Bool.{Bool, true, false, cond, ◌&&◌}
+use mathlib.Core.Bool.{Bool, true, false, cond}
 use mathlib.Core.List.{List}
 use Prim.Native.Nat.{ℕ, ◌+◌, ◌≤◌, ◌<◌}
 use native.Mathlib.Omega.{arith}
@@ -193,16 +194,12 @@ module _ (pl : Plan) (w : View) (f : ℕ → Campaign) where
   cut_end j l = ap (λ (b : Bool). cond b (marks j) (f j)) (lt-ltb j 64 l)
 
   -- with the play of its candidate, they are what the view makes of them
-  pub played_marks : (b : Candidate) (v : Campaign) → v ≡ played (marks b.campaign) → b.found ≡ true
+  pub played_marks : (b : Candidate) (v : Campaign) → v ≡ played (marks b.campaign)
       → names w b.campaign ≡ true → pays pl w b.campaign (f b.campaign) ≡ true → (j : ℕ)
-      → cond (eqb j b.campaign) v (marks j) ≡ after_view pl w b f j
-  played_marks b v q t n e j = go (eqb j b.campaign) refl
+      → cond (eqb j b.campaign) v (marks j) ≡ after_view pl w (Some b) f j
+  played_marks b v q n e j = go (eqb j b.campaign) refl
     where
       go : (x : Bool) → eqb j b.campaign ≡ x
-          → cond x v (marks j) ≡ becomes pl w j (role_of (names w j) (pays pl w j (f j)) (b.found && x)) (f j)
-      go true x = q ∙ rw (eqb-true j b.campaign x, n, e, t) (played_passed pl.depth (f b.campaign))
-      go false x = rw t
-
-  -- where nobody plays every mark stands
-  pub unplayed_marks : (b : Candidate) → b.found ≡ false → (j : ℕ) → marks j ≡ after_view pl w b f j
-  unplayed_marks b t j = rw t
+          → cond x v (marks j) ≡ becomes pl w j (role_of (names w j) (pays pl w j (f j)) x) (f j)
+      go true x = q ∙ rw (eqb-true j b.campaign x, n, e) (played_passed pl.depth (f b.campaign))
+      go false x = refl

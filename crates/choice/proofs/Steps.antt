@@ -1,8 +1,9 @@
 -- The walk along the members of a set, by the steps of the set's own walk: the members below the place are compared
 -- and marked, the others are as they were (`along_steps`). So the walk gives the choice and the marks that stand over
 -- all places (`walked_best`, `walked_marks`), and with the play of the best one the counts of rules 2 to 4.
+use Rattle.std.specs.Prelude.{Option, Some, None}
 use mathlib.Core.Path.{◌≡◌, refl, ap, ap₂, sym, ◌∙◌}
-use mathlib.Core.Bool.{Bool, true, false, cond, ◌&&◌}
+use mathlib.Core.Bool.{Bool, true, false, cond}
 use mathlib.Core.List.{List}
 use Prim.Native.Nat.{ℕ, ◌+◌, ◌≤◌, ◌<◌}
 use native.Mathlib.Omega.{arith}
@@ -20,7 +21,7 @@ use Rattle.campaigns.specs.Choice.Choice.{nobody, plays}
 use Rattle.campaigns.specs.Choice.Role.{chosen}
 use Rattle.campaigns.specs.View.{names, pays, offer, figure, becomes, chosen_of, viewed}
 use Rattle.choice.specs.declared.Candidate.{Candidate}
-use Rattle.choice.specs.Candidates.{no_candidate, as_candidate, compared, candidate_of, after_view}
+use Rattle.choice.specs.Candidates.{no_candidate, as_candidate, is_candidate, compared, candidate_of, after_view}
 use Rattle.choice.specs.Walk.{Walked, passed_over, along, walked, with_play, SameChoices}
 use Rattle.choice.specs.Walk as spec
 use Rattle.choice.specs.Cited.{Counts}
@@ -42,7 +43,7 @@ module _ (pl : Plan) (w : View) where
   -- a step from what is alike gives what is alike
   pub step_alike : (x y : Walked) (i : ℕ) → i < 64 → Alike x y → Alike (spec.step pl w x i) (spec.step pl w y i)
   step_alike x y i h a = record {
-    best_alike = ap₂ (λ (b : Candidate) (c : Campaign). compared pl w b i c) a.best_alike (a.alike_at i h);
+    best_alike = ap₂ (λ (b : Option Candidate) (c : Campaign). compared pl w b i c) a.best_alike (a.alike_at i h);
     alike_at = λ j l. ap₂ (λ (c d : Campaign). cond (eqb j i) (passed_over pl w i c) d)
         (a.alike_at i h) (a.alike_at j l);
   }
@@ -108,28 +109,29 @@ module _ (pl : Plan) (w : View) where
 
     -- with its play, the campaigns are those after the view
     pub walked_play : (j : ℕ) → j < 64 → with_play pl w f j ≡ after_view pl w (walked pl w f).best f j
-    walked_play j l = go b.found refl (eqb j b.campaign) refl
+    walked_play j l = go (walked pl w f).best refl
       where
-        b : Candidate
-        b = (walked pl w f).best
-
-        go : (t : Bool) → b.found ≡ t → (x : Bool) → eqb j b.campaign ≡ x
-            → cond (t && x) (becomes pl w j chosen (f j)) ((walked pl w f).campaigns j)
-            ≡ becomes pl w j (role_of (names w j) (pays pl w j (f j)) (t && x)) (f j)
-        go true t true x =
-            let a = candidate_able pl w f 64 b walked_best t in
-            let q = eqb-true j b.campaign x in
-            sym
-            (ap₂ (λ (n p : Bool). becomes pl w j (role_of n p true) (f j)) (ap (names w) q ∙ a.1)
-            (ap (λ (k : ℕ). pays pl w k (f k)) q ∙ a.2))
-        go true t false x = walked_marks j l
-        go false t true x = walked_marks j l
-        go false t false x = walked_marks j l
+        go : (o : Option Candidate) → (walked pl w f).best ≡ o
+            → cond (is_candidate o j) (becomes pl w j chosen (f j)) ((walked pl w f).campaigns j)
+            ≡ becomes pl w j (role_of (names w j) (pays pl w j (f j)) (is_candidate o j)) (f j)
+        go None e = walked_marks j l
+        go (Some b) e = at (eqb j b.campaign) refl
+          where
+            at : (x : Bool) → eqb j b.campaign ≡ x
+                → cond x (becomes pl w j chosen (f j)) ((walked pl w f).campaigns j)
+                ≡ becomes pl w j (role_of (names w j) (pays pl w j (f j)) x) (f j)
+            at true x =
+                let a = candidate_able pl w f 64 b (sym e ∙ walked_best) in
+                let q = eqb-true j b.campaign x in
+                sym
+                (ap₂ (λ (n p : Bool). becomes pl w j (role_of n p true) (f j)) (ap (names w) q ∙ a.1)
+                (ap (λ (k : ℕ). pays pl w k (f k)) q ∙ a.2))
+            at false x = walked_marks j l
 
 -- The same choice and the same counts as over all campaigns.
 
 module _ (n : ℕ) (pl : Plan) (w : View) (f : ℕ → Campaign) where
-  abbrev player : Choice → Candidate
+  abbrev player : Choice → Option Candidate
   player ch = as_candidate (λ i. figure pl w i (f i)) (λ i. offer pl w i (f i)) ch
 
   -- a choice says as a candidate who plays
@@ -146,7 +148,7 @@ module _ (n : ℕ) (pl : Plan) (w : View) (f : ℕ → Campaign) where
       → with_play pl w f i ≡ viewed n pl w f i
   unfolding candidate_of
   within_counts h e i l =
-      walked_play pl w f i l ∙ ap (λ (b : Candidate). after_view pl w b f i) (within_candidate h e)
+      walked_play pl w f i l ∙ ap (λ (b : Option Candidate). after_view pl w b f i) (within_candidate h e)
       ∙ roles (chosen_of n pl w f) i
 
 pub same_choices : SameChoices

@@ -1,6 +1,6 @@
 -- The invariant of the walk's loop, `Left`: what is left of the walk, done from here, gives the whole walk. A turn
--- takes one step off it (`turned`), so that the members left are one fewer (`fewer`); where none is left, it has been
--- walked (`ends`).
+-- takes one step off it (`turned`); where none is left, it has been walked (`ends`).
+use Rattle.std.specs.Prelude.{Option}
 use mathlib.Core.Path.{◌≡◌, refl, ap, ap₂, sym, subst, ◌∙◌}
 use mathlib.Core.Bool.{Bool, true, false, cond}
 use mathlib.Core.List.{List}
@@ -33,10 +33,10 @@ abbrev only : ℕ → View
 only left = record { set = left }
 
 -- the walk as far as it is: a candidate, and the campaigns that the arrays hold
-abbrev so_far : Candidate → (terms counts : List ℕ) → Walked
+abbrev so_far : Option Candidate → (terms counts : List ℕ) → Walked
 so_far b t n = record { best = b; campaigns = campaign_at t n }
 
-pub record Left (pl : Plan) (w : View) (f : ℕ → Campaign) (t n : List ℕ) (b : Candidate) (left : ℕ) : Type 0 where
+pub record Left (pl : Plan) (w : View) (f : ℕ → Campaign) (t n : List ℕ) (b : Option Candidate) (left : ℕ) : Type 0 where
   pub small : left < 2 ^ 64
   pub room : Sized t n
   pub ready : InBounds pl (only left) (campaign_at t n)
@@ -80,7 +80,7 @@ ready_on pl left i g h z e = record {
     same : (j : ℕ) → j < 64 → member (beyond left i) j ≡ true → h j ≡ g j
     same j l m = e j l (λ q. omega (arith, (on j l m).1))
 
-module _ (pl : Plan) (w : View) (f : ℕ → Campaign) (t n : List ℕ) (b : Candidate) (left : ℕ)
+module _ (pl : Plan) (w : View) (f : ℕ → Campaign) (t n : List ℕ) (b : Option Candidate) (left : ℕ)
     (z : Left pl w f t n b left) (e : left ≡ 0 → ⊥) where
   abbrev i : ℕ
   i = next left 0
@@ -146,14 +146,14 @@ module _ (pl : Plan) (w : View) (f : ℕ → Campaign) (t n : List ℕ) (b : Can
       Whole x = Alike x (walked pl w f)
 
   -- as the code has it
-  pub turned : (at : ℕ) (x v : Campaign) (m : List ℕ) (d : Candidate) (rest : ℕ) → at ≡ i → x ≡ c
+  pub turned : (at : ℕ) (x v : Campaign) (m : List ℕ) (d : Option Candidate) (rest : ℕ) → at ≡ i → x ≡ c
       → v ≡ passed_over pl w i c → m ≡ put n at v → d ≡ compared pl w b at x → rest ≡ beyond left i
       → Left pl w f t m d rest
   turned at x v m d rest ea ex ev em ed er =
       let m_is = em ∙ ap₂ (λ (k : ℕ) (y : Campaign). put n k y) ea ev in
       let d_is = ed ∙ ap₂ (λ (k : ℕ) (y : Campaign). compared pl w b k y) ea ex in
       subst (λ (k : ℕ). Left pl w f t m d k) (sym er)
-      (subst (λ (y : Candidate). Left pl w f t m y (beyond left i)) (sym d_is)
+      (subst (λ (y : Option Candidate). Left pl w f t m y (beyond left i)) (sym d_is)
       (subst (λ (k : List ℕ). Left pl w f t k (compared pl w b i c) (beyond left i)) (sym m_is) turns))
 
 -- after the last turn
@@ -162,7 +162,7 @@ unfolding along
 done pl w x left e =
     ap (λ (is : List ℕ). along pl w is x) (members_none left (ap (λ (y : ℕ). next y 0) e ∙ first_none))
 
-pub ends : (pl : Plan) (w : View) (f : ℕ → Campaign) (t n : List ℕ) (b : Candidate) (left : ℕ) → left ≡ 0
+pub ends : (pl : Plan) (w : View) (f : ℕ → Campaign) (t n : List ℕ) (b : Option Candidate) (left : ℕ) → left ≡ 0
     → Left pl w f t n b left → (b ≡ (walked pl w f).best) × Counts (walked pl w f).campaigns t n
 ends pl w f t n b left e z =
     let a = subst (λ (x : Walked). Alike x (walked pl w f)) (done pl w (so_far b t n) left e) z.same in

@@ -1,6 +1,6 @@
 -- The choice as a walk (document 02, request 9): it steps through the named campaigns alone, from the least to the
 -- next, and gives the choice and the counts that rules 1 to 4 give over all campaigns.
-use Rattle.std.specs.Prelude.{◌≡◌, true, false, cond, ◌&&◌, List, [], ◌∷◌, ℕ, ◌≤◌, ◌<◌, eqb}
+use Rattle.std.specs.Prelude.{◌≡◌, true, false, cond, List, [], ◌∷◌, ℕ, ◌≤◌, ◌<◌, eqb, Option}
 use Rattle.sets.specs.Set.{within}
 use Rattle.sets.specs.Walk.{members}
 use Rattle.campaigns.specs.declared.Campaign.{Campaign}
@@ -11,11 +11,11 @@ use Rattle.campaigns.specs.Choice.{role_of}
 use Rattle.campaigns.specs.Choice.Role.{chosen}
 use Rattle.campaigns.specs.View.{pays, becomes, viewed}
 use Rattle.choice.specs.declared.Candidate.{Candidate}
-use Rattle.choice.specs.Candidates.{no_candidate, compared, candidate_of}
+use Rattle.choice.specs.Candidates.{no_candidate, is_candidate, compared, candidate_of}
 
 -- how far a walk is: the best candidate so far, and the campaigns
 pub record Walked : Type 0 where
-  pub best : Candidate
+  pub best : Option Candidate
   pub campaigns : ℕ → Campaign
 
 -- what a view that names campaign i and does not play it makes of it
@@ -41,7 +41,7 @@ walked pl w f = along pl w (members w.set) (record { best = no_candidate; campai
 -- the campaigns once the best one has played, in place of being passed over
 abbrev pub with_play : Plan → View → (ℕ → Campaign) → ℕ → Campaign
 with_play pl w f i =
-    cond ((walked pl w f).best.found && eqb i (walked pl w f).best.campaign) (becomes pl w i chosen (f i))
+    cond (is_candidate (walked pl w f).best i) (becomes pl w i chosen (f i))
     ((walked pl w f).campaigns i)
 
 -- The walk gives the same choice and the same counts as before: rule 1 among all n campaigns of the plan, and rules 2

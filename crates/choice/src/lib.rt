@@ -12,39 +12,47 @@ ghost use Rattle.choice.specs.Cited.{put, Counts, InBounds};
 use campaigns::entry::entry;
 use campaigns::weights::weigh;
 use campaigns::{AGES, Campaign, NAMED, Plan, TURNS, View};
+use sets::Members;
 
-// The best candidate so far: a campaign, what it would pay, and its score. A score of 0 can be the best, so that nobody
-// is told apart by `found`.
-#[derive(Clone, Copy)]
+// A candidate to play: a campaign, what it would pay, and its score.
+#[derive(Clone, Copy, Debug, PartialEq, Eq)]
 pub struct Candidate {
-    pub found: bool,
     pub campaign: u64,
     pub paid: u64,
     pub score: u64,
 }
 
 // The better of `best` and campaign `at`, which is better if it can pay and there is no candidate yet or its score is
-// greater: equal scores stay with the one that was tried before. The view has no say in it beyond the name.
-fn compare(best: Candidate, at: u64, c: Campaign, plan: Plan, weights: &[u64; 33]) -> Candidate
+// greater: equal scores stay with the one that was tried before. The view has no say in it beyond the name. Both tests
+// come before the one choice: leaving early where it cannot pay costs a view of 16 names some 10 ns.
+#[tactic(auto, unfolding(crate::specs::Candidates::compared))]
+fn compare(
+    best: Option<Candidate>,
+    at: u64,
+    c: Campaign,
+    plan: Plan,
+    weights: &[u64; 33],
+) -> Option<Candidate>
     requires weights { Weights plan weights.now }
     requires fits_arrays { FitsArrays c }
     requires c_value { priced c ≡ true }
     requires age_le_depth { c.age ≤ plan.depth }
     ensures { (w : View) → result ≡ compared plan w best at c }
 {
-    if !c.can_pay() {
-        return best;
-    }
     let score = c.price * weigh(c.age, plan, weights);
-    if !best.found | (best.score < score) {
-        return Candidate {
-            found: true,
+    let behind = match best {
+        Some(held) => held.score < score,
+        None => true,
+    };
+    if c.can_pay() & behind {
+        Some(Candidate {
             campaign: at,
             paid: c.price,
-            score: score,
-        };
+            score,
+        })
+    } else {
+        best
     }
-    best
 }
 
 // Campaign i's counts into the array; all others stay.
@@ -59,14 +67,14 @@ fn store(i: usize, c: Campaign, counts: &mut [u16; 256])
 }
 
 // One walk over the named campaigns, from the least to the next: each is compared with the best so far, and each is
-// counted as passed over, since who plays is known at the end alone. `left` is the set that is left to walk.
+// counted as passed over, since who plays is known at the end alone.
 fn walk<'a>(
     view: View,
     plan: Plan,
     weights: &'a [u64; 33],
     terms: &'a [u32; 128],
     counts: &'a mut [u16; 256],
-) -> Candidate
+) -> Option<Candidate>
     requires weights { Weights plan weights.now }
     requires sized { Sized terms.now counts.old }
     requires in_bounds { InBounds plan view (campaign_at terms.now counts.old) }
@@ -74,22 +82,12 @@ fn walk<'a>(
     ensures counts { Counts (walked plan view (campaign_at terms.now counts.old)).campaigns
         terms.now counts.new }
 {
-    let depth = plan.depth;
-    let mut best = Candidate {
-        found: false,
-        campaign: 64,
-        paid: 0,
-        score: 0,
-    };
-    let mut left = view.set;
-    while left != 0 {
-        let i = sets::first(left);
+    let mut best = None;
+    for i in Members(view.set) {
         let at = i as usize;
         let c = entry(at, terms, counts);
         best = compare(best, i, c, plan, weights);
-        let passed = c.passed_over(depth);
-        store(at, passed, counts);
-        left = sets::rest(left);
+        store(at, c.passed_over(plan.depth), counts);
     }
     best
 }
@@ -101,7 +99,7 @@ pub fn play<'a>(
     weights: &'a [u64; 33],
     terms: &'a [u32; 128],
     counts: &'a mut [u16; 256],
-) -> Candidate
+) -> Option<Candidate>
     requires weights { Weights plan weights.now }
     requires sized { Sized terms.now counts.old }
     requires in_bounds { InBounds plan view (campaign_at terms.now counts.old) }
@@ -111,11 +109,10 @@ pub fn play<'a>(
         terms.now counts.new }
 {
     let chosen = walk(view, plan, weights, terms, counts);
-    if chosen.found {
-        let at = chosen.campaign as usize;
+    if let Some(best) = chosen {
+        let at = best.campaign as usize;
         let c = entry(at, terms, counts);
-        let played = c.played();
-        store(at, played, counts);
+        store(at, c.played(), counts);
     }
     chosen
 }

@@ -1,5 +1,6 @@
 -- A view's outcome by the candidate that the walk found and the counts that it left: with every name in the plan, the
 -- choice among all places is that among the campaigns of the plan.
+use Rattle.std.specs.Prelude.{Option}
 use mathlib.Core.Path.{◌≡◌, refl, ap, ap₂, sym, ◌∙◌}
 use mathlib.Core.Bool.{true}
 use mathlib.Core.List.{List}
@@ -29,7 +30,7 @@ use Rattle.day.proofs.State.{Sound, sound_facts, held_at, state_with_is}
 use Rattle.day.proofs.Questions.{Yes, call_yes}
 
 -- a choice among the campaigns of a state as a candidate
-abbrev chosen : Day → View → Choice → Candidate
+abbrev chosen : Day → View → Choice → Option Candidate
 chosen s w ch = as_candidate (λ i. figure s.plan (found s w) i (campaign s i)) (offers s w) ch
 
 -- the names that a view finds are in the plan where all its names are
@@ -37,7 +38,7 @@ found_within : (s : Day) (w : View) → within s.count w.set ≡ true → within
 found_within s w e = within_without s.count w.set s.paused e
 
 -- the candidate is the choice among the campaigns of the plan
-chosen_is : (s : Day) (w : View) (b : Candidate) → s.count ≤ 64 → within s.count w.set ≡ true
+chosen_is : (s : Day) (w : View) (b : Option Candidate) → s.count ≤ 64 → within s.count w.set ≡ true
     → b ≡ candidate_of s.plan (found s w) (campaign s) 64 → b ≡ chosen s w (player s w)
 unfolding candidate_of
 chosen_is s w b h e q =
@@ -72,7 +73,7 @@ module _ (s : Day) (w : View) (h : Sound s) (e : within s.count w.set ≡ true) 
   }
 
 -- an accepted view, from what the choice and the marks gave
-module _ (h : Head) (t n : List ℕ) (w : View) (b : Candidate) (y : Yes (questions (state_of h t n) (show_view w)))
+module _ (h : Head) (t n : List ℕ) (w : View) (b : Option Candidate) (y : Yes (questions (state_of h t n) (show_view w)))
     (q : b ≡ candidate_of h.plan (unmarked h.paused w) (campaign_at t n) 64) where
   abbrev s : Day
   s = state_of h t n
@@ -82,7 +83,7 @@ module _ (h : Head) (t n : List ℕ) (w : View) (b : Candidate) (y : Yes (questi
 
   becomes_shown : (i : ℕ) → after_view h.plan (found s w) b (campaign s) i ≡ shown s w i
   becomes_shown i =
-      ap (λ (x : Candidate). after_view s.plan (found s w) x (campaign s) i) plays_is ∙ made s w (player s w) i
+      ap (λ (x : Option Candidate). after_view s.plan (found s w) x (campaign s) i) plays_is ∙ made s w (player s w) i
 
   pub accepted_shows : (m : List ℕ) (r : Answer) → Counts (after_view h.plan (found s w) b (campaign_at t n)) t m
       → r ≡ answer_of b → record { day = state_of (head_shown s) t m; answer = r } ≡ call s (show_view w)

@@ -1,5 +1,5 @@
 -- Names for the contracts of the inner functions of the operations.
-use Rattle.std.specs.Prelude.{◌≡◌, Bool, true, cond, List, ℕ}
+use Rattle.std.specs.Prelude.{◌≡◌, Bool, true, List, ℕ, Option, Some, None}
 use Rattle.campaigns.specs.declared.Head.{Head}
 use Rattle.campaigns.specs.Cited.{Sized, Weights}
 use Rattle.choice.specs.declared.Candidate.{Candidate}
@@ -9,8 +9,9 @@ use Rattle.day.specs.declared.Step.{Step}
 use Rattle.day.specs.Day.{state_of, sound}
 
 -- the answer that names candidate b, or nobody
-abbrev pub answer_of : Candidate → Answer
-answer_of b = cond b.found (Played b.campaign b.paid) Nobody
+abbrev pub answer_of : Option Candidate → Answer
+answer_of None = Nobody
+answer_of (Some b) = Played b.campaign b.paid
 
 abbrev pub refusing : Head → ℕ → Step
 refusing h q = record { head = h; answer = Refused q }

@@ -1,5 +1,5 @@
 -- The state: how its arrays hold the campaigns, and the states that the operations hand back.
-use Rattle.std.specs.Prelude.{Bool, List, ◌++◌, ℕ}
+use Rattle.std.specs.Prelude.{Bool, List, ◌++◌, ℕ, Option}
 use Rattle.finite.specs.Finite.{table}
 use Rattle.campaigns.specs.declared.Campaign.{Campaign}
 use Rattle.campaigns.specs.declared.Head.{Head}
@@ -88,6 +88,6 @@ total_budgets s = budgets s.count (campaign s)
 unfoldable pub sound : Day → Bool
 sound s = sound_record (head_of s) (campaign s)
 
--- whether the state is sound and, if so, its sums
-unfoldable pub audited : Day → Audit
+-- the figures of the state, if it is sound
+unfoldable pub audited : Day → Option Audit
 audited s = audit_of (head_of s) (campaign s)

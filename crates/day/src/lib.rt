@@ -13,9 +13,10 @@ ghost use Rattle.day.specs.Calls.{number};
 ghost use Rattle.day.specs.Cited.{refusing};
 
 use campaigns::{Head, Phase, Plan, Terms, View};
+use refusal::Refusal;
 
 // The whole state, for those who hold it by value. The operations take it by its head and its two arrays.
-#[derive(Clone, Copy)]
+#[derive(Clone, Copy, Debug, PartialEq, Eq)]
 pub struct Day {
     pub phase: Phase,
     pub plan: Plan,
@@ -27,7 +28,7 @@ pub struct Day {
     pub counts: [u16; 256],
 }
 
-#[derive(Clone, Copy)]
+#[derive(Clone, Copy, Debug, PartialEq, Eq)]
 pub enum Answer {
     Refused(u64),
     Done,
@@ -56,43 +57,27 @@ impl Answer {
     {
         match self {
             Answer::Refused(question) => question,
-            Answer::Done => 0,
-            Answer::Played {
-                campaign: _,
-                paid: _,
-            } => 0,
-            Answer::Nobody => 0,
-            Answer::Tallied {
-                plays: _,
-                turns: _,
-                age: _,
-                named: _,
-            } => 0,
-            Answer::Closing {
-                takings: _,
-                claim: _,
-                full: _,
-            } => 0,
+            _ => 0,
         }
     }
 }
 
 // The state handed back, and the answer beside it.
-#[derive(Clone, Copy)]
+#[derive(Clone, Copy, Debug, PartialEq, Eq)]
 pub struct Outcome {
     pub day: Day,
     pub answer: Answer,
 }
 
 // The same of an operation in place: what changes of the campaigns has changed in the lent arrays.
-#[derive(Clone, Copy)]
+#[derive(Clone, Copy, Debug, PartialEq, Eq)]
 pub struct Step {
     pub head: Head,
     pub answer: Answer,
 }
 
 // What is asked of the day.
-#[derive(Clone, Copy)]
+#[derive(Clone, Copy, Debug, PartialEq, Eq)]
 pub enum Call {
     Open(Plan),
     Add(Terms),
@@ -105,12 +90,12 @@ pub enum Call {
 }
 
 impl Step {
-    pub fn refused(head: Head, question: u64) -> Step
-        ensures { result ≡ refusing head question }
+    pub fn refused(head: Head, refusal: Refusal) -> Step
+        ensures { result ≡ refusing head refusal.question }
     {
         Step {
-            head: head,
-            answer: Answer::Refused(question),
+            head,
+            answer: Answer::Refused(refusal.question),
         }
     }
 }

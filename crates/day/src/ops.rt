@@ -16,21 +16,20 @@ ghost use Rattle.day.specs.Cited.{Kept, Ready};
 use crate::view::show_sound;
 use crate::{Answer, Call, Step};
 use audit::Audit;
-use campaigns::entry::{entry, sized, wide32};
+use campaigns::entry::entry;
 use campaigns::weights::weights;
 use campaigns::{BUDGETS, Head, Phase, Plan, Terms};
 use questions::{add_question, mark_question, plan_question};
+use refusal::Refusal;
 
-// Whether the state is sound and, if so, its sums.
-pub fn audited<'a>(head: Head, terms: &'a [u32; 128], counts: &'a [u16; 256]) -> Audit
+// The figures of the state, if it is sound.
+pub fn audited<'a>(head: Head, terms: &'a [u32; 128], counts: &'a [u16; 256]) -> Option<Audit>
     ensures { result ≡ audited (state_of head terms.now counts.now) }
 {
     if !audit::limits_hold(head) {
-        return Audit::unsound();
+        return None;
     }
-    let plan = head.plan;
-    let list = weights(plan);
-    audit::audit_parts(head, &list, terms, counts)
+    audit::audit_parts(head, &weights(head.plan), terms, counts)
 }
 
 // A new plan with no campaigns, in Filling.
@@ -44,20 +43,18 @@ pub fn open_sound<'a>(
     ensures { outcome_of result terms.new counts.new
         ≡ call (state_of head terms.old counts.old) (open_plan plan) }
 {
-    let phase = head.phase;
-    if !phase.closed() {
-        return Step::refused(head, 2);
+    if !head.phase.closed() {
+        return Step::refused(head, Refusal::NOT_CLOSED);
     }
-    let question = plan_question(plan);
-    if question != 0 {
-        return Step::refused(head, question);
+    if let Err(refusal) = plan_question(plan) {
+        return Step::refused(head, refusal);
     }
     *terms = [0; 128];
     *counts = [0; 256];
     Step {
         head: Head {
             phase: Phase::Filling,
-            plan: plan,
+            plan,
             count: 0,
             accepted: 0,
             paused: 0,
@@ -71,9 +68,9 @@ fn total_budgets<'a>(n: usize, terms: &'a [u32; 128], counts: &'a [u16; 256]) ->
     requires { n ≤ max_campaigns }
     ensures { (result ≡ budgets n (campaign_at terms.now counts.now)) × (result ≤ max_column) }
 {
-    let mut all: u64 = 0;
+    let mut all = 0;
     for i in 0..n {
-        all = all + wide32(terms[i + BUDGETS]);
+        all += u64::from(terms[i + BUDGETS]);
     }
     all
 }
@@ -91,20 +88,15 @@ pub fn add_sound<'a>(
 {
     let at = head.count as usize;
     let budgets = total_budgets(at, terms, counts);
-    let question = add_question(head, t, budgets);
-    if question != 0 {
-        return Step::refused(head, question);
+    if let Err(refusal) = add_question(head, t, budgets) {
+        return Step::refused(head, refusal);
     }
     terms[at] = t.price as u32;
     terms[at + BUDGETS] = t.budget as u32;
-    let plan = head.plan;
     Step {
         head: Head {
-            phase: Phase::Filling,
-            plan: plan,
             count: head.count + 1,
-            accepted: head.accepted,
-            paused: head.paused,
+            ..head
         },
         answer: Answer::Done,
     }
@@ -116,18 +108,13 @@ pub fn start_sound<'a>(head: Head, terms: &'a [u32; 128], counts: &'a [u16; 256]
     ensures { outcome_of result terms.now counts.now
         ≡ call (state_of head terms.now counts.now) start_day }
 {
-    let phase = head.phase;
-    if !phase.filling() {
-        return Step::refused(head, 6);
+    if !head.phase.filling() {
+        return Step::refused(head, Refusal::NOT_FILLING);
     }
-    let plan = head.plan;
     Step {
         head: Head {
             phase: Phase::Running,
-            plan: plan,
-            count: head.count,
-            accepted: head.accepted,
-            paused: head.paused,
+            ..head
         },
         answer: Answer::Done,
     }
@@ -145,12 +132,11 @@ pub fn tally_sound<'a>(
         ≡ call (state_of head terms.now counts.now) (ask_tally campaign) }
 {
     if head.count <= campaign {
-        return Step::refused(head, 15);
+        return Step::refused(head, Refusal::NO_CAMPAIGN);
     }
-    let at = campaign as usize;
-    let c = entry(at, terms, counts);
+    let c = entry(campaign as usize, terms, counts);
     Step {
-        head: head,
+        head,
         answer: Answer::Tallied {
             plays: c.plays,
             turns: c.turns,
@@ -172,20 +158,14 @@ pub fn close_sound<'a>(
     ensures { outcome_of result terms.now counts.now
         ≡ call (state_of head terms.now counts.now) close_day }
 {
-    let phase = head.phase;
-    if !phase.running() {
-        return Step::refused(head, 11);
+    if !head.phase.running() {
+        return Step::refused(head, Refusal::NOT_RUNNING);
     }
-    let plan = head.plan;
-    let marks = head.paused;
-    let audit = audit::audit_parts(head, list, terms, counts);
+    let audit = audit::audit_parts(head, list, terms, counts).unwrap();
     Step {
         head: Head {
             phase: Phase::Closed(audit.takings),
-            plan: plan,
-            count: head.count,
-            accepted: head.accepted,
-            paused: marks,
+            ..head
         },
         answer: Answer::Closing {
             takings: audit.takings,
@@ -196,6 +176,7 @@ pub fn close_sound<'a>(
 }
 
 // The marks with that of a campaign set or cleared.
+#[tactic(auto, unfolding(crate::specs::Calls::marked))]
 fn marked(set: u64, campaign: u64, paused: bool) -> u64
     requires { campaign < max_campaigns }
     ensures { result ≡ marked paused campaign set }
@@ -218,19 +199,13 @@ pub fn mark_sound<'a>(
     ensures { outcome_of result terms.now counts.now
         ≡ call (state_of head terms.now counts.now) (mark_campaign paused campaign) }
 {
-    let question = mark_question(head, campaign);
-    if question != 0 {
-        return Step::refused(head, question);
+    if let Err(refusal) = mark_question(head, campaign) {
+        return Step::refused(head, refusal);
     }
-    let phase = Phase::Running;
-    let plan = head.plan;
     Step {
         head: Head {
-            phase: phase,
-            plan: plan,
-            count: head.count,
-            accepted: head.accepted,
             paused: marked(head.paused, campaign, paused),
+            ..head
         },
         answer: Answer::Done,
     }
@@ -275,11 +250,8 @@ pub fn prepare<'a>(
     if !audit::limits_hold(head) {
         return false;
     }
-    let plan = head.plan;
-    let all = weights(plan);
-    *list = all;
-    let audit = audit::audit_parts(head, list, terms, counts);
-    audit.sound
+    *list = weights(head.plan);
+    audit::audit_parts(head, list, terms, counts).is_some()
 }
 
 // A call of any state.
@@ -292,12 +264,9 @@ pub fn execute<'a>(
     ensures { outcome_of result terms.new counts.new
         ≡ call (state_of head terms.old counts.old) (asked ask) }
 {
-    let all_terms = *terms;
-    let all_counts = *counts;
-    sized(all_terms, all_counts);
-    let mut list: [u64; 33] = [0; 33];
+    let mut list = [0; 33];
     if !prepare(head, &mut list, terms, counts) {
-        return Step::refused(head, 1);
+        return Step::refused(head, Refusal::UNSOUND);
     }
     execute_sound(head, ask, &list, terms, counts)
 }

@@ -4,13 +4,13 @@ ghost use Rattle.day.specs.Day.{blank};
 ghost use Rattle.day.specs.Calls.{day_limits, call};
 ghost use Rattle.day.specs.Calls.Call.{open_plan, add_campaign, start_day, show_view, ask_tally, close_day};
 ghost use Rattle.day.specs.Calls.Call.{mark_campaign};
-ghost use Rattle.day.specs.Day.{audited, head_of};
+ghost use Rattle.day.specs.Day.{audited, head_of, state_of};
 ghost use Rattle.day.specs.InPlace.{asked};
 
 use crate::ops::{audited, execute};
 use crate::{Call, Day, Outcome};
 use audit::Audit;
-use campaigns::{Head, Phase, Plan, Terms, View};
+use campaigns::{Head, Plan, Terms, View};
 
 impl Day {
     // The limits, for callers; they are those of `Plan` and `Terms`.
@@ -47,34 +47,39 @@ impl Day {
     pub fn blank() -> Self
         ensures { result ≡ blank }
     {
-        Self {
-            phase: Phase::Closed(0),
-            plan: Plan { depth: 1, width: 1 },
-            count: 0,
-            accepted: 0,
-            paused: 0,
-            terms: [0; 128],
-            counts: [0; 256],
-        }
+        Self::from_parts(crate::blank(), [0; 128], [0; 256])
     }
 
     // The state but for its campaigns.
     pub fn head(self) -> Head
         ensures { result ≡ head_of self }
     {
-        let phase = self.phase;
-        let plan = self.plan;
         Head {
-            phase: phase,
-            plan: plan,
+            phase: self.phase,
+            plan: self.plan,
             count: self.count,
             accepted: self.accepted,
             paused: self.paused,
         }
     }
 
-    // Whether the state is sound and, if so, its sums.
-    pub fn audit(self) -> Audit
+    // The state of a head and the arrays of its campaigns.
+    pub fn from_parts(head: Head, terms: [u32; 128], counts: [u16; 256]) -> Self
+        ensures { result ≡ state_of head terms counts }
+    {
+        Self {
+            phase: head.phase,
+            plan: head.plan,
+            count: head.count,
+            accepted: head.accepted,
+            paused: head.paused,
+            terms,
+            counts,
+        }
+    }
+
+    // The figures of the state, if it is sound.
+    pub fn audit(self) -> Option<Audit>
         ensures { result ≡ audited self }
     {
         audited(self.head(), &self.terms, &self.counts)
@@ -84,25 +89,12 @@ impl Day {
     pub fn execute(self, ask: Call) -> Outcome
         ensures { result ≡ call self (asked ask) }
     {
-        let head = self.head();
         let mut terms = self.terms;
         let mut counts = self.counts;
-        let step = execute(head, ask, &mut terms, &mut counts);
-        let next = step.head;
-        let phase = next.phase;
-        let plan = next.plan;
-        let answer = step.answer;
+        let step = execute(self.head(), ask, &mut terms, &mut counts);
         Outcome {
-            day: Day {
-                phase: phase,
-                plan: plan,
-                count: next.count,
-                accepted: next.accepted,
-                paused: next.paused,
-                terms: terms,
-                counts: counts,
-            },
-            answer: answer,
+            day: Day::from_parts(step.head, terms, counts),
+            answer: step.answer,
         }
     }
 

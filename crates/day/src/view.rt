@@ -9,21 +9,21 @@ ghost use Rattle.day.specs.Cited.{Kept};
 ghost use Rattle.day.specs.Cited.{answer_of};
 
 use crate::{Answer, Step};
-use campaigns::{Head, Phase, View};
+use campaigns::{Head, View};
 use choice::{Candidate, play};
 use questions::view_question;
 
 // Who plays, and what is paid.
-fn view_answer(chosen: Candidate) -> Answer
+fn view_answer(chosen: Option<Candidate>) -> Answer
     ensures { result ≡ answer_of chosen }
 {
-    if chosen.found {
-        return Answer::Played {
-            campaign: chosen.campaign,
-            paid: chosen.paid,
-        };
+    match chosen {
+        Some(best) => Answer::Played {
+            campaign: best.campaign,
+            paid: best.paid,
+        },
+        None => Answer::Nobody,
     }
-    Answer::Nobody
 }
 
 // The view of a sound state.
@@ -39,24 +39,18 @@ pub fn show_sound<'a>(
     ensures { outcome_of result terms.now counts.new
         ≡ call (state_of head terms.now counts.old) (show_view view) }
 {
-    let question = view_question(head, view);
-    if question != 0 {
-        return Step::refused(head, question);
+    if let Err(refusal) = view_question(head, view) {
+        return Step::refused(head, refusal);
     }
-    let plan = head.plan;
     let found = View {
         set: sets::without(view.set, head.paused),
     };
-    let chosen = play(found, plan, weights, terms, counts);
-    let answer = view_answer(chosen);
+    let chosen = play(found, head.plan, weights, terms, counts);
     Step {
         head: Head {
-            phase: Phase::Running,
-            plan: plan,
-            count: head.count,
             accepted: head.accepted + 1,
-            paused: head.paused,
+            ..head
         },
-        answer: answer,
+        answer: view_answer(chosen),
     }
 }

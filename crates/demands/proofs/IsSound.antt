@@ -5,6 +5,7 @@ use mathlib.Core.Bool.{true, false, not, ◌&&◌, ◌||◌, or-true, or-false}
 use mathlib.Core.Logic.{◌↔◌}
 use Prim.Native.Nat.{ℕ, ◌*◌, ◌<◌}
 use lib.Dec.{eqb}
+use Rattle.std.specs.Prelude.{Option, Some, None, IfSome}
 use borrow.Author.Tests.{leb-true, le-leb, eqb-true, eq-eqb}
 use Rattle.finite.proofs.Tests.{never, both_right}
 use Rattle.finite.proofs.Meanings.{both_means}
@@ -20,14 +21,15 @@ use Rattle.campaigns.specs.Campaign.{whole, claim, sound_plan, priced, counted, 
 use Rattle.campaigns.proofs.Laws.{plays_within, spending_within}
 use Rattle.campaigns.proofs.Meanings.{uncounted_means, empty_means}
 use Rattle.audit.specs.declared.Audit.{Audit}
-use Rattle.audit.specs.Sound.{marks_hold, sound_figures}
-use Rattle.audit.proofs.Audits.{audit_sound, audit_figures}
+use Rattle.audit.specs.Sound.{marks_hold, sound_figures, audit_of}
+use Rattle.audit.proofs.Audits.{audit_sound, audit_some}
 use Rattle.audit.proofs.Totals.{Held}
 use Rattle.day.specs.declared.Day.{Day}
 use Rattle.day.specs.Day.{head_of, campaign, sound, audited}
 use Rattle.day.specs.Day as states
 use Rattle.day.proofs.State.{sound_facts, sound_at, held_at, empty_at}
-use Rattle.demands.specs.Door.{DepthFits, WidthFits, PowerFits, PriceFits, BudgetFits, takings}
+use Rattle.demands.specs.Door.{DepthFits, WidthFits, PowerFits, PriceFits, BudgetFits, takings, total_budgets}
+use Rattle.demands.specs.Door.{total_claim, full}
 use Rattle.demands.specs.Door.{CampaignSound, new_campaign, IsSound, SumsAre, SoundMeans, AlwaysAudited}
 use Rattle.demands.proofs.Meanings.{depth_means, width_means, power_means, price_means, budget_means}
 use Rattle.demands.proofs.SoundCampaign.{campaign_sound}
@@ -149,17 +151,23 @@ sums_are s = (refl, refl, refl)
 pub sound_means : SoundMeans
 sound_means s = (sound_holds s, sound_passes s)
 
+-- what holds of a sound state's figures holds of its audit, if there is one
+of_figures : (s : Day) (P : Audit → Type 0) → P (sound_figures (head_of s) (campaign s)) → IfSome (audited s) P
+unfolding audited
+of_figures s P p = go (audit_of (head_of s) (campaign s)) refl
+  where
+    go : (a : Option Audit) → a ≡ audit_of (head_of s) (campaign s) → IfSome a P
+    go None e = tt
+    go (Some a) e = subst P (sym (audit_some (head_of s) (campaign s) e).1) p
+
 pub always_audited : AlwaysAudited
 unfolding audited sound claim share weight
 always_audited s =
-    let h = head_of s in
-    let told = audit_sound h (campaign s) (audited s) refl in
-    let figures : IsSound s → audited s ≡ sound_figures h (campaign s) =
-    λ g. audit_figures h (campaign s) (audited s) refl (sound_passes s g) in
+    let told = audit_sound (head_of s) (campaign s) (audited s) refl in
     record {
       sound_is = (λ e. sound_holds s (sym told ∙ e), λ g. told ∙ sound_passes s g);
-      budgets_are = λ g. ap (λ (a : Audit). a.budgets) (figures g);
-      takings_are = λ g. ap (λ (a : Audit). a.takings) (figures g);
-      claim_is = λ g. ap (λ (a : Audit). a.claim) (figures g);
-      full_is = λ g. ap (λ (a : Audit). a.full) (figures g);
+      budgets_are = of_figures s (λ a. a.budgets ≡ total_budgets s) refl;
+      takings_are = of_figures s (λ a. a.takings ≡ takings s) refl;
+      claim_is = of_figures s (λ a. a.claim ≡ total_claim s) refl;
+      full_is = of_figures s (λ a. a.full ≡ full s) refl;
     }

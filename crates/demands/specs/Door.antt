@@ -1,7 +1,7 @@
 -- "Sound" and "Questions at the door" once more, as propositions with the documents' own numbers: what a sound state
 -- is, when a call is accepted, and the number that it gets where it is not. The sentences take nothing from the tests
 -- that the code is proved against; closed statements join the two.
-use Rattle.std.specs.Prelude.{◌≡◌, true, not, ◌&&◌, ◌↔◌, ℕ, ◌+◌, ◌-◌, ◌*◌, ◌^◌, ◌≤◌, ◌<◌}
+use Rattle.std.specs.Prelude.{◌≡◌, true, not, ◌&&◌, ◌↔◌, ℕ, ◌+◌, ◌-◌, ◌*◌, ◌^◌, ◌≤◌, ◌<◌, IsSome, IfSome}
 use Rattle.finite.specs.Finite.{sum, count}
 use Rattle.sets.specs.Set.{member}
 use Rattle.campaigns.specs.declared.Campaign.{Campaign}
@@ -103,13 +103,13 @@ SumsAre =
 abbrev pub SoundMeans : Type 0
 SoundMeans = (s : Day) → (sound s ≡ true) ↔ IsSound s
 
--- an audit tells whether a state is sound and, if so, its sums
+-- there is an audit of a state exactly if it is sound, and it tells its sums
 pub record AuditTells (s : Day) : Type 0 where
-  pub sound_is : ((audited s).sound ≡ true) ↔ IsSound s
-  pub budgets_are : IsSound s → (audited s).budgets ≡ total_budgets s
-  pub takings_are : IsSound s → (audited s).takings ≡ takings s
-  pub claim_is : IsSound s → (audited s).claim ≡ total_claim s
-  pub full_is : IsSound s → (audited s).full ≡ full s
+  pub sound_is : IsSome (audited s) ↔ IsSound s
+  pub budgets_are : IfSome (audited s) (λ a. a.budgets ≡ total_budgets s)
+  pub takings_are : IfSome (audited s) (λ a. a.takings ≡ takings s)
+  pub claim_is : IfSome (audited s) (λ a. a.claim ≡ total_claim s)
+  pub full_is : IfSome (audited s) (λ a. a.full ≡ full s)
 
 abbrev pub AlwaysAudited : Type 0
 AlwaysAudited = (s : Day) → AuditTells s

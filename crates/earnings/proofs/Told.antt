@@ -1,53 +1,53 @@
 -- The search's answer beside the takings. It is given where no question fails, so that the state is sound and the audit
 -- has told its takings.
-use mathlib.Core.Path.{◌≡◌, refl, ap, sym, ◌∙◌}
-use mathlib.Core.Bool.{true}
+use mathlib.Core.Path.{◌≡◌, refl, ap, ◌∙◌}
 use mathlib.Core.List.{List}
 use Prim.Native.Nat.{ℕ, zero, suc}
-use native.Mathlib.Omega.{arith}
 use lib.ListN.{length}
+use Rattle.std.specs.Prelude.{Some, None}
 use Rattle.audit.specs.declared.Audit.{Audit}
-use Rattle.audit.proofs.Audits.{audit_figures}
+use Rattle.audit.proofs.Audits.{audit_some, audit_none}
 use Rattle.day.specs.declared.Day.{Day}
 use Rattle.day.specs.Day.{head_of, campaign, total_takings, sound, audited}
-use Rattle.optimum.specs.declared.Optimum.{Optimum}
-use Rattle.optimum.specs.declared.Optimum.TheVariants as optimum
+use Rattle.std.specs.Prelude.{Ok, Err}
+use Rattle.refusal.specs.declared.Refusal.{Refusal}
 use Rattle.optimum.specs.Optimum.{failed, most_of, answer_of}
-use Rattle.optimum.proofs.Asked.{Granted, granted}
-use Rattle.earnings.specs.declared.Earnings.TheVariants.{Refused, Figures}
+use Rattle.refusal.specs.Refusal.{refusal}
+use Rattle.questions.specs.Questions.{first_failed}
 use Rattle.earnings.specs.Earnings.{earnings_of, question_of, earned}
 
-takings_told : (s : Day) (a : Audit) → a ≡ audited s → sound s ≡ true → a.takings ≡ total_takings s
-unfolding audited sound total_takings
-takings_told s a e h = ap (λ (x : Audit). x.takings) (audit_figures (head_of s) (campaign s) a e h)
+takings_told : (s : Day) {a : Audit} → Some a ≡ audited s → a.takings ≡ total_takings s
+unfolding audited total_takings
+takings_told s e = ap (λ (x : Audit). x.takings) (audit_some (head_of s) (campaign s) e).1
 
-refused_of : (n t g q : ℕ) → optimum.Refused q ≡ answer_of n g → Refused q ≡ earnings_of n t g
-refused_of zero t g q e = cc
-refused_of (suc n) t g q e = cc
+-- of a state that is not sound
+pub unsound_told : (s : Day) (views : List ℕ) → None ≡ audited s → Err (refusal 1) ≡ earned s views
+unfolding audited sound earned question_of first_failed
+unsound_told s views e = rw (audit_none (head_of s) (campaign s) e)
 
-figures_of : (n t g x : ℕ) → optimum.Takings x ≡ answer_of n g → (n ≡ 0) × (x ≡ g)
-figures_of zero t g x e = (refl, cc)
-figures_of (suc n) t g x e = absurd (let z : ◌≡◌ {A = ℕ} 0 1 = cc in omega arith)
+refused_of : (n t g : ℕ) {r : Refusal} → Err r ≡ answer_of n g → Err r ≡ earnings_of n t g
+refused_of zero t g e = cc
+refused_of (suc n) t g e = cc
 
-module _ (s : Day) (views a c v : List ℕ) (la : length a ≡ 256) (lc : length c ≡ 64) (lv : length v ≡ 256)
-    {r : Optimum} (e : r ≡ answer_of (failed s views a c v) (most_of s views)) where
+figures_of : (n g x : ℕ) → Ok x ≡ answer_of n g → (n ≡ 0) × (x ≡ g)
+figures_of zero g x e = (refl, cc)
+figures_of (suc n) g x e = (cc, cc)
+
+module _ (s : Day) (views a c v : List ℕ) (la : length a ≡ 256) (lc : length c ≡ 64) (lv : length v ≡ 256) where
   same_question : failed s views a c v ≡ question_of s views
   unfolding failed question_of
   same_question = rw (la, lc, lv)
 
-  pub refused_told : {q : ℕ} → r ≡ optimum.Refused q → Refused q ≡ earned s views
-  unfolding earned
-  refused_told {q} k =
-      refused_of (question_of s views) (total_takings s) (most_of s views) q
-      (sym k ∙ e ∙ ap (λ (n : ℕ). answer_of n (most_of s views)) same_question)
+  same_answer : answer_of (failed s views a c v) (most_of s views) ≡ answer_of (question_of s views) (most_of s views)
+  same_answer = ap (λ (n : ℕ). answer_of n (most_of s views)) same_question
 
-  pub figures_told : {x : ℕ} → r ≡ optimum.Takings x → {w : Audit} → w ≡ audited s
-      → Figures w.takings x ≡ earned s views
+  pub refused_told : {r : Refusal} → Err r ≡ answer_of (failed s views a c v) (most_of s views) → Err r ≡ earned s views
+  unfolding earned
+  refused_told {r} e = refused_of (question_of s views) (total_takings s) (most_of s views) (e ∙ same_answer)
+
+  pub figures_told : {x : ℕ} → Ok x ≡ answer_of (failed s views a c v) (most_of s views) → {w : Audit}
+      → Some w ≡ audited s → Ok (record { takings = w.takings; greatest = x }) ≡ earned s views
   unfolding earned question_of
-  figures_told {x} k {w} i =
-      let f = figures_of (question_of s views) (total_takings s) (most_of s views) x
-      (sym k ∙ e ∙ ap (λ (n : ℕ). answer_of n (most_of s views)) same_question) in
-      let g : Granted s views a c v = granted (same_question ∙ f.0) in
-      ap (λ (t : ℕ). Figures t x) (takings_told s w i g.is_sound)
-      ∙ ap (Figures (total_takings s)) f.1
-      ∙ sym (ap (λ (n : ℕ). earnings_of n (total_takings s) (most_of s views)) f.0)
+  figures_told {x} e {w} i =
+      let f = figures_of (question_of s views) (most_of s views) x (e ∙ same_answer) in
+      rw (takings_told s i, f.1, f.0)

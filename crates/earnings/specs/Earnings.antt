@@ -1,5 +1,5 @@
 -- What the day took beside what it could have earned, and its line.
-use Rattle.std.specs.Prelude.{◌≡◌, cond, List, [], ◌∷◌, ◌++◌, ℕ, zero, suc, ◌^◌, ◌<◌, eqb, take, drop}
+use Rattle.std.specs.Prelude.{◌≡◌, cond, List, [], ◌∷◌, ◌++◌, ℕ, zero, suc, ◌^◌, ◌<◌, eqb, take, drop, Result, Ok, Err}
 use Rattle.lines.specs.declared.Record.TheVariants as lines
 use Rattle.lines.specs.Form.{bytes}
 use Rattle.lines.specs.Numeral.{numeral}
@@ -11,30 +11,31 @@ use Rattle.day.specs.Day.{total_takings}
 use Rattle.questions.specs.Questions.{first_failed, accepts}
 use Rattle.allotments.specs.Limits.{max_handed_in}
 use Rattle.optimum.specs.Optimum.{questions, search_door, most_of}
-use Rattle.earnings.specs.declared.Earnings.{Earnings}
-use Rattle.earnings.specs.declared.Earnings.TheVariants.{Refused, Figures}
+use Rattle.refusal.specs.declared.Refusal.{Refusal}
+use Rattle.refusal.specs.Refusal.{refusal}
+use Rattle.earnings.specs.declared.Figures.{Figures}
 use Rattle.earnings.specs.Ratio.{ratio_of}
 
 -- from the number of the question that failed, or 0
-abbrev pub earnings_of : (question takings greatest : ℕ) → Earnings
-earnings_of zero t g = Figures t g
-earnings_of (suc q) t g = Refused (suc q)
+abbrev pub earnings_of : (question takings greatest : ℕ) → Result Figures Refusal
+earnings_of zero t g = Ok (record { takings = t; greatest = g })
+earnings_of (suc q) t g = Err (refusal (suc q))
 
 -- the number of the first question of the search that fails, or 0, where enough is lent for 256 views and 64 campaigns
 unfoldable pub question_of : Day → (views : List ℕ) → ℕ
 question_of s views = first_failed (questions s views max_handed_in max_campaigns max_handed_in)
 
-unfoldable pub earned : Day → (views : List ℕ) → Earnings
+unfoldable pub earned : Day → (views : List ℕ) → Result Figures Refusal
 earned s views = earnings_of (question_of s views) (total_takings s) (most_of s views)
 
 -- the number of an answer, 0 where it is accepted, and its values
-abbrev pub number : Earnings → ℕ
-number (Refused q) = q
-number (Figures t g) = 0
+abbrev pub number : Result Figures Refusal → ℕ
+number (Err r) = r.question
+number (Ok f) = 0
 
-abbrev pub values : Earnings → List ℕ
-values (Refused q) = q ∷ []
-values (Figures t g) = t ∷ g ∷ []
+abbrev pub values : Result Figures Refusal → List ℕ
+values (Err r) = r.question ∷ []
+values (Ok f) = f.takings ∷ f.greatest ∷ []
 
 pub record Tells (s : Day) (views : List ℕ) : Type 0 where
   pub number_is : number (earned s views) ≡ question_of s views
@@ -75,6 +76,6 @@ abbrev pub LineReads : Type 0
 LineReads = (t g : ℕ) → t < 2 ^ 64 → g < 2 ^ 64 → Reads t g (figures_text t g)
 
 -- that of a refusal is document 01's
-abbrev pub earnings_text : Earnings → List ℕ
-earnings_text (Refused q) = line (lines.Refused q)
-earnings_text (Figures t g) = figures_text t g
+abbrev pub earnings_text : Result Figures Refusal → List ℕ
+earnings_text (Err r) = line (lines.Refused r.question)
+earnings_text (Ok f) = figures_text f.takings f.greatest

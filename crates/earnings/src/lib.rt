@@ -14,14 +14,16 @@ use crate::ratio::lowest;
 use campaigns::Head;
 use day::Day;
 use day::ops::audited;
-use optimum::{Optimum, search};
+use lines::slots::Slot;
+use optimum::search;
 use print::{put, put_field};
+use refusal::Refusal;
 
-// The number of the question that failed, or the takings and the greatest takings.
+// What the day took, and the greatest takings.
 #[derive(Clone, Copy)]
-pub enum Earnings {
-    Refused(u64),
-    Figures { takings: u64, greatest: u64 },
+pub struct Figures {
+    pub takings: u64,
+    pub greatest: u64,
 }
 
 // How many bytes hold every line; a line ends behind the last of them.
@@ -33,14 +35,14 @@ fn earned_at<'a>(
     terms: &'a [u32; 128],
     counts: &'a [u16; 256],
     views: &'a [u64],
-) -> Earnings
+) -> Result<Figures, Refusal>
     ensures { result ≡ earned (state_of head terms.now counts.now) views.now }
 {
-    let audit = audited(head, terms, counts);
+    let audit = audited(head, terms, counts).ok_or(Refusal::UNSOUND)?;
     let mut allotment: [u64; 256] = [0; 256];
     let mut surplus: [u64; 64] = [0; 64];
     let mut worth: [u64; 256] = [0; 256];
-    match search(
+    let greatest = search(
         head,
         terms,
         counts,
@@ -48,51 +50,50 @@ fn earned_at<'a>(
         &mut allotment,
         &mut surplus,
         &mut worth,
-    ) {
-        Optimum::Refused(question) => Earnings::Refused(question),
-        Optimum::Takings(greatest) => Earnings::Figures {
-            takings: audit.takings,
-            greatest: greatest,
-        },
-    }
+    )?;
+    Ok(Figures {
+        takings: audit.takings,
+        greatest,
+    })
 }
 
 // The same of a state by value.
-pub fn earned(day: Day, views: &[u64]) -> Earnings
+pub fn earned(day: Day, views: &[u64]) -> Result<Figures, Refusal>
     ensures { result ≡ earned day views.now }
 {
     earned_at(day.head(), &day.terms, &day.counts, views)
 }
 
 // The line of two figures: it is put from its last byte to its first.
-fn put_figures(out: &mut [u8], takings: u64, greatest: u64) -> usize
+fn put_figures(out: &mut [u8], figures: Figures) -> usize
     requires { report_room ≤ length out.old }
-    ensures { Put out.old out.new result report_room (figures_text takings greatest) }
+    ensures { Put out.old out.new result report_room (figures_text figures.takings figures.greatest) }
 {
+    let Figures { takings, greatest } = figures;
     let ratio = lowest(takings, greatest);
     let to = put(out, ROOM, b")\n");
-    let to = put_field(out, to, b"/", b'M', ratio.denominator);
-    let to = put_field(out, to, b") (ratio ", b'M', ratio.numerator);
-    let to = put_field(out, to, b") (greatest ", b'M', greatest);
-    put_field(out, to, b"(takings ", b'M', takings)
+    let to = put_field(out, to, b"/", Slot::Money, ratio.denominator);
+    let to = put_field(out, to, b") (ratio ", Slot::Money, ratio.numerator);
+    let to = put_field(out, to, b") (greatest ", Slot::Money, greatest);
+    put_field(out, to, b"(takings ", Slot::Money, takings)
 }
 
 // The line of a refusal.
-fn put_refusal(out: &mut [u8], question: u64) -> usize
+fn put_refusal(out: &mut [u8], refusal: Refusal) -> usize
     requires { report_room ≤ length out.old }
-    ensures { Put out.old out.new result report_room (line (Refused question)) }
+    ensures { Put out.old out.new result report_room (line (Refused refusal.question)) }
 {
     let to = put(out, ROOM, b")\n");
-    put_field(out, to, b"(refused ", b'R', question)
+    put_field(out, to, b"(refused ", Slot::Question, refusal.question)
 }
 
 // The line: it ends at the place ROOM, and the place where it begins is given.
-pub fn put_earnings(out: &mut [u8], earnings: Earnings) -> usize
+pub fn put_earnings(out: &mut [u8], earnings: Result<Figures, Refusal>) -> usize
     requires { report_room ≤ length out.old }
     ensures { Put out.old out.new result report_room (earnings_text earnings) }
 {
     match earnings {
-        Earnings::Refused(question) => put_refusal(out, question),
-        Earnings::Figures { takings, greatest } => put_figures(out, takings, greatest),
+        Ok(figures) => put_figures(out, figures),
+        Err(refusal) => put_refusal(out, refusal),
     }
 }

@@ -16,9 +16,7 @@ fn gcd(a: u64, b: u64) -> u64
     let mut x = a;
     let mut y = b;
     while y != 0 {
-        let rest = x % y;
-        x = y;
-        y = rest;
+        (x, y) = (y, x % y);
     }
     x
 }

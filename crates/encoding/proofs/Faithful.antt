@@ -17,7 +17,7 @@ use Rattle.lines.specs.declared.Record.{Record}
 use Rattle.lines.specs.declared.Record.TheVariants as form
 use Rattle.lines.specs.Form.{numbers}
 use Rattle.lines.specs.Reading.{forms, made}
-use Rattle.encoding.specs.Encoding.{padded, tag_of, held_by, is_head, phase_of, head_in, head_words, answer_after}
+use Rattle.encoding.specs.Encoding.{tag_of, held_by, is_head, phase_of, head_in, head_words, answer_after}
 use Rattle.encoding.specs.Encoding.{form_of, is_form, record_of, record_words}
 use Rattle.encoding.specs.Faithful.{Faithful, seven}
 
@@ -78,7 +78,7 @@ answer_of q w =
     (Closing (get_or w 1 0) (get_or w 2 0) (get_or w 3 0))))))
 
 answer_back : (a : Answer) → answer_of (number a) (answer_after a (0 ∷ [])) ≡ a
-unfolding answer_after padded answer_of
+unfolding answer_after answer_of
 answer_back (Refused q) = refl
 answer_back Done = refl
 answer_back (Played i p) = refl
@@ -92,7 +92,7 @@ answer_once a b n e = sym (answer_back a) ∙ ap₂ answer_of n (e (0 ∷ [])) �
 -- records: their words are those of a form, and give them back
 record_kept : (r : Record) → (is_form (record_words r) ≡ true) × (record_of (record_words r) ≡ r)
     × ((rest : List ℕ) → record_of (form_of r ∷ (numbers r ++ rest)) ≡ r)
-unfolding record_words padded numbers record_of forms made
+unfolding record_words numbers record_of forms made
 record_kept (form.Plan _ _) = (refl, refl, λ rest. refl)
 record_kept (form.Campaign _ _) = (refl, refl, λ rest. refl)
 record_kept form.Start = (refl, refl, λ rest. refl)

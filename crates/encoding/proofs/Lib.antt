@@ -1,3 +1,2 @@
 pub mod Faithful
-pub mod Forms
 pub mod Words

@@ -1,11 +1,11 @@
 -- Each by computation.
 use mathlib.Core.Path.{refl}
 use Rattle.lines.specs.Form.{numbers}
-use Rattle.encoding.specs.Encoding.{padded, answer_after, record_words}
+use Rattle.encoding.specs.Encoding.{answer_after, record_words}
 use Rattle.encoding.specs.Words.{Words}
 
 pub words : Words
-unfolding numbers padded answer_after record_words
+unfolding numbers answer_after record_words
 words = record {
   filling = λ d w n a p. refl;
   running = λ d w n a p. refl;

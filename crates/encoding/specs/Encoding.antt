@@ -14,7 +14,7 @@ use Rattle.lines.specs.Form.{numbers}
 use Rattle.lines.specs.Reading.{forms, made}
 
 -- n words: the values, and 0 behind them
-unfoldable pub padded : ℕ → List ℕ → List ℕ
+abbrev pub padded : ℕ → List ℕ → List ℕ
 padded n vs = take n (vs ++ replicate n 0)
 
 -- a head: the phase's tag, the takings that a Closed phase holds or 0, depth, width, number of campaigns, accepted

@@ -1,8 +1,8 @@
 // Statuses, heads, answers, records and streams as words.
 #![tactic(auto)]
 
-ghost use Rattle.std.specs.Prelude.{◌≡◌, true};
-ghost use Rattle.encoding.specs.Encoding.{is_head, phase_of, tag_of, held_by, head_in, head_words};
+ghost use Rattle.std.specs.Prelude.{◌≡◌, true, false, MatchResult};
+ghost use Rattle.encoding.specs.Encoding.{no_head, is_head, phase_of, tag_of, held_by, head_in, head_words};
 ghost use Rattle.encoding.specs.Encoding.{answer_after, is_form, record_of, record_words, is_stream};
 
 use campaigns::{Head, Phase, Plan};
@@ -106,34 +106,42 @@ pub fn is_head(words: &[u64; 7]) -> bool
     (phase <= PHASE_CLOSED) & ((phase == PHASE_CLOSED) | (held == 0))
 }
 
+#[tactic(auto, unfolding(crate::specs::Encoding::phase_of))]
 fn phase_of(tag: u64, held: u64) -> Phase
     ensures { result ≡ phase_of tag held }
 {
-    if tag == PHASE_FILLING {
-        return Phase::Filling;
+    match tag {
+        PHASE_FILLING => Phase::Filling,
+        PHASE_RUNNING => Phase::Running,
+        _ => Phase::Closed(held),
     }
-    if tag == PHASE_RUNNING {
-        return Phase::Running;
-    }
-    Phase::Closed(held)
 }
 
 // The head that seven words give.
 pub fn head_of(words: &[u64; 7]) -> Head
     ensures { result ≡ head_in words.now }
 {
-    let phase = phase_of(words[HEAD_PHASE], words[HEAD_TAKINGS]);
-    let plan = Plan {
-        depth: words[HEAD_DEPTH],
-        width: words[HEAD_WIDTH],
-    };
     Head {
-        phase: phase,
-        plan: plan,
+        phase: phase_of(words[HEAD_PHASE], words[HEAD_TAKINGS]),
+        plan: Plan {
+            depth: words[HEAD_DEPTH],
+            width: words[HEAD_WIDTH],
+        },
         count: words[HEAD_CAMPAIGNS],
         accepted: words[HEAD_VIEWS],
         paused: words[HEAD_PAUSED],
     }
+}
+
+// The same, or the status of words that are no head.
+pub fn given_head(words: &[u64; 7]) -> Result<Head, u64>
+    ensures { MatchResult result (λ head. (is_head words.now ≡ true) × (head ≡ head_in words.now))
+        (λ status. (is_head words.now ≡ false) × (status ≡ no_head)) }
+{
+    if !is_head(words) {
+        return Err(STATUS_NO_HEAD);
+    }
+    Ok(head_of(words))
 }
 
 fn tag_of(phase: Phase) -> u64
@@ -150,9 +158,8 @@ fn held_by(phase: Phase) -> u64
     ensures { result ≡ held_by phase }
 {
     match phase {
-        Phase::Filling => 0,
-        Phase::Running => 0,
         Phase::Closed(takings) => takings,
+        _ => 0,
     }
 }
 
@@ -160,13 +167,11 @@ fn held_by(phase: Phase) -> u64
 pub fn head_words(head: Head) -> [u64; 7]
     ensures { result ≡ head_words head }
 {
-    let phase = head.phase;
-    let plan = head.plan;
     [
-        tag_of(phase),
-        held_by(phase),
-        plan.depth,
-        plan.width,
+        tag_of(head.phase),
+        held_by(head.phase),
+        head.plan.depth,
+        head.plan.width,
         head.count,
         head.accepted,
         head.paused,
@@ -175,6 +180,7 @@ pub fn head_words(head: Head) -> [u64; 7]
 
 // The five words of an answer: its kind and four values, 0 where it has fewer. A refusal has none, and leaves those
 // that were there: its number is the status.
+#[tactic(auto, unfolding(crate::specs::Encoding::answer_after))]
 pub fn answer_after(answer: Answer, before: [u64; 5]) -> [u64; 5]
     ensures { result ≡ answer_after answer before }
 {
@@ -198,56 +204,57 @@ pub fn answer_after(answer: Answer, before: [u64; 5]) -> [u64; 5]
 }
 
 // Whether the first of six words is the number of a form.
+#[tactic(auto, unfolding(lines::specs::Reading::forms))]
 pub fn is_form(words: &[u64; 6]) -> bool
     ensures { result ≡ is_form words.now }
 {
-    let form = words[0];
-    form <= FORM_RESUME
+    words[0] <= FORM_RESUME
 }
 
 // The record that six words give.
+#[tactic(auto, unfolding(lines::specs::Reading::forms, lines::specs::Reading::made, crate::specs::Encoding::record_of))]
 pub fn record_of(words: &[u64; 6]) -> Record
     requires { is_form words.now ≡ true }
     ensures { result ≡ record_of words.now }
 {
-    let form = words[0];
     let a = words[1];
     let b = words[2];
     let c = words[3];
-    match form {
-        0 => Record::Plan { depth: a, width: b },
-        1 => Record::Campaign {
+    match words[0] {
+        FORM_PLAN => Record::Plan { depth: a, width: b },
+        FORM_CAMPAIGN => Record::Campaign {
             price: a,
             budget: b,
         },
-        2 => Record::Start,
-        3 => Record::View(a),
-        4 => Record::Close,
-        5 => Record::Done,
-        6 => Record::Play {
+        FORM_START => Record::Start,
+        FORM_VIEW => Record::View(a),
+        FORM_CLOSE => Record::Close,
+        FORM_OK => Record::Done,
+        FORM_PLAY => Record::Play {
             campaign: a,
             paid: b,
         },
-        7 => Record::Nobody,
-        8 => Record::Refused(a),
-        9 => Record::Closed {
+        FORM_NOBODY => Record::Nobody,
+        FORM_REFUSED => Record::Refused(a),
+        FORM_CLOSED => Record::Closed {
             takings: a,
             claim: b,
             full: c,
         },
-        10 => Record::Tally {
+        FORM_TALLY => Record::Tally {
             campaign: a,
             plays: b,
             turns: c,
             age: words[4],
             named: words[5],
         },
-        11 => Record::Pause(a),
+        FORM_PAUSE => Record::Pause(a),
         _ => Record::Resume(a),
     }
 }
 
 // The six words of a record: its form's number and its numbers, 0 where it has fewer than five.
+#[tactic(auto, unfolding(lines::specs::Form::numbers, crate::specs::Encoding::record_words))]
 pub fn record_words(r: Record) -> [u64; 6]
     ensures { result ≡ record_words r }
 {

@@ -1,8 +1,11 @@
 -- What a search for one more view of a campaign asks and gives. The campaigns visited are a set.
 use Rattle.std.specs.Prelude.{◌≡◌, ◌⊎◌, Bool, true, false, ◌&&◌, List, ℕ, suc, ◌≤◌, ◌<◌, eqb, length}
+use Rattle.std.specs.Prelude.{Option, Some, None}
 use Rattle.finite.specs.Finite.{least}
 use Rattle.sets.specs.Set.{member, including}
 use Rattle.allotments.specs.Allotment.{at, times, nobody}
+use Rattle.exchange.specs.declared.Sought.{Sought}
+use Rattle.exchange.specs.declared.Sought.TheVariants.{Found, Shut}
 use Rattle.exchange.specs.Chain.{Chain}
 
 -- how many of the entries of the views are d
@@ -16,6 +19,11 @@ free views to c j = eqb (at to j) nobody && member (at views j) c
 -- the first such view, or the number of views
 unfoldable pub first_free : List ℕ → List ℕ → ℕ → ℕ
 first_free views to c = least (length views) (free views to c)
+
+-- it is that view, or there is none
+abbrev pub FreeIs : List ℕ → List ℕ → ℕ → Option ℕ → Type 0
+FreeIs views to c (Some j) = (j ≡ first_free views to c) × (j < length views)
+FreeIs views to c None = length views ≤ first_free views to c
 
 -- the first of n views that is given to nobody, or n
 unfoldable pub first_open : ℕ → List ℕ → ℕ
@@ -69,7 +77,7 @@ pub record Failed (views to to' : List ℕ) (c visited visited' : ℕ) : Type 0 
   pub shut : (d : ℕ) → d < 64 → member visited d ≡ false → member visited' d ≡ true → (j : ℕ) → j < length views
       → Held views to visited' d j
 
-pub record SoughtIs (views to to' : List ℕ) (c visited : ℕ) (found : Bool) (visited' bare : ℕ) : Type 0 where
-  pub gained : found ≡ true → Gained views to to' c visited
-  pub failed : found ≡ false → Failed views to to' c visited visited'
-  pub none_free : Bare views to' bare
+-- a view was found, or none was; either way no free view names a bare campaign
+abbrev pub SoughtIs : (views to to' : List ℕ) (c visited : ℕ) → Sought → Type 0
+SoughtIs views to to' c visited (Found bare) = Gained views to to' c visited × Bare views to' bare
+SoughtIs views to to' c visited (Shut visited' bare) = Failed views to to' c visited visited' × Bare views to' bare

@@ -2,18 +2,18 @@
 #![tactic(auto)]
 
 ghost use Rattle.std.specs.Prelude.{◌≡◌, ◌<◌, ◌≤◌, length};
-ghost use Rattle.exchange.specs.Cited.{NoneFree, first_open, first_free, Bare, Seekable, SoughtIs};
+ghost use Rattle.exchange.specs.Cited.{NoneFree, first_open, FreeIs, Bare, Seekable, SoughtIs};
 
 // The entry of a view that is given to nobody.
-pub const NOBODY: u64 = 64;
+pub use allotments::NOBODY;
 
-// What a search ends with: whether a view was found, the set of campaigns visited, and that of campaigns that are bare:
-// no free view names them. A view that was once given is never free again, so that a bare campaign stays so.
+// What a search ends with: a view was found, or none was, and then the set of campaigns visited. Either way the set of
+// campaigns that are bare: no free view names them. A view that was once given is never free again, so that a bare
+// campaign stays so.
 #[derive(Clone, Copy)]
-pub struct Sought {
-    pub found: bool,
-    pub visited: u64,
-    pub bare: u64,
+pub enum Sought {
+    Found { bare: u64 },
+    Shut { visited: u64, bare: u64 },
 }
 
 // The first view that is given to nobody, or the number of views. Those below `from` are given: a search starts to look
@@ -23,48 +23,39 @@ pub fn first_open(n: usize, allotment: &[u64], from: usize) -> usize
     requires none_free { NoneFree allotment.now from }
     ensures { result ≡ first_open n allotment.now }
 {
-    let mut j = from;
-    while j < n {
+    for j in from..n {
         if allotment[j] == NOBODY {
             return j;
         }
-        j += 1;
     }
-    j
+    n
 }
 
-// The first view that names the campaign and is given to nobody, or their number where there is none. Those below
-// `first` are given. The holder is tested first: that branch is foreseen, the other is not.
-fn free_view(views: &[u64], allotment: &[u64], campaign: u64, first: usize, bare: u64) -> usize
+// The first view that names the campaign and is given to nobody. Those below `first` are given. The holder is tested
+// first: that branch is foreseen, the other is not.
+fn free_view(
+    views: &[u64],
+    allotment: &[u64],
+    campaign: u64,
+    first: usize,
+    bare: u64,
+) -> Option<usize>
     requires views_in_bounds { (length views.now ≤ length allotment.now) × (campaign < 64)
         × (first ≤ length views.now) }
     requires none_free { NoneFree allotment.now first × Bare views.now allotment.now bare }
-    ensures { result ≡ first_free views.now allotment.now campaign }
+    ensures { FreeIs views.now allotment.now campaign result }
 {
     if sets::has(bare, campaign) {
-        return views.len();
+        return None;
     }
-    let mut j = first;
-    while j < views.len() {
+    for j in first..views.len() {
         let holder = allotment[j];
         let v = views[j];
         if (holder == NOBODY) & sets::has(v, campaign) {
-            return j;
+            return Some(j);
         }
-        j += 1;
     }
-    j
-}
-
-// What a search ends with.
-fn ended(found: bool, visited: u64, bare: u64) -> Sought
-    ensures { (result.found ≡ found) × (result.visited ≡ visited) × (result.bare ≡ bare) }
-{
-    Sought {
-        found: found,
-        visited: visited,
-        bare: bare,
-    }
+    None
 }
 
 // One more view for the campaign: a free one, or one whose holder gets another in its place. At each call the campaigns
@@ -79,32 +70,33 @@ pub fn seek(
     bare: u64,
 ) -> Sought
     requires { Seekable views.now allotment.old campaign visited first bare }
-    ensures { SoughtIs views.now allotment.old allotment.new campaign visited
-        result.found result.visited result.bare }
+    ensures { SoughtIs views.now allotment.old allotment.new campaign visited result }
 {
-    let free = free_view(views, allotment, campaign, first, bare);
-    if free < views.len() {
+    if let Some(free) = free_view(views, allotment, campaign, first, bare) {
         allotment[free] = campaign;
-        return ended(true, visited, bare);
+        return Sought::Found { bare };
     }
     let mut seen = sets::including(visited, campaign);
     let mut known = sets::including(bare, campaign);
-    let mut j = 0;
-    while j < views.len() {
-        let v = views[j];
-        if sets::has(v, campaign) {
+    for (j, view) in views.iter().enumerate() {
+        if sets::has(*view, campaign) {
             let holder = allotment[j];
             if !sets::has(seen, holder) {
-                let r = seek(views, allotment, holder, seen, first, known);
-                if r.found {
-                    allotment[j] = campaign;
-                    return ended(true, r.visited, r.bare);
+                match seek(views, allotment, holder, seen, first, known) {
+                    Sought::Found { bare } => {
+                        allotment[j] = campaign;
+                        return Sought::Found { bare };
+                    }
+                    Sought::Shut { visited, bare } => {
+                        seen = visited;
+                        known = bare;
+                    }
                 }
-                seen = r.visited;
-                known = r.bare;
             }
         }
-        j += 1;
     }
-    ended(false, seen, known)
+    Sought::Shut {
+        visited: seen,
+        bare: known,
+    }
 }

@@ -1,6 +1,7 @@
 -- The figures of the days are computed; so is the sound state that owes more than full.
 use mathlib.Core.Path.{refl, subst⁻¹}
 use mathlib.Core.List.{List}
+use Rattle.std.specs.Prelude.{Result}
 use Prim.Native.Nat.{◌≤◌}
 use native.Mathlib.Omega.{arith}
 use Rattle.finite.specs.Finite.{sum, count, every, table}
@@ -13,7 +14,8 @@ use Rattle.day.specs.declared.Day.{Day}
 use Rattle.day.specs.Day.{blank, total_takings, total_claim, total_budgets, sound}
 use Rattle.questions.specs.Questions.{first_failed, width_holds}
 use Rattle.day.specs.Calls.{marked, call}
-use Rattle.noon.specs.declared.Noon.{Noon}
+use Rattle.refusal.specs.declared.Refusal.{Refusal}
+use Rattle.noon.specs.declared.Figures.{Figures}
 use Rattle.noon.specs.Noon.{due, total_due, at_noon}
 use Rattle.demands.specs.Transcript.{final}
 use Rattle.demands.specs.Cases.{calls_made, listing, listing_end}
@@ -22,7 +24,7 @@ use Rattle.floor.specs.History.Starts.{from_blank, from_opening}
 use Rattle.floor.specs.Moments.{moments, FiguresAfter, second_day, width_1, pausing_day, depth_3, Moments}
 use Rattle.floor.specs.Moments.{NeedsHistory}
 
-behind_listing : {xs : List Noon} → FiguresAfter listing_end second_day xs
+behind_listing : {xs : List (Result Figures Refusal)} → FiguresAfter listing_end second_day xs
     → FiguresAfter (final blank (calls_made listing)) second_day xs
 behind_listing {xs} f = subst⁻¹ (λ (s : Day). FiguresAfter s second_day xs) listing_ends f
 

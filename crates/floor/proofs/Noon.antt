@@ -19,7 +19,7 @@ use Rattle.day.specs.Calls.{Call}
 use Rattle.day.specs.Calls.Call.{open_plan}
 use Rattle.day.proofs.State.{Sound, sound_facts, held_at}
 use Rattle.noon.specs.Noon.{due, total_due, floor_figure}
-use Rattle.noon.proofs.Figures.{noon_sound}
+use Rattle.noon.proofs.Dues.{noon_sound}
 use Rattle.demands.specs.Transcript.{transcript, final}
 use Rattle.demands.proofs.Laws.{claim_of, claim_turns}
 use Rattle.floor.specs.History.{Starts, History, history}

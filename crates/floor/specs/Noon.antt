@@ -1,6 +1,6 @@
 -- The floor at noon (document 02, request 1): at every moment of a day, of the figures that an owner reads off the
 -- record, and that these are the day's.
-use Rattle.std.specs.Prelude.{◌≡◌, List, ◌++◌, ◌⊎◌, ℕ, ◌*◌, ◌≤◌, ◌<◌, length}
+use Rattle.std.specs.Prelude.{◌≡◌, List, ◌++◌, ◌⊎◌, ℕ, ◌*◌, ◌≤◌, ◌<◌, length, Ok}
 use Rattle.finite.specs.Finite.{sum}
 use Rattle.powers.specs.Power.{share}
 use Rattle.campaigns.specs.Campaign.{whole}
@@ -45,7 +45,7 @@ pub record NoonFloor (h : History) (s : Day) : Type 0 where
   -- the turns of each campaign reach what is due to it
   pub turns_enough : (i : ℕ) → i < s.count → due s.plan.depth (campaign s i) ≤ (campaign s i).turns
   -- asked for, the three figures are given
-  pub answered : at_noon s ≡ figures_of s
+  pub answered : at_noon s ≡ Ok (figures_of s)
 
 -- Every moment of every list of demand 3: after any of its calls and, where it is given the blank state, before them;
 -- before an opening of any other state there is no day.

@@ -23,13 +23,12 @@ use Rattle.allotments.specs.Most.{greatest, most}
 use Rattle.floor.specs.History.{Starts, History, day_takings, own_views, history, continued}
 use Rattle.floor.specs.History.Starts.{from_blank}
 use Rattle.floor.specs.Short.{short_calls}
-use Rattle.optimum.specs.declared.Optimum.TheVariants.{Takings}
+use Rattle.std.specs.Prelude.{true, Ok}
 use Rattle.optimum.specs.Optimum.{plan_price, plan_whole, failed, fits, checked, allotment_takings, most_of}
 use Rattle.optimum.specs.Optimum.{LeftAsItWas, Searched}
 use Rattle.matching.proofs.Examples.{method_works}
 use Rattle.hindsight.proofs.Hindsight.{floor_against_searched}
 use Rattle.optimum.proofs.Greatest.{accepted_is_best}
-use Rattle.optimum.specs.declared.Verdict.TheVariants.{Accepted}
 use Rattle.hindsight.specs.Hindsight.{given_short, Room}
 use Rattle.hindsight.specs.Examples.{recorded_day, Example, paused_listed, SearchWorked, Examples}
 
@@ -37,7 +36,7 @@ use Rattle.hindsight.specs.Examples.{recorded_day, Example, paused_listed, Searc
 -- accepts takes the most is not computed, but proved (`accepted_is_best`).
 example : {cs : List Call} {xs : List Exchange} {s : Day} (allotment surplus worth : List ℕ) {paid most short : ℕ}
     → transcript blank cs ≡ xs → final blank cs ≡ s → Starts blank cs
-    → checked s (own_views (history xs)) allotment surplus worth ≡ Accepted → day_takings (history xs) ≡ paid
+    → checked s (own_views (history xs)) allotment surplus worth ≡ Ok true → day_takings (history xs) ≡ paid
     → allotment_takings s (length (own_views (history xs))) allotment ≡ most
     → given_short (history xs) (at allotment) ≡ short → Example cs allotment surplus worth paid most short
 example {cs} {xs} {s} allotment surplus worth t f starts accepted paid taken short =
@@ -72,7 +71,7 @@ left_two question before after q b a = record {
 }
 
 short_searched : Searched (final blank short_calls) (own_views (recorded_day short_calls)) (0 ∷ 0 ∷ []) (1 ∷ 0 ∷ [])
-    (0 ∷ 0 ∷ []) (2 ∷ 2 ∷ []) (0 ∷ 0 ∷ []) (0 ∷ 0 ∷ []) (Takings 4)
+    (0 ∷ 0 ∷ []) (2 ∷ 2 ∷ []) (0 ∷ 0 ∷ []) (0 ∷ 0 ∷ []) (Ok 4)
 unfolding transcript final continued call first_failed sound sound_record blank sum count every table total within
     size member width_holds weight share whole claim total_takings total_claim total_budgets sound_plan priced counted
     uncounted empty sound_campaign best choice times takings certified greatest most failed fits
@@ -100,7 +99,7 @@ search_worked = record {
   room = short_room;
   searched = short_searched;
   covered = floor_against_searched blank short_calls (from_blank short_calls) (0 ∷ 0 ∷ []) (1 ∷ 0 ∷ []) (0 ∷ 0 ∷ [])
-      (2 ∷ 2 ∷ []) (0 ∷ 0 ∷ []) (0 ∷ 0 ∷ []) (Takings 4) short_room short_searched;
+      (2 ∷ 2 ∷ []) (0 ∷ 0 ∷ []) (0 ∷ 0 ∷ []) (Ok 4) short_room short_searched;
 }
 
 pub examples : Examples

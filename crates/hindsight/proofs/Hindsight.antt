@@ -34,7 +34,7 @@ use Rattle.floor.proofs.Own.{own_allotted}
 use Rattle.allotments.specs.Limits.{max_handed_in}
 use Rattle.optimum.specs.Optimum as optimum
 use Rattle.optimum.specs.Optimum.{failed, most_of, checked}
-use Rattle.optimum.specs.declared.Verdict.TheVariants as verdict
+use Rattle.std.specs.Prelude.{Ok}
 use Rattle.optimum.proofs.Greatest.{accepted_is_best, search_accepted}
 use Rattle.floor.specs.History.{own_views}
 use Rattle.hindsight.specs.Hindsight.{given_short, TakesMost, AgainstGreatest, GreatestFigure}
@@ -146,7 +146,7 @@ module _ (s : Day) (h : History) (r : Reached s h) where
       }
 
   accepted_taken : (allotment surplus worth : List ℕ)
-      → checked s (own_views h) allotment surplus worth ≡ verdict.Accepted → TakesMost h s (at allotment)
+      → checked s (own_views h) allotment surplus worth ≡ Ok true → TakesMost h s (at allotment)
   unfolding OfState
   accepted_taken allotment surplus worth e =
       let b = accepted_is_best s (own_views h) allotment surplus worth e in

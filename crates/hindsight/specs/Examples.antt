@@ -1,7 +1,7 @@
 -- Three days that meet the hypotheses, computed: document 01's listing, which took all that it could; the day on which
 -- the floor fails unless what goes to campaigns that fall short is taken off; and a day with a pause, where only what
 -- the views found counts. Of the second one also a result of the search.
-use Rattle.std.specs.Prelude.{◌≡◌, List, [], ◌∷◌, ℕ}
+use Rattle.std.specs.Prelude.{◌≡◌, true, false, List, [], ◌∷◌, ℕ, Ok}
 use Rattle.day.specs.Day.{blank}
 use Rattle.day.specs.Calls.{Call}
 use Rattle.day.specs.Calls.Call.{start_day, close_day}
@@ -11,8 +11,6 @@ use Rattle.allotments.specs.Allotment.{at, nobody}
 use Rattle.floor.specs.History.{Starts, History, day_takings, history}
 use Rattle.floor.specs.Floor.{Covered}
 use Rattle.floor.specs.Short.{short_calls}
-use Rattle.optimum.specs.declared.Optimum.TheVariants.{Takings}
-use Rattle.optimum.specs.declared.Verdict.TheVariants.{Accepted, Rejected}
 use Rattle.optimum.specs.Optimum.{most_of, Searched, checked}
 use Rattle.floor.specs.History.{own_views}
 use Rattle.hindsight.specs.Hindsight.{given_short, Room, SearchCovered}
@@ -24,7 +22,7 @@ recorded_day cs = history (transcript blank cs)
 -- the greatest figure, and what the allotment gives to campaigns that fall short
 pub record Example (cs : List Call) (allotment surplus worth : List ℕ) (paid most short : ℕ) : Type 0 where
   pub starts : Starts blank cs
-  pub accepted : checked (final blank cs) (own_views (recorded_day cs)) allotment surplus worth ≡ Accepted
+  pub accepted : checked (final blank cs) (own_views (recorded_day cs)) allotment surplus worth ≡ Ok true
   pub paid_is : day_takings (recorded_day cs) ≡ paid
   pub most_is : most_of (final blank cs) (own_views (recorded_day cs)) ≡ most
   pub short_is : given_short (recorded_day cs) (at allotment) ≡ short
@@ -39,18 +37,18 @@ paused_listed =
 pub record Paused (found handed_in allotment surplus worth : List ℕ) : Type 0 where
   pub found_is : own_views (recorded_day paused_listed) ≡ found
   pub more : most_of (final blank paused_listed) handed_in ≡ 11
-  pub accepted : checked (final blank paused_listed) handed_in allotment surplus worth ≡ Accepted
+  pub accepted : checked (final blank paused_listed) handed_in allotment surplus worth ≡ Ok true
   pub rejected : checked (final blank paused_listed) (own_views (recorded_day paused_listed)) allotment surplus worth
-      ≡ Rejected
+      ≡ Ok false
 
 -- the search of the day of `short_calls`: campaign 0 is served first, by view 0; campaign 1 gets view 0 by a chain of
 -- exchanges, after 0 was given view 1 (`matching/specs/Examples`)
 pub record SearchWorked (allotment surplus worth allotment' surplus' worth' : List ℕ) : Type 0 where
   pub room : Room (recorded_day short_calls) (final blank short_calls) allotment surplus worth
   pub searched : Searched (final blank short_calls) (own_views (recorded_day short_calls)) allotment allotment' surplus
-      surplus' worth worth' (Takings 4)
+      surplus' worth worth' (Ok 4)
   pub covered : SearchCovered (recorded_day short_calls) (final blank short_calls) allotment allotment' surplus
-      surplus' worth worth' (Takings 4)
+      surplus' worth worth' (Ok 4)
 
 pub record Examples : Type 0 where
   pub of_listing : Example (calls_made listing) (0 ∷ 0 ∷ 1 ∷ nobody ∷ 1 ∷ []) (5 ∷ 3 ∷ []) (0 ∷ 0 ∷ 0 ∷ 0 ∷ 0 ∷ [])

@@ -1,6 +1,6 @@
 -- Demand 3 against what the day could have earned: the day's own accepted views, as the history has them, handed to the
 -- search or the check.
-use Rattle.std.specs.Prelude.{◌≡◌, cond, List, ℕ, ◌+◌, ◌-◌, ◌*◌, ◌≤◌, length}
+use Rattle.std.specs.Prelude.{◌≡◌, true, cond, List, ℕ, ◌+◌, ◌-◌, ◌*◌, ◌≤◌, length, Result, Ok}
 use Rattle.powers.specs.Power.{share}
 use Rattle.campaigns.specs.View.{full}
 use Rattle.day.specs.declared.Day.{Day}
@@ -9,9 +9,7 @@ use Rattle.demands.specs.Transcript.{transcript, final}
 use Rattle.allotments.specs.Allotment.{at}
 use Rattle.floor.specs.History.{Starts, History, day_takings, history, own_views}
 use Rattle.floor.specs.Floor.{price_of, falls_short, unstruck, Allotted, takings_of, Covered}
-use Rattle.optimum.specs.declared.Optimum.{Optimum}
-use Rattle.optimum.specs.declared.Optimum.TheVariants.{Takings}
-use Rattle.optimum.specs.declared.Verdict.TheVariants.{Accepted}
+use Rattle.refusal.specs.declared.Refusal.{Refusal}
 use Rattle.allotments.specs.Limits.{max_handed_in}
 use Rattle.optimum.specs.Optimum.{failed, most_of, Searched, checked}
 
@@ -56,7 +54,7 @@ TakingsAtMost = (s : Day) (cs : List Call) → Starts s cs
 -- whatever the check accepts for the day's own views is such an allotment
 abbrev pub FloorAgainstAccepted : Type 0
 FloorAgainstAccepted = (s : Day) (cs : List Call) → Starts s cs → (allotment surplus worth : List ℕ)
-    → checked (final s cs) (own_views (history (transcript s cs))) allotment surplus worth ≡ Accepted
+    → checked (final s cs) (own_views (history (transcript s cs))) allotment surplus worth ≡ Ok true
     → TakesMost (history (transcript s cs)) (final s cs) (at allotment)
     × AgainstGreatest (history (transcript s cs)) (final s cs) (at allotment)
 
@@ -75,17 +73,17 @@ pub record Room (h : History) (s : Day) (allotment surplus worth : List ℕ) : T
 
 -- with it none of the questions fails
 pub record SearchCovered (h : History) (s : Day) (allotment allotment' surplus surplus' worth worth' : List ℕ)
-    (r : Optimum) : Type 0 where
+    (r : Result ℕ Refusal) : Type 0 where
   pub none_fails : failed s (own_views h) allotment surplus worth ≡ 0
-  pub answer : r ≡ Takings (most_of s (own_views h))
-  pub accepted : checked s (own_views h) allotment' surplus' worth' ≡ Accepted
+  pub answer : r ≡ Ok (most_of s (own_views h))
+  pub accepted : checked s (own_views h) allotment' surplus' worth' ≡ Ok true
   pub taken : TakesMost h s (at allotment')
   pub against : AgainstGreatest h s (at allotment')
 
 -- so that the search of the day's own views answers the greatest takings, and the floor holds against what it leaves
 abbrev pub FloorAgainstSearched : Type 0
 FloorAgainstSearched = (s : Day) (cs : List Call) → Starts s cs
-    → (allotment allotment' surplus surplus' worth worth' : List ℕ) (r : Optimum)
+    → (allotment allotment' surplus surplus' worth worth' : List ℕ) (r : Result ℕ Refusal)
     → Room (history (transcript s cs)) (final s cs) allotment surplus worth
     → Searched (final s cs) (own_views (history (transcript s cs))) allotment allotment' surplus surplus' worth worth' r
     → SearchCovered (history (transcript s cs)) (final s cs) allotment allotment' surplus surplus' worth worth' r

@@ -9,6 +9,7 @@ use native.Mathlib.Omega.{arith}
 use lib.Dec.{leb}
 use borrow.Author.Tests.{leb-true, le-leb}
 use Rattle.finite.proofs.Tests.{never, both_left, both_right}
+use Rattle.std.specs.Prelude.{Ok}
 use Rattle.lines.specs.Limits.{max_input}
 use Rattle.lines.specs.Form.{template, numbers, is_output, in_slot, piece, slot_text, numbers_after, filled}
 use Rattle.lines.specs.Form.{in_slots, text, in_range}
@@ -19,7 +20,6 @@ use Rattle.lines.specs.Before.{has_form, longer_budget, LongerBudget}
 use Rattle.lines.specs.declared.Record.{Record}
 use Rattle.lines.specs.declared.Record.TheVariants.{Plan, Campaign, Start, View, Close, Done, Play, Nobody}
 use Rattle.lines.specs.declared.Record.TheVariants.{Refused, Closed, Tally, Pause, Resume}
-use Rattle.lines.specs.declared.Reading.TheVariants.{Got}
 use Rattle.lines.proofs.Digits.{apart}
 use Rattle.lines.proofs.Inverse.{text_reads, read_text}
 
@@ -60,13 +60,13 @@ had : (r : Record) → in_old_range r ≡ true → has_form r ≡ true
 unfolding in_old_range
 had r = both_left (has_form r) (in_old_slots (old_template r) (numbers r))
 
-same_record : (l : List ℕ) (r : Record) → Was l r → reading l ≡ Got r
+same_record : (l : List ℕ) (r : Record) → Was l r → reading l ≡ Ok r
 same_record l r w = ap reading (w.1 ∙ sym ((kept r).0 (had r w.0))) ∙ text_reads r ((kept r).2 w.0)
 
-only_longer : (l : List ℕ) (r : Record) → reading l ≡ Got r → in_old_range r ≡ true → Was l r
+only_longer : (l : List ℕ) (r : Record) → reading l ≡ Ok r → in_old_range r ≡ true → Was l r
 only_longer l r e i = (i, (read_text l r e).1 ∙ (kept r).0 (had r i))
 
-same_outputs : (l : List ℕ) (r : Record) → is_output r ≡ true → reading l ≡ Got r → Was l r
+same_outputs : (l : List ℕ) (r : Record) → is_output r ≡ true → reading l ≡ Ok r → Was l r
 same_outputs l r o e = only_longer l r e (sym ((kept r).1 o) ∙ (read_text l r e).0)
 
 pub as_before : AsBefore
@@ -80,7 +80,7 @@ as_before = record {
 
 -- The line.
 
-read_now : reading longer_budget ≡ Got (Campaign 5 4294967296)
+read_now : reading longer_budget ≡ Ok (Campaign 5 4294967296)
 unfolding template in_slot reading first_of forms held_or ended_or made numbers_of rest_of step strip slot_at
     numeral_at digits is_digit
 read_now = refl
@@ -92,7 +92,7 @@ out_of_range = refl
 pub longer_budget_read : LongerBudget
 longer_budget_read = record {
   refused_before = λ r w.
-      let e : Got r ≡ Got (Campaign 5 4294967296) = sym (same_record longer_budget r w) ∙ read_now in
+      let e : Ok r ≡ Ok (Campaign 5 4294967296) = sym (same_record longer_budget r w) ∙ read_now in
       let same : r ≡ Campaign 5 4294967296 = cc in
       never false refl (sym out_of_range ∙ sym (ap in_old_range same) ∙ w.0);
   read_now = read_now;

@@ -8,13 +8,14 @@ use native.Mathlib.Omega.{arith}
 use native.Mathlib.Nat.{le_trans}
 use lib.Dec.{eqb, lit<, lit≤}
 use lib.ListN.{length, get_or}
+use Rattle.std.specs.Prelude.{Ok, Err}
+use Rattle.refusal.specs.Refusal.{refusal}
 use Rattle.lines.specs.declared.Record.{Record}
 use Rattle.lines.specs.declared.Record.TheVariants.{Plan, Campaign, Start, View, Close, Done, Play, Nobody}
 use Rattle.lines.specs.declared.Record.TheVariants.{Refused, Closed, Tally, Pause, Resume}
-use Rattle.lines.specs.declared.Reading.TheVariants.{Got, Refusal}
 use Rattle.lines.specs.Limits.{max_line, max_answer}
 use Rattle.lines.specs.Form.{is_output, template, numbers, piece, numbers_after, filled, in_slots, text, in_range}
-use Rattle.lines.specs.OneText.{Is}
+use Rattle.lines.specs.OneText.{number, Is}
 use Rattle.lines.specs.Reading.{Rest, none, some, is_digit, rest_of, numbers_of, made, is_end, ended_or, held_or}
 use Rattle.lines.specs.Reading.{forms, first_of}
 use Rattle.lines.proofs.Digits.{clash, apart}
@@ -172,26 +173,26 @@ data In (p : Record) : List Record → Type 0 where
   there : {f : Record} {fs : List Record} → In p fs → In p (f ∷ fs)
 
 module _ (l : List ℕ) where
-  none_fills : {fs : List Record} → AllForms fs → fills (chosen l) l ≡ false → first_of fs l ≡ Refusal 17
+  none_fills : {fs : List Record} → AllForms fs → fills (chosen l) l ≡ false → first_of fs l ≡ Err (refusal 17)
   unfolding first_of held_or ended_or
   none_fills done h = refl
   none_fills (form {f} {fs} p a) h = go (fills f l) refl (none_fills a h)
     where
-      go : (t : Bool) → fills f l ≡ t → first_of fs l ≡ Refusal 17
-          → cond t (Got (read f l)) (first_of fs l) ≡ Refusal 17
+      go : (t : Bool) → fills f l ≡ t → first_of fs l ≡ Err (refusal 17)
+          → cond t (Ok (read f l)) (first_of fs l) ≡ Err (refusal 17)
       go true e ih = apart (sym h ∙ ap (λ (x : Record). fills x l) (sym (fills_chosen f l p e)) ∙ e)
       go false e ih = ih
 
   one_fills : {fs : List Record} → AllForms fs → In (chosen l) fs → fills (chosen l) l ≡ true
-      → first_of fs l ≡ Got (read (chosen l) l)
+      → first_of fs l ≡ Ok (read (chosen l) l)
   unfolding first_of held_or ended_or
   one_fills done i h = elim i [ ]
   one_fills (form {f} {fs} p a) i h = go (fills f l) refl i (λ j. one_fills a j h)
     where
       go : (t : Bool) → fills f l ≡ t → In (chosen l) (f ∷ fs)
-          → (In (chosen l) fs → first_of fs l ≡ Got (read (chosen l) l))
-          → cond t (Got (read f l)) (first_of fs l) ≡ Got (read (chosen l) l)
-      go true e i ih = ap (λ (x : Record). Got (read x l)) (fills_chosen f l p e)
+          → (In (chosen l) fs → first_of fs l ≡ Ok (read (chosen l) l))
+          → cond t (Ok (read f l)) (first_of fs l) ≡ Ok (read (chosen l) l)
+      go true e i ih = ap (λ (x : Record). Ok (read x l)) (fills_chosen f l p e)
       go false e (here q) ih = apart (sym e ∙ ap (λ (x : Record). fills x l) (sym q) ∙ h)
       go false e (there j) ih = ih j
 
@@ -227,43 +228,45 @@ form_of (form f a) (here q) = subst Form (sym q) f
 form_of (form f a) (there j) = form_of a j
 
 -- reading is holding the line to the chosen form
-pub first_chosen : (l : List ℕ) → first_of forms l ≡ held_or (Refusal 17) (chosen l) l
+pub first_chosen : (l : List ℕ) → first_of forms l ≡ held_or (Err (refusal 17)) (chosen l) l
 unfolding held_or ended_or
 first_chosen l = go (fills (chosen l) l) refl
   where
     go : (t : Bool) → fills (chosen l) l ≡ t
-        → first_of forms l ≡ cond (fills (chosen l) l) (Got (read (chosen l) l)) (Refusal 17)
+        → first_of forms l ≡ cond (fills (chosen l) l) (Ok (read (chosen l) l)) (Err (refusal 17))
     go true e = one_fills l all_forms (chosen_in l) e ∙ rw e
     go false e = none_fills l all_forms e ∙ rw e
 
 -- what the chosen form reads
-pub held_is : (l : List ℕ) (r : Record) → first_of forms l ≡ Got r → Is l r
+pub held_is : (l : List ℕ) (r : Record) → first_of forms l ≡ Ok r → Is l r
 unfolding held_or ended_or
 held_is l r h = go (fills (chosen l) l) refl (sym (first_chosen l) ∙ h)
   where
-    go : (t : Bool) → fills (chosen l) l ≡ t → cond (fills (chosen l) l) (Got (read (chosen l) l)) (Refusal 17) ≡ Got r
+    go : (t : Bool) → fills (chosen l) l ≡ t
+        → cond (fills (chosen l) l) (Ok (read (chosen l) l)) (Err (refusal 17)) ≡ Ok r
         → Is l r
     go true e q =
-        let z : Got (read (chosen l) l) ≡ Got r =
-        ap (λ (t : Bool). cond t (Got (read (chosen l) l)) (Refusal 17)) (sym e) ∙ q in
+        let z : Ok (read (chosen l) l) ≡ Ok r =
+        ap (λ (t : Bool). cond t (Ok (read (chosen l) l)) (Err (refusal 17))) (sym e) ∙ q in
         let y : read (chosen l) l ≡ r = cc in
         subst (Is l) y (read_is (chosen l) l (form_of all_forms (chosen_in l)) e)
     go false e q =
-        let z : Refusal 17 ≡ Got r = ap (λ (t : Bool). cond t (Got (read (chosen l) l)) (Refusal 17)) (sym e) ∙ q in
+        let z : Err (refusal 17) ≡ Ok r =
+        ap (λ (t : Bool). cond t (Ok (read (chosen l) l)) (Err (refusal 17))) (sym e) ∙ q in
         clash (cc)
 
-pub held_text : (r : Record) → in_range r ≡ true → first_of forms (text r) ≡ Got r
+pub held_text : (r : Record) → in_range r ≡ true → first_of forms (text r) ≡ Ok r
 unfolding held_or ended_or
 held_text r h =
     let t = text_read r h in
-    first_chosen (text r) ∙ ap (λ (f : Record). held_or (Refusal 17) f (text r)) (known r).4
-    ∙ ap (λ (x : Bool). cond x (Got (read (made r []) (text r))) (Refusal 17)) t.0 ∙ ap Got t.1
+    first_chosen (text r) ∙ ap (λ (f : Record). held_or (Err (refusal 17)) f (text r)) (known r).4
+    ∙ ap (λ (x : Bool). cond x (Ok (read (made r []) (text r))) (Err (refusal 17))) t.0 ∙ ap Ok t.1
 
 -- a line that no form reads is refused with 17
-pub held_number : (l : List ℕ) (n : ℕ) → first_of forms l ≡ Refusal n → n ≡ 17
+pub held_number : (l : List ℕ) (n : ℕ) → first_of forms l ≡ Err (refusal n) → n ≡ 17
 unfolding held_or ended_or
 held_number l n h = go (fills (chosen l) l) (sym (first_chosen l) ∙ h)
   where
-    go : (t : Bool) → cond t (Got (read (chosen l) l)) (Refusal 17) ≡ Refusal n → n ≡ 17
+    go : (t : Bool) → cond t (Ok (read (chosen l) l)) (Err (refusal 17)) ≡ Err (refusal n) → n ≡ 17
     go true q = clash (cc)
-    go false q = let y : 17 ≡ n = cc in sym y
+    go false q = sym (ap number q)

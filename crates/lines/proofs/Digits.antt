@@ -1,16 +1,19 @@
 -- Laws of digits and of the slots' ranges, and two ways out of what cannot be.
 -- Each law on a test splits on that test; the ranges go by the slots' letters, one row for each.
 use mathlib.Core.Path.{◌≡◌, refl, sym, ap, ◌∙◌}
-use mathlib.Core.Bool.{Bool, true, false, cond, not, ◌&&◌, ◌||◌}
+use mathlib.Core.Bool.{Bool, true, false, cond, not, ◌||◌}
 use mathlib.Core.List.{List, [], ◌∷◌}
-use Prim.Native.Nat.{ℕ, ◌+◌, ◌*◌, ◌-◌, ◌/◌, ◌%◌, ◌^◌, ◌≤◌, ◌<◌}
+use Prim.Native.Nat.{ℕ, ◌+◌, ◌*◌, ◌-◌, ◌^◌, ◌≤◌, ◌<◌}
 use native.Mathlib.Omega.{arith}
-use lib.Dec.{leb, eqb}
-use borrow.Author.Tests.{leb-true, leb-false, le-leb, lt-leb, eqb-true, eqb-false, ne_eqb}
+use lib.Dec.{leb, eqb, ltb}
+use lib.ListN.{length, get_or, take, drop}
+use borrow.Author.Tests.{lt-ltb, le-ltb, ltb-false, eq-eqb, leb-true, le-leb, ne_eqb}
+use Rattle.std.proofs.lemmas.List.{take_rest}
 use Rattle.finite.proofs.Tests.{both_left, both_right}
 use Rattle.lines.specs.Limits.{max_input, max_output, max_campaign, max_question, max_money, max_u64}
 use Rattle.lines.specs.Form.{input_slot, output_slot, campaign_slot, refusal_slot, money_slot, slot_max, in_slot}
-use Rattle.lines.specs.Reading.{Seen, seen, unseen, value, is_digit, digits, ranged}
+use Rattle.lines.specs.Reading.{Seen, seen, unseen, value, is_digit, digits, numeral_at, ranged}
+use Rattle.lines.specs.Cited.{fitting}
 
 pub clash : {A : Type 0} → ◌≡◌ {A = ℕ} 0 1 → A
 clash h = absurd (omega arith)
@@ -22,26 +25,9 @@ pub digit_yes : (b : ℕ) → 48 ≤ b → b ≤ 57 → is_digit b ≡ true
 unfolding is_digit
 digit_yes b h l = simp (le-leb 48 b h, le-leb b 57 l)
 
-pub digit_below : (b : ℕ) → b < 48 → is_digit b ≡ false
-unfolding is_digit
-digit_below b h = simp (lt-leb 48 b h)
-
-pub digit_above : (b : ℕ) → 57 < b → is_digit b ≡ false
-unfolding is_digit
-digit_above b h = simp (le-leb 48 b (omega arith), lt-leb b 57 h)
-
 pub digit_from : (b : ℕ) → is_digit b ≡ true → (48 ≤ b) × (b ≤ 57)
 unfolding is_digit
 digit_from b e = (leb-true 48 b (both_left (leb 48 b) (leb b 57) e), leb-true b 57 (both_right (leb 48 b) (leb b 57) e))
-
--- whether a further digit stays within m, where all but the last are at the limit or past it
-pub last_digit : (n d m : ℕ) → m / 10 ≤ n → (eqb n (m / 10) && leb d (m % 10)) ≡ leb (n * 10 + d) m
-last_digit n d m h = go (eqb n (m / 10)) (leb d (m % 10)) refl refl
-  where
-    go : (x y : Bool) → eqb n (m / 10) ≡ x → leb d (m % 10) ≡ y → (x && y) ≡ leb (n * 10 + d) m
-    go true true p q = sym (le-leb (n * 10 + d) m (omega (arith, eqb-true n (m / 10) p, leb-true d (m % 10) q)))
-    go true false p q = sym (lt-leb (n * 10 + d) m (omega (arith, eqb-true n (m / 10) p, leb-false d (m % 10) q)))
-    go false y p q = sym (lt-leb (n * 10 + d) m (omega (arith, eqb-false n (m / 10) p)))
 
 -- more digits make no smaller number
 pub digits_least : (l : List ℕ) (a : ℕ) → a ≤ value (digits a l)
@@ -53,6 +39,59 @@ digits_least (b ∷ l) a = go (is_digit b) (digits_least l (a * 10 + (b - 48)))
         → a ≤ value (cond t (digits (a * 10 + (b - 48)) l) (seen a (b ∷ l)))
     go true ih = omega arith
     go false ih = omega arith
+
+-- one digit more, and no digit
+
+pub digits_next : (n : ℕ) (r : List ℕ) → 0 < length r → 48 ≤ get_or r 0 0 → get_or r 0 0 ≤ 57
+    → digits n r ≡ digits (n * 10 + (get_or r 0 0 - 48)) (take (length r - 1) (drop 1 r))
+unfolding digits
+digits_next n [] h a b = absurd (omega arith)
+digits_next n (b ∷ l) h a c = rw (take_rest (b ∷ l) 1) (simp (digit_yes b a c))
+
+pub digits_stop : (n : ℕ) (r : List ℕ) → (0 < length r → 48 ≤ get_or r 0 0 → get_or r 0 0 ≤ 57 → ⊥)
+    → digits n r ≡ seen n r
+unfolding digits
+digits_stop n [] h = refl
+digits_stop n (b ∷ l) h = go (is_digit b) refl
+  where
+    go : (t : Bool) → is_digit b ≡ t → cond t (digits (n * 10 + (b - 48)) l) (seen n (b ∷ l)) ≡ seen n (b ∷ l)
+    go true e = let d = digit_from b e in absurd (h (omega arith) d.0 d.1)
+    go false e = refl
+
+-- a number that does not fit stays one, whatever follows
+pub digits_over : (n : ℕ) (r : List ℕ) (s : Seen) → digits n r ≡ s → 2 ^ 64 ≤ n → fitting s ≡ unseen
+digits_over n r s e h = go s (omega (arith, digits_least r n, ap value e))
+  where
+    go : (s : Seen) → 2 ^ 64 ≤ value s → fitting s ≡ unseen
+    go unseen k = refl
+    go (seen m l) k = simp (le-ltb m (2 ^ 64) k)
+
+pub digits_fit : (n : ℕ) (l : List ℕ) (s : Seen) → s ≡ seen n l → n < 2 ^ 64 → fitting s ≡ seen n l
+digits_fit n l s e h = ap fitting e ∙ simp (lt-ltb n (2 ^ 64) h)
+
+-- a numeral by its first byte
+
+pub numeral_zero : (r : List ℕ) → 0 < length r → get_or r 0 0 ≡ 48
+    → numeral_at r ≡ seen 0 (take (length r - 1) (drop 1 r))
+unfolding numeral_at
+numeral_zero [] h e = absurd (omega arith)
+numeral_zero (b ∷ l) h e = rw (take_rest (b ∷ l) 1) (simp (eq-eqb b 48 e))
+
+pub numeral_lead : (r : List ℕ) → 0 < length r → 49 ≤ get_or r 0 0 → get_or r 0 0 ≤ 57 → numeral_at r ≡ digits 0 r
+unfolding numeral_at digits
+numeral_lead [] h a d = absurd (omega arith)
+numeral_lead (b ∷ l) h a d =
+    let z : b - 48 ≡ 0 * 10 + (b - 48) = omega arith in
+    simp (ne_eqb b 48 (λ p. omega arith), digit_yes b (omega arith) d) (ap (λ (n : ℕ). digits n l) z)
+
+pub numeral_none : (r : List ℕ) → (0 < length r → 48 ≤ get_or r 0 0 → get_or r 0 0 ≤ 57 → ⊥) → numeral_at r ≡ unseen
+unfolding numeral_at
+numeral_none [] h = refl
+numeral_none (b ∷ l) h = go (is_digit b) refl
+  where
+    go : (t : Bool) → is_digit b ≡ t → cond (eqb b 48) (seen 0 l) (cond t (digits (b - 48) l) unseen) ≡ unseen
+    go true e = let d = digit_from b e in absurd (h (omega arith) d.0 d.1)
+    go false e = simp (ne_eqb b 48 (λ p. h (omega arith) (omega arith) (omega arith)))
 
 -- every slot has room for a digit, and stays within 64 bits
 pub max_range : (slot : ℕ) → (9 ≤ slot_max slot) × (slot_max slot < 2 ^ 64)
@@ -79,20 +118,6 @@ slot_most slot n h =
 pub slot_small : (slot n : ℕ) → in_slot slot n ≡ true → n < 2 ^ 64
 slot_small slot n h = omega (arith, slot_most slot n h, max_range slot)
 
-pub slot_yes : (slot n : ℕ) → 1 ≤ n → n ≤ slot_max slot → in_slot slot n ≡ true
-unfolding in_slot
-slot_yes slot n h m = go (not (eqb slot refusal_slot))
-  where
-    go : (t : Bool) → ((t || leb 1 n) && leb n (slot_max slot)) ≡ true
-    go true = le-leb n (slot_max slot) m
-    go false = simp (le-leb 1 n h) (le-leb n (slot_max slot) m)
-
-pub slot_zero : (slot : ℕ) → (slot ≡ refusal_slot → ⊥) → in_slot slot 0 ≡ true
-unfolding in_slot
-slot_zero slot h =
-    ap (λ (t : Bool). (not t || leb 1 0) && leb 0 (slot_max slot)) (ne_eqb slot refusal_slot h)
-    ∙ le-leb 0 (slot_max slot) (omega arith)
-
 pub ranged_yes : (slot n : ℕ) (l : List ℕ) → in_slot slot n ≡ true → ranged slot (seen n l) ≡ seen n l
 ranged_yes slot n l e = simp e
 
@@ -117,3 +142,12 @@ ranged_sound slot n m (seen k l) e = go (in_slot slot k) refl e
         → (seen k l ≡ seen n m) × (in_slot slot n ≡ true)
     go true f q = let z : k ≡ n = cc in (q, ap (in_slot slot) (sym z) ∙ f)
     go false f q = clash (cc)
+
+-- what does not fit 64 bits is in no range
+pub fitting_not : (slot : ℕ) (s : Seen) → unseen ≡ fitting s → ranged slot s ≡ unseen
+fitting_not slot unseen e = refl
+fitting_not slot (seen m k) e = go (ltb m (2 ^ 64)) refl e
+  where
+    go : (t : Bool) → ltb m (2 ^ 64) ≡ t → unseen ≡ cond t (seen m k) unseen → ranged slot (seen m k) ≡ unseen
+    go true f e = clash (cc)
+    go false f e = ranged_above slot (seen m k) (omega (arith, ltb-false m (2 ^ 64) f, max_range slot))

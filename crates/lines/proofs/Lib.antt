@@ -1,9 +1,9 @@
+pub mod Words
 pub mod Digits
-pub mod Places
-pub mod NamePlaces
-pub mod Fields
+pub mod Letters
 pub mod Numerals
 pub mod Decimal
+pub mod NameTurns
 pub mod NameSets
 pub mod Templates
 pub mod Plain

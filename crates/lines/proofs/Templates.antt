@@ -16,7 +16,7 @@ use Rattle.lines.specs.Form.{in_slots}
 use Rattle.lines.specs.Reading.{Rest, none, some, Seen, seen, unseen, numeral_at, ranged, set_at, slot_at}
 use Rattle.lines.specs.Reading.{strip, step, rest_of, slot_then, numbers_of}
 use Rattle.lines.proofs.Digits.{clash, slot_small, ranged_yes, ranged_sound}
-use Rattle.lines.proofs.Places.{strip_hit}
+use Rattle.lines.proofs.Words.{strip_hit}
 use Rattle.lines.proofs.Numerals.{stops, numeral_most, numeral_sound, numeral_back}
 use Rattle.lines.proofs.NameSets.{ends, set_sound, set_back, names_most}
 

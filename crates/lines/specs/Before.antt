@@ -1,6 +1,6 @@
 -- Document 01's own lines, as they were before request 5 of document 02 made the numerals of input lines longer; and
 -- what of them stays.
-use Rattle.std.specs.Prelude.{◌≡◌, Bool, true, false, cond, not, ◌&&◌, ◌||◌, List, [], ◌∷◌, ℕ, leb, eqb, get_or}
+use Rattle.std.specs.Prelude.{◌≡◌, Bool, true, false, cond, not, ◌&&◌, ◌||◌, List, [], ◌∷◌, ℕ, leb, eqb, get_or, Ok}
 use Rattle.lines.specs.Limits.{max_question}
 use Rattle.lines.specs.Form.{output_slot, campaign_slot, refusal_slot, is_slot, bytes, numbers, is_output}
 use Rattle.lines.specs.Form.{numbers_after, filled, text, in_range}
@@ -8,7 +8,6 @@ use Rattle.lines.specs.Reading.{reading}
 use Rattle.lines.specs.declared.Record.{Record}
 use Rattle.lines.specs.declared.Record.TheVariants.{Plan, Campaign, Start, View, Close, Done, Play, Nobody}
 use Rattle.lines.specs.declared.Record.TheVariants.{Refused, Closed, Tally, Pause, Resume}
-use Rattle.lines.specs.declared.Reading.TheVariants.{Got}
 
 -- its forms: N is any numeral that has no range of its own
 unfoldable pub old_template : Record → List ℕ
@@ -69,14 +68,14 @@ Was l r = (in_old_range r ≡ true) × (l ≡ old_text r)
 
 pub record AsBefore : Type 0 where
   -- every line that document 01 reads gives the same record
-  pub same_record : (l : List ℕ) (r : Record) → Was l r → reading l ≡ Got r
+  pub same_record : (l : List ℕ) (r : Record) → Was l r → reading l ≡ Ok r
   -- an output line is read where document 01 reads it, and nowhere else
-  pub same_outputs : (l : List ℕ) (r : Record) → is_output r ≡ true → reading l ≡ Got r → Was l r
+  pub same_outputs : (l : List ℕ) (r : Record) → is_output r ≡ true → reading l ≡ Ok r → Was l r
   -- and the writer, which asks for the range and writes the text, finds both as they were
   pub same_text : (r : Record) → has_form r ≡ true → text r ≡ old_text r
   pub same_range : (r : Record) → is_output r ≡ true → in_range r ≡ in_old_range r
   -- a line that is read now and was not before has a new form, or a number that is out of document 01's range
-  pub only_longer : (l : List ℕ) (r : Record) → reading l ≡ Got r → in_old_range r ≡ true → Was l r
+  pub only_longer : (l : List ℕ) (r : Record) → reading l ≡ Ok r → in_old_range r ≡ true → Was l r
 
 -- a line with such a number: document 01 reads it as no record ("A budget of 4294967296 in a line gives 17"), and now
 -- it is read
@@ -85,4 +84,4 @@ longer_budget = bytes "(campaign (price 5) (budget 4294967296))"
 
 pub record LongerBudget : Type 0 where
   pub refused_before : (r : Record) → Was longer_budget r → ⊥
-  pub read_now : reading longer_budget ≡ Got (Campaign 5 4294967296)
+  pub read_now : reading longer_budget ≡ Ok (Campaign 5 4294967296)

@@ -1,23 +1,25 @@
--- How the contracts of the reader's inner functions speak of a line: by places in it. A place behind the line's end
--- stands for none. Nothing that a caller of the crate relies on is defined here.
-use Rattle.std.specs.Prelude.{ℕ, ◌≡◌, cond, List, [], ◌∷◌, leb, length, drop}
-use Rattle.lines.specs.Reading.{Rest, none, some, Seen, value, behind, strip}
-use Rattle.lines.specs.declared.scan.Slot.{Slot}
+-- How the contracts of the reader's inner functions speak of what they found. Nothing that a caller of the crate relies
+-- on is defined here.
+use Rattle.std.specs.Prelude.{ℕ, ◌^◌, cond, List, [], ◌∷◌, ltb, Option, Some, None}
+use Rattle.std.specs.Borrow.{Bor}
+use Rattle.lines.specs.Reading.{Rest, none, some, Seen, seen, unseen, strip}
 
--- what is left of l from the place at on
-unfoldable pub place : List ℕ → ℕ → Rest
-place l at = cond (leb at (length l)) (some (drop at l)) none
+-- the number that was found at the front of a line, and what is left behind it
+abbrev pub found : Option (ℕ × Bor (List ℕ)) → Seen
+found None = unseen
+found (Some p) = seen p.0 p.1.now
+
+-- what was seen, where its number fits 64 bits
+abbrev pub fitting : Seen → Seen
+fitting unseen = unseen
+fitting (seen n l) = cond (ltb n (2 ^ 64)) (seen n l) unseen
+
+-- what is left of a line, where it is
+abbrev pub match_rest : Option (Bor (List ℕ)) → Rest
+match_rest None = none
+match_rest (Some x) = some x.now
 
 -- the line without the bytes w at its front
 unfoldable pub stripped : List ℕ → Rest → Rest
 stripped [] r = r
 stripped (b ∷ w) r = stripped w (strip b r)
-
--- what is left of l behind the word w at the place at
-abbrev pub behind_word : List ℕ → ℕ → List ℕ → Rest
-behind_word l at w = stripped w (place l at)
-
--- x is what was seen in l
-pub record Sees (l : List ℕ) (x : Slot) (s : Seen) : Type 0 where
-  pub number : x.number ≡ value s
-  pub end : place l x.end ≡ behind s

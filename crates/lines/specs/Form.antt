@@ -6,6 +6,8 @@ use Prim.Native.String.{String, [] as []ˢ, ◌∷◌ as ◌∷ˢ◌}
 use Rattle.sets.specs.Set.{member}
 use Rattle.lines.specs.Limits.{max_input, max_output, max_campaign, set_bits, max_question, max_money, max_u64}
 use Rattle.lines.specs.Numeral.{numeral}
+use Rattle.lines.specs.declared.slots.Slot.{Slot}
+use Rattle.lines.specs.declared.slots.Slot.TheVariants.{Input, Number, Campaign as CampaignName, Question, Money, Names}
 use Rattle.lines.specs.declared.Record.{Record}
 use Rattle.lines.specs.declared.Record.TheVariants.{Plan, Campaign, Start, View, Close, Done, Play, Nobody}
 use Rattle.lines.specs.declared.Record.TheVariants.{Refused, Closed, Tally, Pause, Resume}
@@ -35,6 +37,15 @@ money_slot = 77
 -- S: the names of a view
 abbrev pub names_slot : ℕ
 names_slot = 83
+
+-- the letter of what the code calls a slot
+abbrev pub letter : Slot → ℕ
+letter Input = input_slot
+letter Number = output_slot
+letter CampaignName = campaign_slot
+letter Question = refusal_slot
+letter Money = money_slot
+letter Names = names_slot
 
 abbrev pub is_slot : ℕ → Bool
 is_slot b = leb 65 b && leb b 90

@@ -1,14 +1,14 @@
 -- What reading a line answers: the record whose text it is, 16 or 17. Each form is tried in turn; OneText says that
 -- this is the inverse of `text`.
 use Rattle.std.specs.Prelude.{ℕ, zero, suc, ◌+◌, ◌*◌, ◌-◌, ◌^◌, Bool, true, false, cond, ◌&&◌, List, [], ◌∷◌, ltb}
-use Rattle.std.specs.Prelude.{leb, eqb, length, get_or}
+use Rattle.std.specs.Prelude.{leb, eqb, length, get_or, Result, Ok, Err}
+use Rattle.refusal.specs.declared.Refusal.{Refusal}
+use Rattle.refusal.specs.Refusal.{refusal}
 use Rattle.lines.specs.Limits.{max_line, set_bits}
 use Rattle.lines.specs.Form.{campaign_slot, names_slot, is_slot, template, in_slot}
 use Rattle.lines.specs.declared.Record.{Record}
 use Rattle.lines.specs.declared.Record.TheVariants.{Plan, Campaign, Start, View, Close, Done, Play, Nobody}
 use Rattle.lines.specs.declared.Record.TheVariants.{Refused, Closed, Tally, Pause, Resume}
-use Rattle.lines.specs.declared.Reading.{Reading}
-use Rattle.lines.specs.declared.Reading.TheVariants.{Got, Refusal}
 
 -- what is left of a line, or none where what was looked for is not there
 pub data Rest : Type 0 where
@@ -112,11 +112,11 @@ is_end (some []) = true
 is_end (some (b ∷ l)) = false
 
 -- r where nothing is left, and else what other says
-unfoldable pub ended_or : Reading → Rest → Record → Reading
-ended_or other rest r = cond (is_end rest) (Got r) other
+unfoldable pub ended_or : Result Record Refusal → Rest → Record → Result Record Refusal
+ended_or other rest r = cond (is_end rest) (Ok r) other
 
 -- the line held to the template of the form f
-unfoldable pub held_or : Reading → Record → List ℕ → Reading
+unfoldable pub held_or : Result Record Refusal → Record → List ℕ → Result Record Refusal
 held_or other f l = ended_or other (rest_of (template f) (some l)) (made f (numbers_of (template f) (some l)))
 
 -- five kinds of input line, the six kinds of output line and two kinds of input line that document 02 adds
@@ -126,9 +126,9 @@ forms =
     ∷ Done ∷ Play 0 0 ∷ Nobody ∷ Refused 0 ∷ Closed 0 0 0 ∷ Tally 0 0 0 0 0
     ∷ Pause 0 ∷ Resume 0 ∷ []
 
-unfoldable pub first_of : List Record → List ℕ → Reading
-first_of [] l = Refusal 17
+unfoldable pub first_of : List Record → List ℕ → Result Record Refusal
+first_of [] l = Err (refusal 17)
 first_of (f ∷ fs) l = held_or (first_of fs l) f l
 
-unfoldable pub reading : List ℕ → Reading
-reading l = cond (ltb max_line (length l)) (Refusal 16) (first_of forms l)
+unfoldable pub reading : List ℕ → Result Record Refusal
+reading l = cond (ltb max_line (length l)) (Err (refusal 16)) (first_of forms l)

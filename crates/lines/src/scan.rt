@@ -1,192 +1,111 @@
-// Reading along a line: words, numerals and names at a place of it.
-ghost use Rattle.std.specs.Prelude.{◌≡◌, ◌+◌, ◌*◌, ◌<◌, ◌≤◌, leb, length, drop, get_or};
-ghost use Rattle.lines.specs.Limits.{max_line};
-ghost use Rattle.lines.specs.Form.{names_slot, slot_max};
-ghost use Rattle.lines.specs.Reading.{is_digit, digits, ranged, slot_at, ended_or};
-ghost use Rattle.lines.specs.Cited.{place, behind_word, Sees};
+// Reading along a line: each function is given what is left of the line, and gives what is left behind what it read.
+ghost use Rattle.std.specs.Prelude.{◌≡◌, get_or, Err};
+ghost use Rattle.std.specs.Option.{ok_or};
+ghost use Rattle.refusal.specs.Refusal.{refusal};
+ghost use Rattle.lines.specs.Form.{letter, names_slot};
+ghost use Rattle.lines.specs.Reading.{some, numeral_at, digits, ranged, slot_at, ended_or};
+ghost use Rattle.lines.specs.Cited.{found, fitting, match_rest, stripped};
 
-use crate::slots::{MAX_INPUT, MAX_LINE, SET_BITS, slot_max};
-use crate::{Reading, Record};
+use crate::Record;
+use crate::slots::Slot;
 
-// The number that was read in a slot, and the place behind it.
-#[derive(Clone, Copy)]
-pub struct Slot {
-    pub number: u64,
-    pub end: usize,
-}
-
-// A place behind every line: what was looked for is not there. It stays missing to the end of the line, and no step
-// needs a test of its own.
-const MISSING: usize = MAX_LINE + 1;
-
-// Nothing was read.
-fn missing() -> Slot
-    ensures { (result.number ≡ 0) × (result.end ≡ max_line + 1) }
+// The digits at the front as a number, where it fits 64 bits.
+fn digits(s: &[u8]) -> Option<(u64, &[u8])>
+    ensures { found result ≡ fitting (digits 0 s.now) }
 {
-    Slot {
-        number: 0,
-        end: MISSING,
-    }
-}
-
-// The place behind the word, where the word stands at the place at.
-fn behind(s: &[u8], at: usize, word: &[u8]) -> usize
-    requires { length s.now ≤ max_line }
-    ensures { place s.now result ≡ behind_word s.now at word.now }
-{
-    if at > s.len() {
-        return MISSING;
-    }
-    if s.len() - at < word.len() {
-        return MISSING;
-    }
-    let mut i = 0;
-    while i < word.len() {
-        if s[at + i] != word[i] {
-            return MISSING;
+    let mut number: u64 = 0;
+    let mut rest = s;
+    while let [digit @ b'0'..=b'9', after @ ..] = rest {
+        // the product is tested by a constant: `checked_mul` would divide at each digit
+        if number > u64::MAX / 10 {
+            return None;
         }
-        i += 1;
+        number = (number * 10).checked_add(u64::from(digit - b'0'))?;
+        rest = after;
     }
-    at + i
+    Some((number, rest))
 }
 
-// Whether the byte is a digit.
-fn is_digit(b: u8) -> bool
-    ensures { result ≡ is_digit b }
+// The numeral at the front, where its number fits 64 bits. 0 has no digit behind it.
+fn numeral(s: &[u8]) -> Option<(u64, &[u8])>
+    ensures { found result ≡ fitting (numeral_at s.now) }
 {
-    match b {
-        48..=57 => true,
-        _ => false,
+    match s {
+        [b'0', rest @ ..] => Some((0, rest)),
+        [b'1'..=b'9', ..] => digits(s),
+        _ => None,
     }
 }
 
-// The byte as a number.
-fn wide(b: u8) -> u64
-    ensures { result ≡ b }
+// The numeral at the front, where its number is in the range of the slot.
+fn number(s: &[u8], slot: Slot) -> Option<(u64, &[u8])>
+    ensures { found result ≡ ranged (letter slot) (numeral_at s.now) }
 {
-    b as u64
+    let (number, rest) = numeral(s)?;
+    if slot.holds(number) {
+        Some((number, rest))
+    } else {
+        None
+    }
 }
 
-// Whether n * 10 + digit is at most max. Up to the numbers of an input line one test is enough.
-fn has_room(n: u64, digit: u64, max: u64) -> bool
-    requires { (n ≤ max) × (digit < 10) }
-    ensures { result ≡ leb (n * 10 + digit) max }
+// The names of a view as a set: they rise strictly, each with a space before it.
+fn names(s: &[u8]) -> Option<(u64, &[u8])>
+    ensures { found result ≡ slot_at names_slot (some s.now) }
 {
-    if max <= MAX_INPUT {
-        return n * 10 + digit <= max;
-    }
-    if n < max / 10 {
-        return true;
-    }
-    (n == max / 10) & (digit <= max % 10)
-}
-
-// The numeral whose first digits, of the value first, end at the place at. A number that leaves the range ends the loop
-// by a jump: the place behind the numeral waits for no number.
-fn more_digits(s: &[u8], at: usize, first: u64, slot: u8) -> Slot
-    requires { (length s.now ≤ max_line) × (at ≤ length s.now) × (1 ≤ first) × (first ≤ slot_max slot) }
-    ensures { Sees s.now result (ranged slot (digits first (drop at s.now))) }
-{
-    let mut number = first;
-    let mut i = at;
-    while i < s.len() {
-        let b = s[i];
-        if !is_digit(b) {
-            return Slot { number, end: i };
+    let mut set: u64 = 0;
+    let mut rest = s;
+    while let [b' ', named @ ..] = rest {
+        let (name, after) = number(named, Slot::Campaign)?;
+        let bit = 1 << name;
+        if bit <= set {
+            return None;
         }
-        let digit = wide(b - 48);
-        if !has_room(number, digit, slot_max(slot)) {
-            return missing();
-        }
-        number = number * 10 + digit;
-        i += 1;
+        set += bit;
+        rest = after;
     }
-    Slot { number, end: i }
+    Some((set, rest))
 }
 
-// The numeral at the place at, where it is in the range of the slot: one of a number, whose letter is before S.
-fn number(s: &[u8], at: usize, slot: u8) -> Slot
-    requires { (length s.now ≤ max_line) × (slot < names_slot) }
-    ensures { Sees s.now result (slot_at slot (place s.now at)) }
+// What is left of the line behind the word. Not by `strip_prefix`, which is a call for each word, some 5 ns: here the
+// word is known where it is inlined.
+#[inline(always)]
+fn behind<'a>(s: &'a [u8], word: &[u8]) -> Option<&'a [u8]>
+    ensures { match_rest result ≡ stripped word.now (some s.now) }
 {
-    if at >= s.len() {
-        return missing();
+    if s.len() < word.len() {
+        return None;
     }
-    let b = s[at];
-    match b {
-        48 => {
-            if slot == b'R' {
-                return missing();
-            }
-            Slot {
-                number: 0,
-                end: at + 1,
-            }
+    for (i, b) in word.iter().enumerate() {
+        if s[i] != *b {
+            return None;
         }
-        49..=57 => more_digits(s, at + 1, wide(b - 48), slot),
-        _ => missing(),
     }
+    Some(&s[word.len()..])
+}
+
+// The word at the front, and the slot behind it. Inlined, since the word and the slot are known at each call.
+#[inline(always)]
+pub fn field<'a>(s: &'a [u8], word: &[u8], slot: Slot) -> Option<(u64, &'a [u8])>
+    ensures { found result ≡ slot_at (letter slot) (stripped word.now (some s.now)) }
+{
+    let s = behind(s, word)?;
+    match slot {
+        Slot::Names => names(s),
+        _ => number(s, slot),
+    }
+}
+
+// The record r, where the word is all that is left.
+pub fn ended(s: &[u8], word: &[u8], r: Record) -> Option<Record>
+    ensures { ok_or result (refusal 17) ≡ ended_or (Err (refusal 17)) (stripped word.now (some s.now)) r }
+{
+    if s == word { Some(r) } else { None }
 }
 
 // The byte at the place i, or 0 behind the line.
 pub fn byte(s: &[u8], i: usize) -> u8
     ensures { result ≡ get_or s.now i 0 }
 {
-    if i < s.len() { s[i] } else { 0 }
-}
-
-// A view names each campaign once at most, and one turn more finds the end.
-const MOST_TURNS: u64 = SET_BITS + 1;
-
-// The names of a view, rising strictly, with a space before each.
-fn names(s: &[u8], at: usize) -> Slot
-    requires { length s.now ≤ max_line }
-    ensures { Sees s.now result (slot_at names_slot (place s.now at)) }
-{
-    let mut set: u64 = 0;
-    let mut i = at;
-    let mut left = MOST_TURNS;
-    while left > 0 {
-        if byte(s, i) != b' ' {
-            return Slot {
-                number: set,
-                end: i,
-            };
-        }
-        let name = number(s, i + 1, b'C');
-        if name.end > s.len() {
-            return missing();
-        }
-        let bit = 1 << name.number;
-        if bit <= set {
-            return missing();
-        }
-        set += bit;
-        i = name.end;
-        left -= 1;
-    }
-    missing()
-}
-
-// The word at the place at, and the slot behind it.
-pub fn field(s: &[u8], at: usize, word: &[u8], slot: u8) -> Slot
-    requires { (length s.now ≤ max_line) × (slot ≤ names_slot) }
-    ensures { Sees s.now result (slot_at slot (behind_word s.now at word.now)) }
-{
-    let at = behind(s, at, word);
-    if slot == b'S' {
-        return names(s, at);
-    }
-    number(s, at, slot)
-}
-
-// The record r, where the line ends with the word at the place at.
-pub fn ended(s: &[u8], at: usize, word: &[u8], r: Record) -> Reading
-    requires { length s.now ≤ max_line }
-    ensures { result ≡ ended_or (Reading.Refusal 17) (behind_word s.now at word.now) r }
-{
-    if behind(s, at, word) == s.len() {
-        return Reading::Got(r);
-    }
-    Reading::Refusal(17)
+    s.get(i).copied().unwrap_or(0)
 }

@@ -1,7 +1,7 @@
 // The limits of the lines, and the ranges of the numbers in their slots.
-ghost use Rattle.std.specs.Prelude.{◌≡◌};
+ghost use Rattle.std.specs.Prelude.{◌≡◌, ℕ};
 ghost use Rattle.lines.specs.Limits.{line_buffer};
-ghost use Rattle.lines.specs.Form.{slot_max, in_slot};
+ghost use Rattle.lines.specs.Form.{letter, slot_max, in_slot};
 
 // The longest line that is read, without its byte 10.
 pub const MAX_LINE: usize = 200;
@@ -36,7 +36,63 @@ pub fn line_buffer() -> usize
     LINE_BUFFER
 }
 
-// The greatest number in a slot.
+// What stands in a slot of a line form.
+#[derive(Clone, Copy, PartialEq, Eq, Debug)]
+pub enum Slot {
+    // A number of an input line.
+    Input,
+    // A number of an output line.
+    Number,
+    Campaign,
+    // The number of a refusal.
+    Question,
+    // Takings, claim or full.
+    Money,
+    // The names of a view.
+    Names,
+}
+
+// What has the letter that stands for a slot in the templates of the forms: a slot, and a byte itself.
+pub trait Lettered {
+    ghost letter: { Self → ℕ };
+
+    fn letter(self) -> u8
+        ensures { result ≡ letter self };
+}
+
+impl Lettered for u8 {
+    ghost letter = { λ s. s };
+
+    fn letter(self) -> u8 {
+        self
+    }
+}
+
+impl Lettered for Slot {
+    ghost letter = { letter };
+
+    fn letter(self) -> u8 {
+        match self {
+            Slot::Input => b'I',
+            Slot::Number => b'N',
+            Slot::Campaign => b'C',
+            Slot::Question => b'R',
+            Slot::Money => b'M',
+            Slot::Names => b'S',
+        }
+    }
+}
+
+impl Slot {
+    // Whether the number is in the range of the slot.
+    pub fn holds(self, number: u64) -> bool
+        ensures { result ≡ in_slot (letter self) number }
+    {
+        in_slot(self.letter(), number)
+    }
+}
+
+// The greatest number in a slot, by its letter.
 pub fn slot_max(slot: u8) -> u64
     ensures { result ≡ slot_max slot }
 {
@@ -50,7 +106,7 @@ pub fn slot_max(slot: u8) -> u64
     }
 }
 
-// Whether the number is in the range of the slot. A refusal number is not 0.
+// Whether the number is in the range of the slot of this letter. A refusal number is not 0.
 pub fn in_slot(slot: u8, number: u64) -> bool
     ensures { result ≡ in_slot slot number }
 {

@@ -1,11 +1,12 @@
 -- A list that a loop fills from the front.
 use mathlib.Core.Path.{◌≡◌, refl, ap, sym, subst, ◌∙◌}
 use mathlib.Core.Logic.{⊎_elim}
-use mathlib.Core.List.{List}
-use Prim.Native.Nat.{ℕ, ◌+◌, ◌≤◌, ◌<◌}
+use mathlib.Core.List.{List, ◌++◌}
+use Prim.Native.Nat.{ℕ, ◌+◌, ◌-◌, ◌≤◌, ◌<◌}
 use native.Mathlib.Nat.{not-suc-le-zero}
 use native.Mathlib.Omega.{arith}
-use lib.ListN.{length, length-set, set}
+use lib.ListN.{length, length-set, set, drop, replicate, length-replicate}
+use Rattle.std.proofs.lemmas.List.{get_or_append_left, get_or-append_right, get_or-drop, get_or-replicate}
 use Rattle.allotments.specs.Allotment.{at}
 use Rattle.allotments.proofs.Cases.{same_or_not}
 use Rattle.exchange.proofs.Entries.{at_same, at_other}
@@ -21,6 +22,20 @@ fill_more xs xs' j x f h l e = record {
       i ne ∙ h.front i (omega arith)) (same_or_not i j);
   beyond = λ i k. at_other xs' j x i (λ q. omega arith) ∙ h.beyond i (omega arith);
 }
+
+-- the first n are one value, and behind them is what was there
+pub filled_with : {xs front : List ℕ} {n m v : ℕ} → n ≤ length xs → m ≡ n → front ≡ replicate m v
+    → Filled xs (front ++ drop n xs) n (λ j. v)
+filled_with {xs} {front} {n} {m} {v} h l e =
+    let len : length front ≡ n = ap length e ∙ length-replicate m v ∙ l in
+    record {
+      front = λ j k.
+          get_or_append_left front (drop n xs) 0 j (omega arith)
+          ∙ ap (λ (ys : List ℕ). at ys j) e ∙ get_or-replicate m j v 0 (omega arith);
+      beyond = λ j k.
+          let there : n + (j - n) ≡ j = omega arith in
+          get_or-append_right front (drop n xs) n j 0 len k ∙ get_or-drop n xs (j - n) 0 ∙ ap (at xs) there;
+    }
 
 -- a loop that fills the first n
 pub record Filling (xs xs' : List ℕ) (n j : ℕ) (f : ℕ → ℕ) : Type 0 where

@@ -4,15 +4,16 @@
 
 ghost use Rattle.std.specs.Prelude.{◌≡◌, ℕ, ◌<◌, ◌≤◌, length};
 ghost use Rattle.campaigns.specs.Limits.{max_campaigns};
-ghost use Rattle.allotments.specs.Allotment.{at, nobody};
+ghost use Rattle.allotments.specs.Allotment.{at};
 ghost use Rattle.allotments.specs.Cited.{EnoughLent};
 ghost use Rattle.exchange.specs.Cited.{Seekable};
 ghost use Rattle.matching.specs.Method.{Everyone, Dearest};
 ghost use Rattle.matching.specs.Cited.{ServedIs, Frozen, Unserved, Matched};
-ghost use Rattle.matching.specs.Cited.{campaign_figure, level_of, view_figure, Filled, BestIs};
+ghost use Rattle.matching.specs.Cited.{campaign_figure, view_figure, Filled, BestIs};
 
-use campaigns::entry::wide32;
-use exchange::NOBODY;
+use allotments::NOBODY;
+use exchange::Sought;
+use sets::Members;
 
 // After a campaign is served: the campaigns closed, and those that no free view names.
 #[derive(Clone, Copy)]
@@ -38,21 +39,20 @@ fn serve(
     let n = views.len();
     let mut first = from;
     let mut known = bare;
-    let mut k = 0;
-    while k < plays {
+    for _ in 0..plays {
         first = exchange::first_open(n, allotment, first);
-        let r = exchange::seek(views, allotment, campaign, closed, first, known);
-        if !r.found {
-            return After {
-                closed: r.visited,
-                bare: r.bare,
-            };
+        match exchange::seek(views, allotment, campaign, closed, first, known) {
+            Sought::Found { bare } => known = bare,
+            Sought::Shut { visited, bare } => {
+                return After {
+                    closed: visited,
+                    bare,
+                };
+            }
         }
-        known = r.bare;
-        k += 1;
     }
     After {
-        closed: closed,
+        closed,
         bare: known,
     }
 }
@@ -63,9 +63,10 @@ fn everyone(count: u64) -> u64
     ensures { Everyone count result }
 {
     if count == 64 {
-        return u64::MAX;
+        u64::MAX
+    } else {
+        (1 << count) - 1
     }
-    (1 << count) - 1
 }
 
 // Of the campaigns not served, of which there is one, a dearest. Which of equals is free: any gives the greatest
@@ -77,9 +78,7 @@ fn dearest(prices: &[u32; 128], unserved: u64) -> u64
     let mut best = sets::first(unserved);
     let start = best as usize;
     let mut top = prices[start];
-    let mut left = sets::rest(unserved);
-    while left != 0 {
-        let c = sets::first(left);
+    for c in Members(sets::rest(unserved)) {
         let at = c as usize;
         let p = prices[at];
         let dearer = top < p;
@@ -87,7 +86,6 @@ fn dearest(prices: &[u32; 128], unserved: u64) -> u64
             best = c;
             top = p;
         }
-        left = sets::rest(left);
     }
     best
 }
@@ -97,23 +95,9 @@ fn freeze(level: &mut [u64; 64], set: u64, price: u64)
     requires { length level.old ≡ 64 }
     ensures { Frozen level.old level.new set price }
 {
-    let mut left = set;
-    while left != 0 {
-        let at = sets::first(left) as usize;
+    for c in Members(set) {
+        let at = c as usize;
         level[at] = price;
-        left = sets::rest(left);
-    }
-}
-
-// No view is given.
-fn clear(allotment: &mut [u64], n: usize)
-    requires { n ≤ length allotment.old }
-    ensures { Filled allotment.old allotment.new n (λ j. nobody) }
-{
-    let mut j = 0;
-    while j < n {
-        allotment[j] = NOBODY;
-        j += 1;
     }
 }
 
@@ -138,8 +122,8 @@ fn match_all<'a>(
     while unserved != 0 {
         let c = dearest(prices, unserved);
         let at = c as usize;
-        let price = wide32(prices[at]);
-        let plays = wide32(wholes[at]);
+        let price = u64::from(prices[at]);
+        let plays = u64::from(wholes[at]);
         first = exchange::first_open(n, allotment, first);
         let after = serve(views, allotment, c, closed, plays, first, bare);
         freeze(level, sets::without(after.closed, closed), price);
@@ -161,26 +145,12 @@ fn write_campaign_figures<'a>(
     ensures { Filled surplus.old surplus.new count (campaign_figure prices.now
         level.now) }
 {
-    let mut c = 0;
-    while c < count {
-        let at = c as usize;
-        surplus[at] = wide32(prices[at]) - level[at];
-        c += 1;
+    for c in 0..count as usize {
+        surplus[c] = u64::from(prices[c]) - level[c];
     }
 }
 
-// The level of a view's holder, 0 where it has none.
-fn level_of(level: &[u64; 64], holder: u64) -> u64
-    ensures { result ≡ level_of level.now holder }
-{
-    if holder < 64 {
-        let at = holder as usize;
-        return level[at];
-    }
-    0
-}
-
-// The level of each view's holder.
+// The level of each view's holder, 0 where it has none.
 fn write_view_figures<'a>(
     n: usize,
     allotment: &'a [u64],
@@ -191,10 +161,9 @@ fn write_view_figures<'a>(
     ensures { Filled worth.old worth.new n (view_figure allotment.now
         level.now) }
 {
-    let mut j = 0;
-    while j < n {
-        worth[j] = level_of(level, allotment[j]);
-        j += 1;
+    for j in 0..n {
+        let holder = allotment[j] as usize;
+        worth[j] = level.get(holder).copied().unwrap_or(0);
     }
 }
 
@@ -215,7 +184,7 @@ pub fn allot<'a>(
         worth.old worth.new }
 {
     let n = views.len();
-    clear(allotment, n);
+    allotment[..n].fill(NOBODY);
     let mut level = [0u64; 64];
     match_all(count, prices, wholes, views, allotment, &mut level);
     write_campaign_figures(count, prices, &level, surplus);

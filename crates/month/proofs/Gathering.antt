@@ -5,12 +5,11 @@ use mathlib.Core.List.{List, [], ◌∷◌}
 use Prim.Native.Nat.{ℕ, zero, suc, ◌+◌, ◌*◌, ◌/◌, ◌<◌, min}
 use native.Mathlib.Nat.{not-suc-le-zero}
 use native.Mathlib.Omega.{arith}
-use lib.Dec.{eqb, ltb}
-use lib.ListN.{length, get_or, take, set, length-set, length-take}
-use lib.Seq.{get_or-set_same, get_or-set_other}
-use borrow.Author.Tests.{eqb-true, eqb-false, ltb-true, ltb-false, lt-ltb}
+use lib.Dec.{ltb}
+use lib.ListN.{length, get_or, take, length-take}
+use borrow.Author.Tests.{ltb-true, ltb-false}
 use Rattle.month.specs.declared.DayRecord.{DayRecord}
-use Rattle.month.specs.Month.{no_record, day, report_of}
+use Rattle.month.specs.Month.{day, report_of}
 use Rattle.month.specs.Pairs.{pairs}
 use Rattle.month.specs.Promises.{AlwaysPaired}
 use Rattle.month.specs.Cited.{Gathered}
@@ -19,23 +18,6 @@ use Rattle.month.proofs.Upto.{many}
 -- record i of these numbers
 abbrev record_at : List ℕ → ℕ → DayRecord
 record_at words i = record { takings = get_or words (2 * i) 0; greatest = get_or words (2 * i + 1) 0 }
-
--- one record more is stored
-pub gathered_more : (i : ℕ) (words : List ℕ) (list : List DayRecord) → i < 32 → Gathered i words list
-    → Gathered (i + 1) words (set list i (record_at words i))
-gathered_more i words list l g = record {
-  full_length = length-set list i (record_at words i) ∙ g.full_length;
-  record_is = λ j k. go j k (eqb j i) refl;
-}
-  where
-    go : (j : ℕ) → j < i + 1 → (b : Bool) → eqb j i ≡ b → day (set list i (record_at words i)) j ≡ record_at words j
-    go j k true e =
-        ap (day (set list i (record_at words i))) (eqb-true j i e)
-        ∙ get_or-set_same list i (record_at words i) no_record (omega (arith, l, g.full_length))
-        ∙ ap (record_at words) (sym (eqb-true j i e))
-    go j k false e =
-        let other = eqb-false j i e in
-        get_or-set_other list i j (record_at words i) no_record other ∙ g.record_is j (omega (arith, k, other))
 
 -- how many records there are, and each of them
 pub pairs_length : (words : List ℕ) → length (pairs words) ≡ length words / 2
@@ -91,8 +73,7 @@ enough k words list e g = go (ltb (length words / 2) 32) refl
         let over = ltb-false (length words / 2) 32 l in
         let first : 31 < length (take k list) = omega (arith, long, e, over) in
         let all : 31 < length (pairs words) = omega (arith, over, pairs_length words) in
-        sym (many (take k list) (lt-ltb 31 (length (take k list)) first))
-        ∙ many (pairs words) (lt-ltb 31 (length (pairs words)) all)
+        sym (many (take k list) first) ∙ many (pairs words) all
 
 pub paired : AlwaysPaired
 paired words = record {

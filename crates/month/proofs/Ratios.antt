@@ -3,7 +3,7 @@
 use mathlib.Core.Path.{◌≡◌, refl}
 use mathlib.Core.Bool.{Bool, true, false, cond, not, ◌&&◌, ◌||◌}
 use mathlib.Core.List.{List}
-use mathlib.Core.Option.{Option, some, none}
+use Rattle.std.specs.Prelude.{Option, Some, None}
 use Prim.Native.Nat.{ℕ, zero, suc, ◌*◌, ◌≤◌, ◌<◌}
 use native.Mathlib.Nat.{not-suc-le-zero, mul-le-mul_left, lt_of_mul-lt-mul_left, not-le_of_lt}
 use native.Mathlib.Omega.{arith}
@@ -41,18 +41,18 @@ abbrev pub worse : DayRecord → DayRecord → Bool
 worse d e = ltb (d.takings * e.greatest) (e.takings * d.greatest)
 
 unfoldable pub worst_with : List DayRecord → Option ℕ → ℕ → Option ℕ
-worst_with days none n = cond (can_be_worst (day days n)) (some n) none
-worst_with days (some k) n = cond (can_be_worst (day days n) && worse (day days n) (day days k)) (some n) (some k)
+worst_with days None n = cond (can_be_worst (day days n)) (Some n) None
+worst_with days (Some k) n = cond (can_be_worst (day days n) && worse (day days n) (day days k)) (Some n) (Some k)
 
 unfoldable pub worst_upto : List DayRecord → ℕ → Option ℕ
-worst_upto days zero = none
+worst_upto days zero = None
 worst_upto days (suc n) = worst_with days (worst_upto days n) n
 
 abbrev pub Right : List DayRecord → ℕ → Option ℕ → Type 0
-Right days n none = (j : ℕ) → j < n → (day days j).greatest ≡ 0
-Right days n (some k) = WorstUpto days n k
+Right days n None = (j : ℕ) → j < n → (day days j).greatest ≡ 0
+Right days n (Some k) = WorstUpto days n k
 
-first_one : (days : List DayRecord) (n : ℕ) → Right days n none → 0 < (day days n).greatest → WorstUpto days (suc n) n
+first_one : (days : List DayRecord) (n : ℕ) → Right days n None → 0 < (day days n).greatest → WorstUpto days (suc n) n
 first_one days n h p = record {
   within = omega arith;
   above = p;
@@ -85,15 +85,15 @@ keeps_place days n k w here = record {
   earlier_greater = w.earlier_greater;
 }
 
-with_none : (days : List DayRecord) (n : ℕ) (c : Bool) → can_be_worst (day days n) ≡ c → Right days n none
-    → Right days (suc n) (worst_with days none n)
+with_none : (days : List DayRecord) (n : ℕ) (c : Bool) → can_be_worst (day days n) ≡ c → Right days n None
+    → Right days (suc n) (worst_with days None n)
 unfolding worst_with can_be_worst
 with_none days n true p h = rw p (first_one days n h (ltb-true 0 _ p))
 with_none days n false p h =
     rw p (one_more (λ j. (day days j).greatest ≡ 0) n h (omega (arith, ltb-false 0 (day days n).greatest p)))
 
 with_some : (days : List DayRecord) (n k : ℕ) (c b : Bool) → can_be_worst (day days n) ≡ c
-    → worse (day days n) (day days k) ≡ b → Right days n (some k) → Right days (suc n) (worst_with days (some k) n)
+    → worse (day days n) (day days k) ≡ b → Right days n (Some k) → Right days (suc n) (worst_with days (Some k) n)
 unfolding worst_with can_be_worst
 with_some days n k true true p q h = rw p (rw q (takes_over days n k h (ltb-true 0 _ p) (ltb-true _ _ q)))
 with_some days n k true false p q h = rw p (rw q (keeps_place days n k h (λ _. ltb-false _ _ q)))
@@ -101,8 +101,8 @@ with_some days n k false b p q h =
     rw p (keeps_place days n k h (λ l. absurd (omega (arith, l, ltb-false 0 (day days n).greatest p))))
 
 step : (days : List DayRecord) (n : ℕ) (w : Option ℕ) → Right days n w → Right days (suc n) (worst_with days w n)
-step days n none h = with_none days n _ refl h
-step days n (some k) h = with_some days n k _ _ refl refl h
+step days n None h = with_none days n _ refl h
+step days n (Some k) h = with_some days n k _ _ refl refl h
 
 pub found_right : (days : List DayRecord) (n : ℕ) → Right days n (worst_upto days n)
 unfolding worst_upto

@@ -1,14 +1,13 @@
 -- The report in the request's words: the questions in their order, both totals, and the worst day's place.
 use mathlib.Core.Path.{◌≡◌, refl, ◌∙◌, ap, ap₂, subst⁻¹}
-use mathlib.Core.Bool.{Bool, true, false}
 use mathlib.Core.List.{List, [], ◌∷◌}
 use mathlib.Core.Logic.{◌⊎◌, inl, inr}
-use mathlib.Core.Option.{Option, some, none}
 use Prim.Native.Nat.{ℕ, zero, suc, ◌+◌, ◌≤◌, ◌<◌}
 use native.Mathlib.Omega.{arith}
-use lib.Dec.{ltb}
 use lib.ListN.{length}
+use Rattle.std.specs.Prelude.{Option, Some, None, Result, Ok, Err}
 use borrow.Author.Tests.{lt-ltb, le-ltb}
+use Rattle.refusal.specs.declared.Refusal.{Refusal}
 use Rattle.finite.specs.Finite.{sum, total}
 use Rattle.finite.proofs.Sums.{sum_front}
 use Rattle.finite.proofs.Meanings.{leb_means, every_means}
@@ -16,8 +15,7 @@ use Rattle.questions.specs.Questions.{first_failed, asks, accepts}
 use Rattle.questions.proofs.Asks.{asking, accepting}
 use Rattle.month.specs.declared.DayRecord.{DayRecord}
 use Rattle.month.specs.declared.Month.{Month}
-use Rattle.month.specs.declared.Month.TheVariants.{Refused, Worst, NoWorst}
-use Rattle.month.specs.Month.{max_records, day, belongs, worst, total_takings, total_greatest}
+use Rattle.month.specs.Month.{max_records, day, belongs, total_takings, total_greatest}
 use Rattle.month.specs.Month.{month_questions, figures_of, refused_or, report_of, number, values}
 use Rattle.month.specs.Promises.{WorstDay, NoneWorst, OfADay, AlwaysTells}
 use Rattle.month.proofs.Figures.{belongs_means}
@@ -30,61 +28,57 @@ sum_total f [] = refl
 sum_total f (d ∷ ds) =
     sum_front (length ds) (λ i. f (day (d ∷ ds) i)) ∙ ap (λ (x : ℕ). f d + x) (sum_total f ds)
 
--- an answer with figures is accepted
-figures_number : (days : List DayRecord) (b : Bool) → ltb (worst days) (length days) ≡ b → number (figures_of days) ≡ 0
-unfolding figures_of
-figures_number days true e = rw e refl
-figures_number days false e = rw e refl
+-- the number of a report is that of the first question that fails
+numbered : (q : ℕ) (x : Month) → number (refused_or q x) ≡ q
+numbered zero x = refl
+numbered (suc q) x = refl
 
-numbered : (q : ℕ) (x : Month) → number x ≡ 0 → number (refused_or q x) ≡ q
-numbered zero x e = e
-numbered (suc q) x e = refl
-
--- so that the number of a report is that of the first question that fails
 pub report_number : (days : List DayRecord) → number (report_of days) ≡ first_failed (month_questions days)
 unfolding report_of
-report_number days = numbered (first_failed (month_questions days)) (figures_of days) (figures_number days _ refl)
+report_number days = numbered (first_failed (month_questions days)) (figures_of days)
 
-alone : (x : Month) → (number x ≡ 0 → ⊥) → values x ≡ number x ∷ []
-alone (Refused q) n = refl
-alone (Worst t g k) n = absurd (n refl)
-alone (NoWorst t g) n = absurd (n refl)
+alone : (x : Result Month Refusal) → (number x ≡ 0 → ⊥) → values x ≡ number x ∷ []
+alone (Err r) n = refl
+alone (Ok m) n = absurd (n refl)
 
-accepted : (q : ℕ) (x : Month) → number (refused_or q x) ≡ 0 → refused_or q x ≡ x
+accepted : (q : ℕ) (x : Month) → number (refused_or q x) ≡ 0 → refused_or q x ≡ Ok x
 accepted zero x e = refl
 accepted (suc q) x e = absurd (omega (arith, e))
 
-told : (days : List DayRecord) → number (report_of days) ≡ 0 → report_of days ≡ figures_of days
+told : (days : List DayRecord) → number (report_of days) ≡ 0 → report_of days ≡ Ok (figures_of days)
 unfolding report_of
 told days e = accepted (first_failed (month_questions days)) (figures_of days) e
 
 -- the answer where no question fails
+abbrev month_of : (takings greatest : ℕ) → Option ℕ → Month
+month_of t g w = record { takings = t; greatest = g; worst = w }
+
 worst_figures : (days : List DayRecord) (k : ℕ) → WorstDay days k
-    → figures_of days ≡ Worst (total (λ d. d.takings) days) (total (λ d. d.greatest) days) k
+    → figures_of days ≡ month_of (total (λ d. d.takings) days) (total (λ d. d.greatest) days) (Some k)
 unfolding figures_of total_takings total_greatest
 worst_figures days k w =
     rw (worst_found days k w) (rw (lt-ltb k (length days) w.within)
-    (ap₂ (λ (t g : ℕ). Worst t g k) (sum_total (λ d. d.takings) days) (sum_total (λ d. d.greatest) days)))
+    (ap₂ (λ (t g : ℕ). month_of t g (Some k)) (sum_total (λ d. d.takings) days) (sum_total (λ d. d.greatest) days)))
 
 none_figures : (days : List DayRecord) → NoneWorst days
-    → figures_of days ≡ NoWorst (total (λ d. d.takings) days) (total (λ d. d.greatest) days)
+    → figures_of days ≡ month_of (total (λ d. d.takings) days) (total (λ d. d.greatest) days) None
 unfolding figures_of total_takings total_greatest
 none_figures days h =
     rw (worst_none days h) (rw (le-ltb (length days) (length days) (omega arith))
-    (ap₂ (λ (t g : ℕ). NoWorst t g) (sum_total (λ d. d.takings) days) (sum_total (λ d. d.greatest) days)))
+    (ap₂ (λ (t g : ℕ). month_of t g None) (sum_total (λ d. d.takings) days) (sum_total (λ d. d.greatest) days)))
 
 one_or_none : (days : List DayRecord) (w : Option ℕ) → Right days (length days) w
     → ((k : ℕ) × WorstDay days k) ⊎ NoneWorst days
-one_or_none days none h = inr h
-one_or_none days (some k) h = inl (k, whole days k h)
+one_or_none days None h = inr h
+one_or_none days (Some k) h = inl (k, whole days k h)
 
 pub worst_told : (days : List DayRecord) (k : ℕ) → number (report_of days) ≡ 0 → WorstDay days k
-    → report_of days ≡ Worst (total (λ d. d.takings) days) (total (λ d. d.greatest) days) k
-worst_told days k e w = told days e ∙ worst_figures days k w
+    → report_of days ≡ Ok (month_of (total (λ d. d.takings) days) (total (λ d. d.greatest) days) (Some k))
+worst_told days k e w = told days e ∙ ap Ok (worst_figures days k w)
 
 pub none_told : (days : List DayRecord) → number (report_of days) ≡ 0 → NoneWorst days
-    → report_of days ≡ NoWorst (total (λ d. d.takings) days) (total (λ d. d.greatest) days)
-none_told days e h = told days e ∙ none_figures days h
+    → report_of days ≡ Ok (month_of (total (λ d. d.takings) days) (total (λ d. d.greatest) days) None)
+none_told days e h = told days e ∙ ap Ok (none_figures days h)
 
 pub tells : AlwaysTells
 tells days =

@@ -1,25 +1,29 @@
 -- Names for the contracts of the functions that take one record after the other.
-use Rattle.std.specs.Prelude.{◌≡◌, Bool, true, false, cond, not, ◌&&◌, ◌||◌, List, ℕ, ◌+◌, ◌*◌, ◌≤◌, ◌<◌, ltb, length}
-use Rattle.std.specs.Prelude.{get_or}
+use Rattle.std.specs.Prelude.{◌≡◌, Bool, true, cond, ◌&&◌, List, ℕ, ◌+◌, ◌*◌, ◌≤◌, ◌<◌, ltb, length}
+use Rattle.std.specs.Prelude.{get_or, Option, Some, None, option_map, Result, Ok, Err}
+use Rattle.refusal.specs.declared.Refusal.{Refusal}
+use Rattle.refusal.specs.Refusal.{refusal}
 use Rattle.month.specs.declared.DayRecord.{DayRecord}
 use Rattle.month.specs.declared.Month.{Month}
-use Rattle.month.specs.declared.Month.TheVariants.{Refused, Worst, NoWorst}
 use Rattle.month.specs.declared.Partial.{Partial}
-use Rattle.month.specs.Month.{max_records, max_figure, no_record, day, belongs, can_be_worst}
+use Rattle.month.specs.declared.Worst.{Worst}
+use Rattle.month.specs.Month.{max_records, max_figure, day, belongs, can_be_worst}
 
 -- before the first record, and behind one that belongs to no day
 abbrev pub nothing_yet : Partial
-nothing_yet =
-    record { valid = true; takings = 0; greatest = 0; found = false; place = 0; worst = no_record }
+nothing_yet = record { takings = 0; greatest = 0; worst = None }
 
-abbrev pub invalid : Partial
-invalid =
-    record { valid = false; takings = 0; greatest = 0; found = false; place = 0; worst = no_record }
+abbrev pub invalid : Result Partial Refusal
+invalid = Err (refusal 25)
+
+-- the worst day's figures are in their range
+abbrev pub WorstFits : Option Worst → Type 0
+WorstFits None = Unit {0}
+WorstFits (Some w) = (w.day.takings ≤ max_figure) × (w.day.greatest ≤ max_figure)
 
 -- four figures that may be multiplied
 pub record InRange (m : Partial) (d : DayRecord) : Type 0 where
-  pub worst_takings_fit : m.worst.takings ≤ max_figure
-  pub worst_greatest_fits : m.worst.greatest ≤ max_figure
+  pub worst_fits : WorstFits m.worst
   pub takings_fit : d.takings ≤ max_figure
   pub greatest_fits : d.greatest ≤ max_figure
 
@@ -27,36 +31,32 @@ pub record InRange (m : Partial) (d : DayRecord) : Type 0 where
 pub record Fits (m : Partial) (n : ℕ) : Type 0 where
   pub takings_fit : m.takings ≤ max_figure * n
   pub greatest_fits : m.greatest ≤ max_figure * n
-  pub worst_takings_fit : m.worst.takings ≤ max_figure
-  pub worst_greatest_fits : m.worst.greatest ≤ max_figure
+  pub worst_fits : WorstFits m.worst
   pub few : n ≤ max_records
 
 -- the day is worse than the worst so far
+abbrev pub worse_than : Option Worst → DayRecord → Bool
+worse_than None d = true
+worse_than (Some w) d = ltb (d.takings * w.day.greatest) (w.day.takings * d.greatest)
+
 unfoldable pub outdoes : Partial → DayRecord → Bool
-outdoes m d =
-    can_be_worst d
-    && (not m.found || ltb (d.takings * m.worst.greatest) (m.worst.takings * d.greatest))
+outdoes m d = can_be_worst d && worse_than m.worst d
 
 -- with a record that belongs to a day, at place n
 unfoldable pub added : Partial → DayRecord → (n : ℕ) → Partial
 added m d n = record {
-  valid = true;
   takings = m.takings + d.takings;
   greatest = m.greatest + d.greatest;
-  found = cond (outdoes m d) true m.found;
-  place = cond (outdoes m d) n m.place;
-  worst = cond (outdoes m d) d m.worst;
+  worst = cond (outdoes m d) (Some (record { place = n; day = d })) m.worst;
 }
 
 -- with any record
-unfoldable pub after : Partial → DayRecord → (n : ℕ) → Partial
-after m d n = cond (m.valid && belongs d) (added m d n) invalid
+unfoldable pub after : Partial → DayRecord → (n : ℕ) → Result Partial Refusal
+after m d n = cond (belongs d) (Ok (added m d n)) invalid
 
 -- what is answered behind the last
-unfoldable pub finish : Partial → Month
-finish m =
-    cond m.valid
-    (cond m.found (Worst m.takings m.greatest m.place) (NoWorst m.takings m.greatest)) (Refused 25)
+abbrev pub finish : Partial → Month
+finish m = record { takings = m.takings; greatest = m.greatest; worst = option_map (λ w. w.place) m.worst }
 
 -- the first n records of these numbers stand in an array of 32
 pub record Gathered (n : ℕ) (words : List ℕ) (list : List DayRecord) : Type 0 where

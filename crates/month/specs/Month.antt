@@ -1,10 +1,12 @@
 -- The month in exact figures (document 02, request 14): what a list of day records reports.
 use Rattle.std.specs.Prelude.{Bool, cond, not, ◌&&◌, ◌||◌, List, [], ◌∷◌, ℕ, zero, suc, ◌*◌, leb, ltb, length, get_or}
+use Rattle.std.specs.Prelude.{Option, Some, None, Result, Ok, Err}
+use Rattle.refusal.specs.declared.Refusal.{Refusal}
+use Rattle.refusal.specs.Refusal.{refusal}
 use Rattle.finite.specs.Finite.{sum, every, least}
 use Rattle.questions.specs.Questions.{Question, question, first_failed}
 use Rattle.month.specs.declared.DayRecord.{DayRecord}
 use Rattle.month.specs.declared.Month.{Month}
-use Rattle.month.specs.declared.Month.TheVariants.{Refused, Worst, NoWorst}
 
 -- up to 31 day records (question 24), and no figure above 2,000,000,000 (question 25)
 abbrev pub max_records : ℕ
@@ -56,25 +58,29 @@ month_questions days =
 
 -- both totals with the worst day's place, or without one
 unfoldable pub figures_of : List DayRecord → Month
-figures_of days =
-    cond (ltb (worst days) (length days)) (Worst (total_takings days) (total_greatest days) (worst days))
-    (NoWorst (total_takings days) (total_greatest days))
+figures_of days = record {
+  takings = total_takings days;
+  greatest = total_greatest days;
+  worst = cond (ltb (worst days) (length days)) (Some (worst days)) None;
+}
 
 -- the question that failed, or x where none did
-abbrev pub refused_or : ℕ → Month → Month
-refused_or zero x = x
-refused_or (suc q) x = Refused (suc q)
+abbrev pub refused_or : ℕ → Month → Result Month Refusal
+refused_or zero x = Ok x
+refused_or (suc q) x = Err (refusal (suc q))
 
-unfoldable pub report_of : List DayRecord → Month
+unfoldable pub report_of : List DayRecord → Result Month Refusal
 report_of days = refused_or (first_failed (month_questions days)) (figures_of days)
 
 -- the number of an answer, 0 where it is accepted, and its values
-abbrev pub number : Month → ℕ
-number (Refused q) = q
-number (Worst t g k) = 0
-number (NoWorst t g) = 0
+abbrev pub number : Result Month Refusal → ℕ
+number (Err e) = e.question
+number (Ok m) = 0
 
-abbrev pub values : Month → List ℕ
-values (Refused q) = q ∷ []
-values (Worst t g k) = t ∷ g ∷ k ∷ []
-values (NoWorst t g) = t ∷ g ∷ []
+abbrev pub place_values : Option ℕ → List ℕ
+place_values None = []
+place_values (Some k) = k ∷ []
+
+abbrev pub values : Result Month Refusal → List ℕ
+values (Err e) = e.question ∷ []
+values (Ok m) = m.takings ∷ m.greatest ∷ place_values m.worst

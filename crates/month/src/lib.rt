@@ -8,6 +8,8 @@ ghost use Rattle.std.specs.Prelude.{◌≡◌, ◌≤◌, take};
 ghost use Rattle.month.specs.Month.{belongs, report_of};
 ghost use Rattle.month.specs.Cited.{InRange, Fits, nothing_yet, invalid, outdoes, after, finish};
 
+use refusal::Refusal;
+
 // How many records a month has at most (question 24).
 pub const MAX_RECORDS: usize = 31;
 
@@ -15,29 +17,23 @@ pub const MAX_RECORDS: usize = 31;
 pub const MAX_FIGURE: u64 = 2_000_000_000;
 
 // A day's takings and its greatest possible takings.
-#[derive(Clone, Copy)]
+#[derive(Clone, Copy, Debug, Default, PartialEq, Eq)]
 pub struct DayRecord {
     pub takings: u64,
     pub greatest: u64,
 }
 
-// The number of the question that failed; or both totals with the worst day's place, or without one.
-#[derive(Clone, Copy)]
-pub enum Month {
-    Refused(u64),
-    Worst {
-        takings: u64,
-        greatest: u64,
-        place: u64,
-    },
-    NoWorst {
-        takings: u64,
-        greatest: u64,
-    },
+// Both totals, and the worst day's place where a day can be the worst.
+#[derive(Clone, Copy, Debug, PartialEq, Eq)]
+pub struct Month {
+    pub takings: u64,
+    pub greatest: u64,
+    pub worst: Option<u64>,
 }
 
 impl DayRecord {
     // Do these figures belong to a day?
+    #[tactic(auto, unfolding(crate::specs::Month::belongs))]
     pub fn belongs(self) -> bool
         ensures { result ≡ belongs self }
     {
@@ -47,16 +43,19 @@ impl DayRecord {
     }
 }
 
-// The report so far: whether every record belongs to a day, the totals, whether a day was found that can be the worst,
-// and the worst one's place and record.
-#[derive(Clone, Copy)]
+// The worst day so far: its place and its record.
+#[derive(Clone, Copy, Debug, PartialEq, Eq)]
+pub struct Worst {
+    pub place: u64,
+    pub day: DayRecord,
+}
+
+// The report so far, of records that belong to a day: the totals, and the worst day.
+#[derive(Clone, Copy, Debug, PartialEq, Eq)]
 pub struct Partial {
-    pub valid: bool,
     pub takings: u64,
     pub greatest: u64,
-    pub found: bool,
-    pub place: u64,
-    pub worst: DayRecord,
+    pub worst: Option<Worst>,
 }
 
 impl Partial {
@@ -64,129 +63,83 @@ impl Partial {
     pub fn new() -> Partial
         ensures { result ≡ nothing_yet }
     {
-        let none = DayRecord {
-            takings: 0,
-            greatest: 0,
-        };
         Partial {
-            valid: true,
             takings: 0,
             greatest: 0,
-            found: false,
-            place: 0,
-            worst: none,
+            worst: None,
         }
     }
 
     // Behind a record that belongs to no day.
-    pub fn invalid() -> Partial
+    pub fn invalid() -> Result<Partial, Refusal>
         ensures { result ≡ invalid }
     {
-        let none = DayRecord {
-            takings: 0,
-            greatest: 0,
-        };
-        Partial {
-            valid: false,
-            takings: 0,
-            greatest: 0,
-            found: false,
-            place: 0,
-            worst: none,
-        }
+        Err(Refusal::NO_DAY)
     }
 
     // Is this day worse than each day before it? On equality it is not. Only figures in their range are multiplied.
+    #[tactic(auto, unfolding(crate::specs::Cited::outdoes, crate::specs::Month::can_be_worst))]
     pub fn outdoes(self, day: DayRecord) -> bool
         requires { InRange self day }
         ensures { result ≡ outdoes self day }
     {
-        let worst = self.worst;
-        let lower = day.takings * worst.greatest < worst.takings * day.greatest;
-        (0 < day.greatest) & (!self.found | lower)
+        if day.greatest == 0 {
+            return false;
+        }
+        match self.worst {
+            Some(worst) => day.takings * worst.day.greatest < worst.day.takings * day.greatest,
+            None => true,
+        }
     }
 
-    // With one record more.
-    pub fn with(self, day: DayRecord, place: u64) -> Partial
+    // With one record more, which is refused where it belongs to no day.
+    pub fn with(self, day: DayRecord, place: u64) -> Result<Partial, Refusal>
         requires { Fits self place }
         ensures { result ≡ after self day place }
     {
-        if self.valid & day.belongs() {
-            let takings = self.takings + day.takings;
-            let greatest = self.greatest + day.greatest;
-            if self.outdoes(day) {
-                Partial {
-                    valid: true,
-                    takings,
-                    greatest,
-                    found: true,
-                    place,
-                    worst: day,
-                }
-            } else {
-                let worst = self.worst;
-                Partial {
-                    valid: true,
-                    takings,
-                    greatest,
-                    found: self.found,
-                    place: self.place,
-                    worst,
-                }
-            }
-        } else {
-            Partial::invalid()
+        if !day.belongs() {
+            return Partial::invalid();
         }
+        let worst = if self.outdoes(day) {
+            Some(Worst { place, day })
+        } else {
+            self.worst
+        };
+        Ok(Partial {
+            takings: self.takings + day.takings,
+            greatest: self.greatest + day.greatest,
+            worst,
+        })
     }
 
     // Behind the last record.
     pub fn done(self) -> Month
         ensures { result ≡ finish self }
     {
-        if self.valid {
-            if self.found {
-                Month::Worst {
-                    takings: self.takings,
-                    greatest: self.greatest,
-                    place: self.place,
-                }
-            } else {
-                Month::NoWorst {
-                    takings: self.takings,
-                    greatest: self.greatest,
-                }
-            }
-        } else {
-            Month::Refused(25)
+        Month {
+            takings: self.takings,
+            greatest: self.greatest,
+            worst: self.worst.map(|worst| worst.place),
         }
     }
 }
 
-// More than 31 records.
-fn too_many() -> Month
-    ensures { result ≡ Month.Refused 24 }
-{
-    Month::Refused(24)
-}
-
-// The report of any records. No covered function may hold a slice of structs, so that this one is proved by hand.
-pub fn report(days: &[DayRecord]) -> Month
+// The report of any records.
+pub fn report(days: &[DayRecord]) -> Result<Month, Refusal>
     ensures { result ≡ report_of days.now }
 {
     if days.len() > MAX_RECORDS {
-        return too_many();
+        return Err(Refusal::MANY_DAYS);
     }
     let mut so_far = Partial::new();
-    let mut i = 0;
-    while i < days.len() {
-        so_far = so_far.with(days[i], i as u64);
-        i = i + 1;
+    for (place, day) in days.iter().enumerate() {
+        so_far = so_far.with(*day, place as u64)?;
     }
-    so_far.done()
+    Ok(so_far.done())
 }
 
 // The same of the first `count` records of an array, for callers that have no slice of records.
-pub fn report_first(list: [DayRecord; 32], count: usize) -> Month
+pub fn report_first(list: [DayRecord; 32], count: usize) -> Result<Month, Refusal>
     requires { count ≤ 32 }
     ensures { result ≡ report_of (take count list) }
 {

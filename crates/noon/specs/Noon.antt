@@ -1,5 +1,6 @@
 -- The figures that an owner can compare at noon, or at any other moment of a day (document 02, request 1).
 use Rattle.std.specs.Prelude.{◌≡◌, true, cond, List, [], ◌∷◌, ◌↔◌, ℕ, zero, suc, ◌-◌, ◌^◌, ◌*◌, ◌/◌, ◌≤◌, min, eqb}
+use Rattle.std.specs.Prelude.{Result, Ok, Err}
 use Rattle.finite.specs.Finite.{sum}
 use Rattle.powers.specs.Power.{share}
 use Rattle.campaigns.specs.declared.Campaign.{Campaign}
@@ -8,8 +9,9 @@ use Rattle.campaigns.specs.View.{full}
 use Rattle.day.specs.declared.Day.{Day}
 use Rattle.day.specs.Day.{campaign, total_takings, total_claim, sound}
 use Rattle.questions.specs.Questions.{Question, question, first_failed, asks, accepts}
-use Rattle.noon.specs.declared.Noon.{Noon}
-use Rattle.noon.specs.declared.Noon.TheVariants.{Refused, Figures}
+use Rattle.refusal.specs.declared.Refusal.{Refusal}
+use Rattle.refusal.specs.Refusal.{refusal}
+use Rattle.noon.specs.declared.Figures.{Figures}
 
 -- what is due: the smaller of whole plays and named / depth rounded down
 abbrev pub due_plays : (depth wholes named : ℕ) → ℕ
@@ -39,29 +41,32 @@ FloorFigureIs =
     * sum s.count (λ i. let c = campaign s i in c.price * min (c.budget / c.price) (c.named / k))
 
 -- the number of an answer, 0 where it is accepted, and its values
-abbrev pub number : Noon → ℕ
-number (Refused q) = q
-number (Figures x c f) = 0
+abbrev pub number : Result Figures Refusal → ℕ
+number (Err r) = r.question
+number (Ok f) = 0
 
-abbrev pub values : Noon → List ℕ
-values (Refused q) = q ∷ []
-values (Figures x c f) = x ∷ c ∷ f ∷ []
+abbrev pub values : Result Figures Refusal → List ℕ
+values (Err r) = r.question ∷ []
+values (Ok f) = f.full ∷ f.claim ∷ f.floor ∷ []
 
 -- is the state sound; no more is asked
 abbrev pub noon_questions : Day → List Question
 noon_questions s = question 1 (sound s) ∷ []
 
 -- the question that failed, or x where none did
-abbrev pub refused_or : ℕ → Noon → Noon
+abbrev pub refused_or : ℕ → Result Figures Refusal → Result Figures Refusal
 refused_or zero x = x
-refused_or (suc q) x = Refused (suc q)
+refused_or (suc q) x = Err (refusal (suc q))
 
 -- full, the total claim and the floor's figure
-abbrev pub figures_of : Day → Noon
-figures_of s = Figures (full s.plan (total_takings s)) (total_claim s) (floor_figure s)
+abbrev pub figures : (x c f : ℕ) → Figures
+figures x c f = record { full = x; claim = c; floor = f }
 
-unfoldable pub at_noon : Day → Noon
-at_noon s = refused_or (first_failed (noon_questions s)) (figures_of s)
+abbrev pub figures_of : Day → Figures
+figures_of s = figures (full s.plan (total_takings s)) (total_claim s) (floor_figure s)
+
+unfoldable pub at_noon : Day → Result Figures Refusal
+at_noon s = refused_or (first_failed (noon_questions s)) (Ok (figures_of s))
 
 pub record Tells (s : Day) : Type 0 where
   pub number_is : number (at_noon s) ≡ first_failed (noon_questions s)

@@ -12,16 +12,18 @@ ghost use Rattle.day.specs.Day.{state_of};
 ghost use Rattle.day.specs.Cited.{Kept};
 ghost use Rattle.noon.specs.Noon.{due, total_due, at_noon};
 
-use campaigns::entry::{entry, sized};
+use campaigns::entry::entry;
 use campaigns::weights::{weigh, weights};
 use campaigns::{Campaign, Head, Plan};
 use day::ops::audited;
+use refusal::Refusal;
 
 // Full, d^k × takings; the total claim; and the floor's figure, (d^k − (d−1)^k) × the prices of what is due.
 #[derive(Clone, Copy)]
-pub enum Noon {
-    Refused(u64),
-    Figures { full: u64, claim: u64, floor: u64 },
+pub struct Figures {
+    pub full: u64,
+    pub claim: u64,
+    pub floor: u64,
 }
 
 // The plays due to a campaign: the smaller of whole plays and named / depth, rounded down.
@@ -30,12 +32,7 @@ fn due(c: Campaign, depth: u64) -> u64
     requires le_depth { 1 ≤ depth }
     ensures { result ≡ due depth c }
 {
-    let whole = c.budget / c.price;
-    let turned = c.named / depth;
-    if whole < turned {
-        return whole;
-    }
-    turned
+    (c.budget / c.price).min(c.named / depth)
 }
 
 // The prices of what is due to the campaigns of a sound state: no more than their budgets.
@@ -43,12 +40,10 @@ fn total_due<'a>(head: Head, terms: &'a [u32; 128], counts: &'a [u16; 256]) -> u
     requires { Kept head terms.now counts.now }
     ensures { (result ≡ total_due (state_of head terms.now counts.now)) × (result ≤ max_budget) }
 {
-    let n = head.count as usize;
-    let depth = head.plan.depth;
     let mut all: u64 = 0;
-    for i in 0..n {
+    for i in 0..head.count as usize {
         let c = entry(i, terms, counts);
-        all = all + c.price * due(c, depth);
+        all += c.price * due(c, head.plan.depth);
     }
     all
 }
@@ -63,22 +58,18 @@ fn share(plan: Plan) -> u64
     high - weigh(0, plan, &list)
 }
 
-// The figures of any state whose arrays are lent; the state stays.
-pub fn at_noon<'a>(head: Head, terms: &'a [u32; 128], counts: &'a [u16; 256]) -> Noon
+// The figures of any sound state whose arrays are lent; the state stays.
+pub fn at_noon<'a>(
+    head: Head,
+    terms: &'a [u32; 128],
+    counts: &'a [u16; 256],
+) -> Result<Figures, Refusal>
     ensures { result ≡ at_noon (state_of head terms.now counts.now) }
 {
-    let all_terms = *terms;
-    let all_counts = *counts;
-    sized(all_terms, all_counts);
-    let audit = audited(head, terms, counts);
-    if !audit.sound {
-        return Noon::Refused(1);
-    }
-    let plan = head.plan;
-    let due = total_due(head, terms, counts);
-    Noon::Figures {
+    let audit = audited(head, terms, counts).ok_or(Refusal::UNSOUND)?;
+    Ok(Figures {
         full: audit.full,
         claim: audit.claim,
-        floor: share(plan) * due,
-    }
+        floor: share(head.plan) * total_due(head, terms, counts),
+    })
 }

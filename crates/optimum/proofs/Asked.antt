@@ -8,6 +8,7 @@ use mathlib.Core.List.{List, [], ◌∷◌}
 use Prim.Native.Nat.{ℕ, zero, suc, ◌≤◌, ◌<◌}
 use native.Mathlib.Omega.{arith}
 use lib.Dec.{leb, eqb}
+use Rattle.std.specs.Prelude.{Option, is_some}
 use lib.ListN.{length}
 use borrow.Author.Tests.{leb-true, ne_eqb}
 use Rattle.finite.specs.Finite.{every}
@@ -36,9 +37,9 @@ unfolding whole
 plan_is s i = (refl, refl)
 
 -- the audit tells question 1
-pub sound_told : (s : Day) (a : Audit) → a ≡ audited s → a.sound ≡ sound s
+pub sound_told : (s : Day) (a : Option Audit) → a ≡ audited s → sound s ≡ is_some a
 unfolding audited sound
-sound_told s a e = audit_sound (head_of s) (campaign s) a e
+sound_told s a e = sym (audit_sound (head_of s) (campaign s) a e)
 
 -- views pass question 13 exactly if each name in them is in the plan
 inside_means : (s : Day) (views : List ℕ)

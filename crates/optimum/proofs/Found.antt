@@ -1,40 +1,24 @@
 -- What the search found, said of the state: its own prices, and its whole plays in place of those divided out.
-use mathlib.Core.Path.{◌≡◌, refl, ap, ap₂, sym, ◌∙◌}
-use mathlib.Core.Logic.{◌⊎◌, inl, inr}
+use mathlib.Core.Path.{◌≡◌, refl, ap₂, sym, ◌∙◌}
 use mathlib.Core.Bool.{Bool, true}
 use mathlib.Core.List.{List}
-use Prim.Native.Nat.{ℕ, zero, suc, ◌+◌, ◌/◌, ◌<◌}
+use Prim.Native.Nat.{ℕ, zero, suc}
 use native.Mathlib.Omega.{arith}
-use lib.ListN.{length, set}
-use lib.Seq.{get_or-set_same, get_or-set_other}
+use lib.ListN.{length}
 use Rattle.allotments.specs.Allotment.{at, certified}
 use Rattle.allotments.proofs.Duality.{certified_wholes, test_certified}
 use Rattle.allotments.proofs.Most.{certified_most}
-use Rattle.allotments.proofs.Cases.{same_or_not}
 use Rattle.campaigns.specs.Campaign.{whole}
 use Rattle.day.specs.declared.Day.{Day}
-use Rattle.optimum.specs.Cited.{Divided}
-use Rattle.optimum.specs.declared.Optimum.TheVariants as optimum
-use Rattle.optimum.specs.declared.Verdict.TheVariants as verdict
+use Rattle.optimum.specs.Cited.{admission, Divided}
+use Rattle.std.specs.Prelude.{Ok, Err}
+use Rattle.refusal.specs.declared.Refusal.{Refusal}
 use Rattle.optimum.specs.Optimum.{plan_price, plan_whole, failed, fits, allotment_takings, most_of, answer_of}
 use Rattle.optimum.specs.Optimum.{Searched, verdict_of, checked}
 use Rattle.optimum.proofs.Asked.{Granted, few_campaigns}
 use Rattle.matching.specs.Method.{ByFallingPrice}
 use Rattle.matching.specs.Cited.{BestIs}
 use Rattle.matching.proofs.Method.{same_wholes}
-
--- the whole plays, divided out one by one
-pub divided_more : (n : ℕ) (terms wholes : List ℕ) → n < length wholes → Divided n terms wholes → Divided (n + 1)
-    terms (set wholes n (at terms (n + 64) / at terms n))
-divided_more n terms wholes l h i k = go (same_or_not i n)
-  where
-    x : ℕ
-    x = at terms (n + 64) / at terms n
-
-    go : (i ≡ n) ⊎ (i ≡ n → ⊥) → at (set wholes n x) i ≡ at terms (i + 64) / at terms i
-    go (inl e) = ap (at (set wholes n x)) e ∙ get_or-set_same wholes n x 0 l ∙ ap (λ (y : ℕ). at terms (y + 64) / at
-        terms y) (sym e)
-    go (inr ne) = get_or-set_other wholes n i x 0 ne ∙ h i (omega arith)
 
 -- the test with the whole plays divided out is the state's
 fits_is : (s : Day) (wholes : List ℕ) → Divided s.count s.terms wholes
@@ -49,9 +33,9 @@ fits_is s wholes d views allotment surplus worth =
 module _ {s : Day} {views allotment surplus worth : List ℕ} (g : Granted s views allotment surplus worth)
     (wholes : List ℕ) (d : Divided s.count s.terms wholes) where
   -- so is the answer of the check
-  pub check_answer : {b b' : Bool} → b ≡ certified s.count (at s.terms) (at wholes) (length views) (at views)
-      (at allotment) (at surplus) (at worth) → b ≡ b' → verdict_of 0 b' ≡ checked s views allotment surplus worth
-  check_answer h k = ap₂ verdict_of (sym g.none) (sym k ∙ h ∙ fits_is s wholes d views allotment surplus worth)
+  pub check_answer : {b : Bool} → b ≡ certified s.count (at s.terms) (at wholes) (length views) (at views)
+      (at allotment) (at surplus) (at worth) → Ok b ≡ checked s views allotment surplus worth
+  check_answer h = ap₂ verdict_of (sym g.none) (h ∙ fits_is s wholes d views allotment surplus worth)
 
   -- and what the search leaves
   module _ {allotment' surplus' worth' : List ℕ}
@@ -74,7 +58,7 @@ module _ {s : Day} {views allotment surplus worth : List ℕ} (g : Granted s vie
 
       pub search_found : {t : ℕ} → length allotment' ≡ length allotment → length surplus' ≡ length surplus
           → length worth' ≡ length worth → t ≡ allotment_takings s (length views) allotment'
-          → Searched s views allotment allotment' surplus surplus' worth worth' (optimum.Takings t)
+          → Searched s views allotment allotment' surplus surplus' worth worth' (Ok t)
       search_found la ls lw h = record {
         answer = ap₂ answer_of (sym g.none) (h ∙ most_taken);
         fit = λ i. certain;
@@ -84,26 +68,39 @@ module _ {s : Day} {views allotment surplus worth : List ℕ} (g : Granted s vie
         in_worth = record { same_length = lw; refused = λ no. absurd (no g.none); beyond = b.vs_beyond };
       }
 
--- a refusal leaves all as it was
-module _ (s : Day) (views allotment surplus worth : List ℕ) {q : ℕ} (e : q ≡ failed s views allotment surplus worth)
-    (no : q ≡ 0 → ⊥) where
-  pub search_refused : Searched s views allotment allotment surplus surplus worth worth (optimum.Refused q)
-  search_refused = record {
-    answer = named q no ∙ ap (λ (x : ℕ). answer_of x (most_of s views)) e;
-    fit = λ z. absurd (no (e ∙ z));
-    method = λ z. absurd (no (e ∙ z));
-    in_allotment = record { same_length = refl; refused = λ z. refl; beyond = λ j l. refl };
-    in_surplus = record { same_length = refl; refused = λ z. refl; beyond = λ j l. refl };
-    in_worth = record { same_length = refl; refused = λ z. refl; beyond = λ j l. refl };
-  }
-    where
-      named : (n : ℕ) → (n ≡ 0 → ⊥) → optimum.Refused n ≡ answer_of n (most_of s views)
-      named zero z = absurd (z refl)
-      named (suc n) z = refl
+-- what refuses is the refusal of the question that failed
+refused_by : (n : ℕ) {r : Refusal} → Err r ≡ admission n → n ≡ 0 → ⊥
+refused_by zero e z = cc
+refused_by (suc n) e z = omega (arith, z)
 
-  pub check_refused : verdict.Refused q ≡ checked s views allotment surplus worth
-  check_refused = named q no ∙ ap (λ (x : ℕ). verdict_of x (fits s views allotment surplus worth)) e
-    where
-      named : (n : ℕ) → (n ≡ 0 → ⊥) → verdict.Refused n ≡ verdict_of n (fits s views allotment surplus worth)
-      named zero z = absurd (z refl)
-      named (suc n) z = refl
+refused_answer : (n t : ℕ) {r : Refusal} → Err r ≡ admission n → Err r ≡ answer_of n t
+refused_answer zero t e = cc
+refused_answer (suc n) t e = cc
+
+refused_verdict : (n : ℕ) (b : Bool) {r : Refusal} → Err r ≡ admission n → Err r ≡ verdict_of n b
+refused_verdict zero b e = cc
+refused_verdict (suc n) b e = cc
+
+-- and where nothing refuses none failed
+pub none_failed : (n : ℕ) → Ok tt ≡ admission n → n ≡ 0
+none_failed zero e = refl
+none_failed (suc n) e = cc
+
+-- a refusal leaves all as it was
+module _ (s : Day) (views allotment surplus worth : List ℕ) {r : Refusal}
+    (e : Err r ≡ admission (failed s views allotment surplus worth)) where
+  pub search_refused : Searched s views allotment allotment surplus surplus worth worth (Err r)
+  search_refused =
+      let no = refused_by (failed s views allotment surplus worth) e in
+      record {
+        answer = refused_answer (failed s views allotment surplus worth) (most_of s views) e;
+        fit = λ z. absurd (no z);
+        method = λ z. absurd (no z);
+        in_allotment = record { same_length = refl; refused = λ z. refl; beyond = λ j l. refl };
+        in_surplus = record { same_length = refl; refused = λ z. refl; beyond = λ j l. refl };
+        in_worth = record { same_length = refl; refused = λ z. refl; beyond = λ j l. refl };
+      }
+
+  pub check_refused : Err r ≡ checked s views allotment surplus worth
+  check_refused =
+      refused_verdict (failed s views allotment surplus worth) (fits s views allotment surplus worth) e

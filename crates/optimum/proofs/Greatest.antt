@@ -17,7 +17,7 @@ use Rattle.allotments.proofs.Duality.{test_certified, certified_test, certified_
 use Rattle.allotments.proofs.Most.{certified_most}
 use Rattle.day.specs.declared.Day.{Day}
 use Rattle.questions.specs.Questions.{first_failed}
-use Rattle.optimum.specs.declared.Verdict.TheVariants as verdict
+use Rattle.std.specs.Prelude.{Ok}
 use Rattle.optimum.specs.Optimum.{plan_price, plan_whole, questions, failed, Fits, fits, most_of}
 use Rattle.optimum.specs.Optimum.{allotment_takings, answer_of, takings_questions, takings_answer}
 use Rattle.optimum.specs.Optimum.{verdict_of, AcceptsExactly, AcceptedIsBest, SearchAccepted, SearchTaken}
@@ -25,12 +25,11 @@ use Rattle.optimum.specs.Optimum.{SearchByMethod, verdict_number, verdict_values
 use Rattle.optimum.proofs.Asked.{Granted, granted, few_campaigns, number_found, values_found}
 
 -- an accepting answer: no question failed and the test passed
-from_accepted : (q : ℕ) (b : Bool) → verdict_of q b ≡ verdict.Accepted → (q ≡ 0) × (b ≡ true)
-from_accepted zero true e = (refl, refl)
-from_accepted zero false e = (refl, cc e)
-from_accepted (suc q) b e = (cc e, cc e)
+from_accepted : (q : ℕ) (b : Bool) → verdict_of q b ≡ Ok true → (q ≡ 0) × (b ≡ true)
+from_accepted zero b e = (refl, cc)
+from_accepted (suc q) b e = (cc, cc)
 
-to_accepted : (q : ℕ) (b : Bool) → q ≡ 0 → b ≡ true → verdict_of q b ≡ verdict.Accepted
+to_accepted : (q : ℕ) (b : Bool) → q ≡ 0 → b ≡ true → verdict_of q b ≡ Ok true
 to_accepted q b z t = ap₂ verdict_of z t
 
 module _ (s : Day) (views allotment surplus worth : List ℕ) where
@@ -108,8 +107,7 @@ search_by_method s views allotment allotment' surplus surplus' worth worth' r fo
 
 -- the numbers and the values of the answers
 number_told : (q : ℕ) (b : Bool) → verdict_number (verdict_of q b) ≡ q
-number_told zero true = refl
-number_told zero false = refl
+number_told zero b = refl
 number_told (suc q) b = refl
 
 values_told : (q : ℕ) (b : Bool) → verdict_values (verdict_of q b) ≡ cond (eqb q 0) (one_if b ∷ []) (q ∷ [])

@@ -1,14 +1,13 @@
 -- Request 4's questions and check by cases: campaign 0 of price 5 and two plays, campaign 1 of price 3 and one play.
-use Rattle.std.specs.Prelude.{◌≡◌, List, [], ◌∷◌, map, ℕ, get_or, replicate}
+use Rattle.std.specs.Prelude.{◌≡◌, Bool, true, false, List, [], ◌∷◌, map, ℕ, get_or, replicate, Result, Ok, Err}
+use Rattle.refusal.specs.declared.Refusal.{Refusal}
+use Rattle.refusal.specs.Refusal.{refusal}
 use Rattle.campaigns.specs.declared.Phase.{Phase}
 use Rattle.campaigns.specs.declared.Phase.TheVariants.{Filling, Running, Closed}
 use Rattle.campaigns.specs.Campaign.{fresh}
 use Rattle.day.specs.declared.Day.{Day}
 use Rattle.day.specs.Day.{state_with, no_terms}
 use Rattle.allotments.specs.Allotment.{nobody}
-use Rattle.optimum.specs.declared.Optimum.TheVariants as optimum
-use Rattle.optimum.specs.declared.Verdict.{Verdict}
-use Rattle.optimum.specs.declared.Verdict.TheVariants as verdict
 use Rattle.optimum.specs.Optimum.{number, search_answer, takings_answer, verdict_number, checked}
 
 -- the two campaigns, in a phase, with zero counts but the accepted views: 0 is sound, 4,097 is not
@@ -68,12 +67,12 @@ pub record Checking : Type 0 where
   pub allotment : List ℕ
   pub surplus : List ℕ
   pub worth : List ℕ
-  pub answer : Verdict
+  pub answer : Result Bool Refusal
 
-abbrev pub checking : (allotment surplus worth : List ℕ) → Verdict → Checking
+abbrev pub checking : (allotment surplus worth : List ℕ) → Result Bool Refusal → Checking
 checking allotment surplus worth v = record { allotment = allotment; surplus = surplus; worth = worth; answer = v }
 
-abbrev pub checked_in : Phase → (views : List ℕ) → Checking → Verdict
+abbrev pub checked_in : Phase → (views : List ℕ) → Checking → Result Bool Refusal
 checked_in p views x = checked (two_campaigns p 0) views x.allotment x.surplus x.worth
 
 -- four views: two name both campaigns, two name 0 alone
@@ -83,28 +82,28 @@ four_views = 3 ∷ 3 ∷ 1 ∷ 1 ∷ []
 abbrev pub checkings : List Checking
 checkings =
     -- 10 + 3 for the campaigns' plays, which is what the allotment takes; and another allotment that they fit
-    checking (0 ∷ 1 ∷ 0 ∷ nobody ∷ []) (5 ∷ 3 ∷ []) (0 ∷ 0 ∷ 0 ∷ 0 ∷ []) verdict.Accepted ∷
-    checking (1 ∷ nobody ∷ 0 ∷ 0 ∷ []) (5 ∷ 3 ∷ []) (0 ∷ 0 ∷ 0 ∷ 0 ∷ []) verdict.Accepted ∷
+    checking (0 ∷ 1 ∷ 0 ∷ nobody ∷ []) (5 ∷ 3 ∷ []) (0 ∷ 0 ∷ 0 ∷ 0 ∷ []) (Ok true) ∷
+    checking (1 ∷ nobody ∷ 0 ∷ 0 ∷ []) (5 ∷ 3 ∷ []) (0 ∷ 0 ∷ 0 ∷ 0 ∷ []) (Ok true) ∷
     -- view 0 names campaign 1, of price 3, whose figures are 0 and 0
-    checking (0 ∷ 1 ∷ 0 ∷ nobody ∷ []) (5 ∷ 0 ∷ []) (0 ∷ 3 ∷ 0 ∷ 0 ∷ []) verdict.Rejected ∷
+    checking (0 ∷ 1 ∷ 0 ∷ nobody ∷ []) (5 ∷ 0 ∷ []) (0 ∷ 3 ∷ 0 ∷ 0 ∷ []) (Ok false) ∷
     -- the figures sum to 14
-    checking (0 ∷ 1 ∷ 0 ∷ nobody ∷ []) (5 ∷ 3 ∷ []) (1 ∷ 0 ∷ 0 ∷ 0 ∷ []) verdict.Rejected ∷
+    checking (0 ∷ 1 ∷ 0 ∷ nobody ∷ []) (5 ∷ 3 ∷ []) (1 ∷ 0 ∷ 0 ∷ 0 ∷ []) (Ok false) ∷
     -- campaign 0 gets three views, and its whole plays are two
-    checking (0 ∷ 0 ∷ 0 ∷ nobody ∷ []) (5 ∷ 3 ∷ []) (2 ∷ 0 ∷ 0 ∷ 0 ∷ []) verdict.Rejected ∷
+    checking (0 ∷ 0 ∷ 0 ∷ nobody ∷ []) (5 ∷ 3 ∷ []) (2 ∷ 0 ∷ 0 ∷ 0 ∷ []) (Ok false) ∷
     -- the last view does not name campaign 1
-    checking (0 ∷ 0 ∷ nobody ∷ 1 ∷ []) (5 ∷ 3 ∷ []) (0 ∷ 0 ∷ 0 ∷ 0 ∷ []) verdict.Rejected ∷
+    checking (0 ∷ 0 ∷ nobody ∷ 1 ∷ []) (5 ∷ 3 ∷ []) (0 ∷ 0 ∷ 0 ∷ 0 ∷ []) (Ok false) ∷
     -- 128 is no campaign, and nobody is 64 alone
-    checking (0 ∷ 1 ∷ 0 ∷ 128 ∷ []) (5 ∷ 3 ∷ []) (0 ∷ 0 ∷ 0 ∷ 0 ∷ []) verdict.Rejected ∷
+    checking (0 ∷ 1 ∷ 0 ∷ 128 ∷ []) (5 ∷ 3 ∷ []) (0 ∷ 0 ∷ 0 ∷ 0 ∷ []) (Ok false) ∷
     -- a question is asked first
-    checking (0 ∷ 1 ∷ 0 ∷ []) (5 ∷ 3 ∷ []) (0 ∷ 0 ∷ 0 ∷ 0 ∷ []) (verdict.Refused 18) ∷ []
+    checking (0 ∷ 1 ∷ 0 ∷ []) (5 ∷ 3 ∷ []) (0 ∷ 0 ∷ 0 ∷ 0 ∷ []) (Err (refusal 18)) ∷ []
 
 -- one view, which names 0 alone
 abbrev pub checkings_of_one : List Checking
 checkings_of_one =
     -- 5 for the view, which is what the allotment takes
-    checking (0 ∷ []) (0 ∷ 0 ∷ []) (5 ∷ []) verdict.Accepted ∷
+    checking (0 ∷ []) (0 ∷ 0 ∷ []) (5 ∷ []) (Ok true) ∷
     -- 10 for both plays of campaign 0, though only one view is there to play
-    checking (0 ∷ []) (5 ∷ 0 ∷ []) (0 ∷ []) verdict.Rejected ∷ []
+    checking (0 ∷ []) (5 ∷ 0 ∷ []) (0 ∷ []) (Ok false) ∷ []
 
 -- f gives a in every phase
 abbrev pub phases : List Phase
@@ -123,10 +122,10 @@ pub record Examples : Type 0 where
       (map (λ x. x.answer) checkings_of_one)
   pub searched : InEachPhase
       (λ p. search_answer (two_campaigns p 0) four_views (replicate 4 0) (replicate 2 0) (replicate 4 0))
-      (optimum.Takings 13)
-  pub taken : InEachPhase (λ p. takings_answer (two_campaigns p 0) (0 ∷ nobody ∷ 1 ∷ 0 ∷ [])) (optimum.Takings 13)
+      (Ok 13)
+  pub taken : InEachPhase (λ p. takings_answer (two_campaigns p 0) (0 ∷ nobody ∷ 1 ∷ 0 ∷ [])) (Ok 13)
   -- no allotment: three entries for campaign 0, which has two plays, and one that names no campaign
-  pub taken_beyond : InEachPhase (λ p. takings_answer (two_campaigns p 0) (0 ∷ 0 ∷ 0 ∷ 7 ∷ [])) (optimum.Takings 15)
-  pub taken_not_sound : InEachPhase (λ p. takings_answer (two_campaigns p 4_097) (0 ∷ [])) (optimum.Refused 1)
+  pub taken_beyond : InEachPhase (λ p. takings_answer (two_campaigns p 0) (0 ∷ 0 ∷ 0 ∷ 7 ∷ [])) (Ok 15)
+  pub taken_not_sound : InEachPhase (λ p. takings_answer (two_campaigns p 4_097) (0 ∷ [])) (Err (refusal 1))
   pub many : map (check_number Running) askings_of_many ≡ map (λ x. x.question) askings_of_many
-  pub takings_of_many : takings_answer (two_campaigns Running 0) (replicate 257 0) ≡ optimum.Refused 19
+  pub takings_of_many : takings_answer (two_campaigns Running 0) (replicate 257 0) ≡ Err (refusal 19)

@@ -2,20 +2,19 @@
 -- only the plan of the state counts: prices, budgets and the number of campaigns. A view is its set of unpaused names.
 use Rattle.std.specs.Prelude.{◌≡◌, Bool, true, false, cond, ◌&&◌, List, [], ◌∷◌, ◌↔◌, ℕ, zero, suc, ◌/◌, ◌≤◌, ◌<◌}
 use Rattle.std.specs.Prelude.{leb, eqb, length, take}
+use Rattle.std.specs.Prelude.{Result, Ok, Err}
 use Rattle.finite.specs.Finite.{sum, one_if, every}
 use Rattle.sets.specs.Set.{member, within}
 use Rattle.campaigns.specs.Campaign.{whole}
 use Rattle.day.specs.declared.Day.{Day}
 use Rattle.day.specs.Day.{campaign, sound}
 use Rattle.questions.specs.Questions.{Question, question, first_failed, asks, accepts}
+use Rattle.refusal.specs.declared.Refusal.{Refusal}
+use Rattle.refusal.specs.Refusal.{refusal}
 use Rattle.allotments.specs.Limits.{max_handed_in}
 use Rattle.allotments.specs.Allotment.{at, Allotment, brings, takings, Greatest, Certified, certified}
 use Rattle.allotments.specs.Most.{most}
 use Rattle.matching.specs.Method.{ByFallingPrice}
-use Rattle.optimum.specs.declared.Optimum.{Optimum}
-use Rattle.optimum.specs.declared.Optimum.TheVariants as optimum
-use Rattle.optimum.specs.declared.Verdict.{Verdict}
-use Rattle.optimum.specs.declared.Verdict.TheVariants as verdict
 
 -- the plan of a state: its prices and whole plays
 abbrev pub plan_price : Day → ℕ → ℕ
@@ -73,21 +72,21 @@ abbrev pub allotment_takings : Day → (m : ℕ) (allotment : List ℕ) → ℕ
 allotment_takings s m allotment = takings s.count (plan_price s) m (at allotment)
 
 -- an answer with takings: its number, that of the question that failed or 0, and its values
-abbrev pub number : Optimum → ℕ
-number (optimum.Refused q) = q
-number (optimum.Takings t) = 0
+abbrev pub number : Result ℕ Refusal → ℕ
+number (Err r) = r.question
+number (Ok t) = 0
 
-abbrev pub values : Optimum → List ℕ
-values (optimum.Refused q) = q ∷ []
-values (optimum.Takings t) = t ∷ []
+abbrev pub values : Result ℕ Refusal → List ℕ
+values (Err r) = r.question ∷ []
+values (Ok t) = t ∷ []
 
 -- the answer, from the number of the question that failed
-abbrev pub answer_of : (question takings : ℕ) → Optimum
-answer_of zero t = optimum.Takings t
-answer_of (suc q) t = optimum.Refused (suc q)
+abbrev pub answer_of : (question takings : ℕ) → Result ℕ Refusal
+answer_of zero t = Ok t
+answer_of (suc q) t = Err (refusal (suc q))
 
 -- that of the search
-abbrev pub search_answer : Day → (views allotment surplus worth : List ℕ) → Optimum
+abbrev pub search_answer : Day → (views allotment surplus worth : List ℕ) → Result ℕ Refusal
 search_answer s views allotment surplus worth = answer_of (failed s views allotment surplus worth) (most_of s views)
 
 -- what the search leaves in a lent list: as many entries, as they were where a question failed, else from n on
@@ -99,7 +98,7 @@ pub record LeftAsItWas (question n : ℕ) (before after : List ℕ) : Type 0 whe
 -- The search. Its answer is determined. Which of several greatest allotments it leaves is free, and so are the figures
 -- that fit it: they fit, whatever comes out. The allotment is made by serving campaigns in falling price, until none is
 -- left unserved.
-pub record Searched (s : Day) (views allotment allotment' surplus surplus' worth worth' : List ℕ) (r : Optimum)
+pub record Searched (s : Day) (views allotment allotment' surplus surplus' worth worth' : List ℕ) (r : Result ℕ Refusal)
     : Type 0 where
   pub answer : r ≡ search_answer s views allotment surplus worth
   pub fit : failed s views allotment surplus worth ≡ 0 → fits s views allotment' surplus' worth' ≡ true
@@ -113,43 +112,41 @@ pub record Searched (s : Day) (views allotment allotment' surplus surplus' worth
 abbrev pub takings_questions : Day → (allotment : List ℕ) → List Question
 takings_questions s allotment = question 1 (sound s) ∷ question 19 (leb (length allotment) max_handed_in) ∷ []
 
-unfoldable pub takings_answer : Day → (allotment : List ℕ) → Optimum
+unfoldable pub takings_answer : Day → (allotment : List ℕ) → Result ℕ Refusal
 takings_answer s allotment =
     answer_of (first_failed (takings_questions s allotment)) (allotment_takings s (length allotment) allotment)
 
 -- in request 4's words: 1, then 19; else each entry that names a campaign brings its price, also beyond its whole plays
-pub record TellsTakings (s : Day) (allotment : List ℕ) (r : Optimum) : Type 0 where
+pub record TellsTakings (s : Day) (allotment : List ℕ) (r : Result ℕ Refusal) : Type 0 where
   pub asked : asks 1 (sound s ≡ true) (asks 19 (length allotment ≤ 256) accepts) (number r)
   pub answered : number r ≡ 0
-      → r ≡ optimum.Takings (sum (length allotment) (λ j. brings s.count (plan_price s) (at allotment j)))
+      → r ≡ Ok (sum (length allotment) (λ j. brings s.count (plan_price s) (at allotment j)))
 
 abbrev pub AlwaysTellsTakings : Type 0
 AlwaysTellsTakings = (s : Day) (allotment : List ℕ) → TellsTakings s allotment (takings_answer s allotment)
 
 -- the check's answer: its number, as above, and its values, 1 where it accepts
-abbrev pub verdict_number : Verdict → ℕ
-verdict_number (verdict.Refused q) = q
-verdict_number verdict.Accepted = 0
-verdict_number verdict.Rejected = 0
+abbrev pub verdict_number : Result Bool Refusal → ℕ
+verdict_number (Err e) = e.question
+verdict_number (Ok accepted) = 0
 
-abbrev pub verdict_values : Verdict → List ℕ
-verdict_values (verdict.Refused q) = q ∷ []
-verdict_values verdict.Accepted = 1 ∷ []
-verdict_values verdict.Rejected = 0 ∷ []
+abbrev pub verdict_values : Result Bool Refusal → List ℕ
+verdict_values (Err e) = e.question ∷ []
+verdict_values (Ok true) = 1 ∷ []
+verdict_values (Ok false) = 0 ∷ []
 
-abbrev pub verdict_of : (question : ℕ) → Bool → Verdict
-verdict_of zero true = verdict.Accepted
-verdict_of zero false = verdict.Rejected
-verdict_of (suc q) b = verdict.Refused (suc q)
+abbrev pub verdict_of : (question : ℕ) → Bool → Result Bool Refusal
+verdict_of zero b = Ok b
+verdict_of (suc q) b = Err (refusal (suc q))
 
-abbrev pub checked : Day → (views allotment surplus worth : List ℕ) → Verdict
+abbrev pub checked : Day → (views allotment surplus worth : List ℕ) → Result Bool Refusal
 checked s views allotment surplus worth =
     verdict_of (failed s views allotment surplus worth) (fits s views allotment surplus worth)
 
 -- the check accepts exactly the allotments with figures that fit them
 abbrev pub AcceptsExactly : Type 0
 AcceptsExactly = (s : Day) (views allotment surplus worth : List ℕ)
-    → (checked s views allotment surplus worth ≡ verdict.Accepted)
+    → (checked s views allotment surplus worth ≡ Ok true)
     ↔ ((failed s views allotment surplus worth ≡ 0) × Fits s views allotment surplus worth)
 
 -- what it accepts is an allotment that none exceeds, and its takings are the most
@@ -160,23 +157,23 @@ pub record BestAllotment (s : Day) (views allotment : List ℕ) : Type 0 where
 
 abbrev pub AcceptedIsBest : Type 0
 AcceptedIsBest = (s : Day) (views allotment surplus worth : List ℕ)
-    → checked s views allotment surplus worth ≡ verdict.Accepted → BestAllotment s views allotment
+    → checked s views allotment surplus worth ≡ Ok true → BestAllotment s views allotment
 
 -- and it accepts what the search leaves
 abbrev pub SearchAccepted : Type 0
-SearchAccepted = (s : Day) (views allotment allotment' surplus surplus' worth worth' : List ℕ) (r : Optimum)
+SearchAccepted = (s : Day) (views allotment allotment' surplus surplus' worth worth' : List ℕ) (r : Result ℕ Refusal)
     → Searched s views allotment allotment' surplus surplus' worth worth' r
-    → failed s views allotment surplus worth ≡ 0 → checked s views allotment' surplus' worth' ≡ verdict.Accepted
+    → failed s views allotment surplus worth ≡ 0 → checked s views allotment' surplus' worth' ≡ Ok true
 
 -- whose takings are its answer
 abbrev pub SearchTaken : Type 0
-SearchTaken = (s : Day) (views allotment allotment' surplus surplus' worth worth' : List ℕ) (r : Optimum)
+SearchTaken = (s : Day) (views allotment allotment' surplus surplus' worth worth' : List ℕ) (r : Result ℕ Refusal)
     → Searched s views allotment allotment' surplus surplus' worth worth' r
     → failed s views allotment surplus worth ≡ 0 → takings_answer s (take (length views) allotment') ≡ r
 
 -- and which is made by serving campaigns in falling price
 abbrev pub SearchByMethod : Type 0
-SearchByMethod = (s : Day) (views allotment allotment' surplus surplus' worth worth' : List ℕ) (r : Optimum)
+SearchByMethod = (s : Day) (views allotment allotment' surplus surplus' worth worth' : List ℕ) (r : Result ℕ Refusal)
     → Searched s views allotment allotment' surplus surplus' worth worth' r
     → failed s views allotment surplus worth ≡ 0
     → ByFallingPrice s.count (plan_price s) (plan_whole s) views allotment' 0

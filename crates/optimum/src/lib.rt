@@ -7,74 +7,51 @@ ghost use Rattle.campaigns.specs.Limits.{max_campaigns};
 ghost use Rattle.finite.specs.Finite.{every};
 ghost use Rattle.sets.specs.Set.{within};
 ghost use Rattle.day.specs.Day.{state_of};
-ghost use Rattle.questions.specs.Questions.{first_failed};
 ghost use Rattle.allotments.specs.Allotment.{at};
-ghost use Rattle.optimum.specs.Optimum.{questions, Searched, takings_answer, checked};
-ghost use Rattle.optimum.specs.Cited.{Divided};
+ghost use Rattle.optimum.specs.Optimum.{failed, Searched, takings_answer, checked};
+ghost use Rattle.optimum.specs.Cited.{admission, Divided};
 
 use campaigns::{BUDGETS, Head};
 use day::ops::audited;
+use refusal::Refusal;
 
-// Question 19's limit: what `first_failed` and `takings` answer by it is proved against `max_handed_in`.
+// Question 19's limit: what `admitted` and `takings` answer by it is proved against `max_handed_in`.
 const MAX_HANDED_IN: usize = 256;
-
-// The number of the question that failed, or takings: of the search, the greatest.
-#[derive(Clone, Copy)]
-pub enum Optimum {
-    Refused(u64),
-    Takings(u64),
-}
-
-// The number of the question that failed, or whether the check accepts.
-#[derive(Clone, Copy)]
-pub enum Verdict {
-    Refused(u64),
-    Accepted,
-    Rejected,
-}
 
 // Question 13 of every view.
 fn all_within(count: u64, views: &[u64]) -> bool
     ensures { result ≡ every (length views.now) (λ j. within count (at views.now j)) }
 {
-    let mut j = 0;
-    while j < views.len() {
-        if !sets::within(views[j], count) {
-            return false;
-        }
-        j += 1;
-    }
-    true
+    views.iter().all(|view| sets::within(*view, count))
 }
 
-// The number of the first of questions 1, 19, 13 and 18 that fails, or 0.
-fn first_failed<'a>(
+// The first of questions 1, 19, 13 and 18 that fails refuses.
+fn admitted<'a>(
     head: Head,
     terms: &'a [u32; 128],
     counts: &'a [u16; 256],
     views: &'a [u64],
-    entries: usize,
-    campaigns: usize,
-    figures: usize,
-) -> u64
-    ensures { result ≡ first_failed (questions (state_of head terms.now counts.now)
-        views.now entries campaigns figures) }
+    allotment: &'a [u64],
+    surplus: &'a [u64],
+    worth: &'a [u64],
+) -> Result<(), Refusal>
+    ensures { result ≡ admission (failed (state_of head terms.now counts.now)
+        views.now allotment.now surplus.now worth.now) }
 {
-    let audit = audited(head, terms, counts);
-    if !audit.sound {
-        return 1;
+    if audited(head, terms, counts).is_none() {
+        return Err(Refusal::UNSOUND);
     }
     let n = views.len();
     if MAX_HANDED_IN < n {
-        return 19;
+        return Err(Refusal::MANY_VIEWS);
     }
     if !all_within(head.count, views) {
-        return 13;
+        return Err(Refusal::OUTSIDE);
     }
-    if (n <= entries) & (head.count <= campaigns as u64) & (n <= figures) {
-        return 0;
+    if (n <= allotment.len()) & (head.count <= surplus.len() as u64) & (n <= worth.len()) {
+        return Ok(());
     }
-    18
+    Err(Refusal::NO_ROOM)
 }
 
 // The whole plays of the first campaigns, divided out once.
@@ -90,7 +67,8 @@ fn whole_plays(count: u64, terms: &[u32; 128]) -> [u32; 64]
     wholes
 }
 
-// An allotment with the greatest takings and figures that fit it, in the lent entries; those beyond keep their values.
+// The greatest takings, and in the lent entries an allotment that takes them and figures that fit it; those beyond keep
+// their values.
 pub fn search<'a>(
     head: Head,
     terms: &'a [u32; 128],
@@ -99,21 +77,16 @@ pub fn search<'a>(
     allotment: &'a mut [u64],
     surplus: &'a mut [u64],
     worth: &'a mut [u64],
-) -> Optimum
+) -> Result<u64, Refusal>
     ensures { Searched (state_of head terms.now counts.now) views.now
         allotment.old allotment.new surplus.old surplus.new
         worth.old worth.new result }
 {
-    let entries = allotment.len();
-    let campaigns = surplus.len();
-    let figures = worth.len();
-    let question = first_failed(head, terms, counts, views, entries, campaigns, figures);
-    if question != 0 {
-        return Optimum::Refused(question);
-    }
+    // the questions only read what is lent
+    admitted(head, terms, counts, views, &*allotment, &*surplus, &*worth)?;
     let wholes = whole_plays(head.count, terms);
     matching::allot(head.count, terms, &wholes, views, allotment, surplus, worth);
-    Optimum::Takings(certificate::takings(head.count, terms, views.len(), allotment))
+    Ok(certificate::takings(head.count, terms, views.len(), allotment))
 }
 
 // The takings of an allotment: its prices, summed.
@@ -122,19 +95,18 @@ pub fn takings<'a>(
     terms: &'a [u32; 128],
     counts: &'a [u16; 256],
     allotment: &'a [u64],
-) -> Optimum
+) -> Result<u64, Refusal>
     ensures { result ≡ takings_answer (state_of head terms.now counts.now)
         allotment.now }
 {
-    let audit = audited(head, terms, counts);
-    if !audit.sound {
-        return Optimum::Refused(1);
+    if audited(head, terms, counts).is_none() {
+        return Err(Refusal::UNSOUND);
     }
     let entries = allotment.len();
     if MAX_HANDED_IN < entries {
-        return Optimum::Refused(19);
+        return Err(Refusal::MANY_VIEWS);
     }
-    Optimum::Takings(certificate::takings(head.count, terms, entries, allotment))
+    Ok(certificate::takings(head.count, terms, entries, allotment))
 }
 
 // Is this an allotment with figures that fit it?
@@ -146,20 +118,11 @@ pub fn check<'a>(
     allotment: &'a [u64],
     surplus: &'a [u64],
     worth: &'a [u64],
-) -> Verdict
+) -> Result<bool, Refusal>
     ensures { result ≡ checked (state_of head terms.now counts.now) views.now
         allotment.now surplus.now worth.now }
 {
-    let entries = allotment.len();
-    let campaigns = surplus.len();
-    let figures = worth.len();
-    let question = first_failed(head, terms, counts, views, entries, campaigns, figures);
-    if question != 0 {
-        return Verdict::Refused(question);
-    }
+    admitted(head, terms, counts, views, allotment, surplus, worth)?;
     let wholes = whole_plays(head.count, terms);
-    if certificate::certified(head.count, terms, wholes, views, allotment, surplus, worth) {
-        return Verdict::Accepted;
-    }
-    Verdict::Rejected
+    Ok(certificate::certified(head.count, terms, wholes, views, allotment, surplus, worth))
 }

@@ -4,13 +4,12 @@ use mathlib.Core.Path.{◌≡◌, refl, sym, ap, ◌∙◌, subst}
 use mathlib.Core.List.{List, [], ◌∷◌, ◌++◌, append_assoc}
 use Prim.Native.Nat.{ℕ, suc, ◌+◌, ◌-◌, ◌/◌, ◌%◌, ◌^◌, ◌≤◌, ◌<◌}
 use native.Mathlib.Omega.{arith}
-use lib.ListN.{length, drop, replicate, set, length-set, length-replicate, replicate-append-replicate}
+use lib.ListN.{length, drop, replicate, set, length-set, length-replicate}
 use lib.ListN.{length-append, length-drop, drop_of_length-le}
 use lib.Seq.{drop-cons}
 use Rattle.finite.specs.Finite.{table}
 use Rattle.finite.proofs.Tables.{get_or_table, length_table}
-use Rattle.buffer.specs.Buffer.{over, Put}
-use Rattle.buffer.proofs.Over.{over_snoc, over_front}
+use Rattle.buffer.specs.Buffer.{Put}
 use Rattle.buffer.proofs.Puts.{put_none, put_byte, put_before}
 use Rattle.lines.specs.Numeral.{numeral}
 use Rattle.lines.specs.Form.{bytes}
@@ -18,19 +17,6 @@ use Rattle.page.specs.Page.{Row, RowFits, line_length, flush, cents, row_text, t
 use Rattle.page.specs.Cited.{Spaced, Lays, LineRoom}
 use Rattle.page.proofs.Texts.{number_3, number_6, cents_11, cents_14}
 use Rattle.page.proofs.Spaces.{spaced_gap, spaced_flush, spaced_byte}
-
--- Spaces, one by one.
-
-pub clear_next : (d : List ℕ) (i : ℕ) → set (over d 0 (replicate i 32)) i 32 ≡ over d 0 (replicate (i + 1) 32)
-clear_next d i =
-    let e : i ≡ 0 + length (replicate {A = ℕ} i 32) = omega (arith, length-replicate {A = ℕ} i 32) in
-    ap (λ (k : ℕ). set (over d 0 (replicate i 32)) k 32) e ∙ over_snoc d 0 (replicate i 32) 32
-    ∙ ap (over d 0) (replicate-append-replicate i 1 32)
-
-pub clear_all : (d : List ℕ) (n : ℕ) → n ≤ length d → over d 0 (replicate n 32) ≡ replicate n 32 ++ drop n d
-clear_all d n h =
-    let k = length-replicate {A = ℕ} n 32 in
-    over_front d (replicate n 32) (omega arith) ∙ ap (λ (j : ℕ). replicate n 32 ++ drop j d) k
 
 pub cleared_length : {e : List ℕ} (d : List ℕ) (n : ℕ) → n ≤ length d → e ≡ replicate n 32 ++ drop n d
     → length e ≡ length d

@@ -13,7 +13,8 @@ use Rattle.day.specs.Day.{campaign, total_takings}
 use Rattle.questions.specs.Questions.{first_failed}
 use Rattle.day.specs.Day.{sound}
 use Rattle.day.proofs.State.{sound_facts}
-use Rattle.page.specs.declared.Printing.TheVariants.{Length, Refusal}
+use Rattle.refusal.specs.Refusal.{refusal}
+use Rattle.std.specs.Prelude.{Ok, Err}
 use Rattle.page.specs.Page.{line_length, total_text, page}
 use Rattle.page.specs.Figures.{page_row, figures}
 use Rattle.page.specs.Printing.{page_of, page_question, printing, printed}
@@ -23,7 +24,7 @@ use Rattle.page.proofs.ReadBack.{page_length}
 use Rattle.page.proofs.Promises.{sound_fits}
 
 module _ (s : Day) (d : List ℕ) where
-  pub unsound : sound s ≡ false → (Refusal 1 ≡ printing s d) × (d ≡ printed s d)
+  pub unsound : sound s ≡ false → (Err (refusal 1) ≡ printing s d) × (d ≡ printed s d)
   unfolding printing printed page_question first_failed
   unsound e = (rw e, rw e)
 
@@ -34,7 +35,7 @@ module _ (s : Day) (d : List ℕ) where
     long =
         omega (arith, page_length (figures s) (sound_fits s e), length_table s.count (λ i. page_row (campaign s i)))
 
-    pub no_room : length d < line_length * s.count + line_length → (Refusal 18 ≡ printing s d) × (d ≡ printed s d)
+    pub no_room : length d < line_length * s.count + line_length → (Err (refusal 18) ≡ printing s d) × (d ≡ printed s d)
     unfolding printing printed page_question first_failed
     no_room l =
         let f : leb (length (page_of s)) (length d) ≡ false =
@@ -45,7 +46,7 @@ module _ (s : Day) (d : List ℕ) where
     pub laid : {d₁ d₂ d₃ : List ℕ} (n : ℕ) → n ≡ line_length * s.count + line_length → n ≤ length d
         → d₁ ≡ replicate n 32 ++ drop n d → Lays d₁ d₂ (n - line_length) n (total_text (total_takings s) ++ (10 ∷ []))
         → Lays d₂ d₃ 0 (line_length * s.count) (campaign_lines s.count (campaign s))
-        → (Length n ≡ printing s d) × (d₃ ≡ printed s d)
+        → (Ok n ≡ printing s d) × (d₃ ≡ printed s d)
     unfolding printing printed page_question first_failed page figures
     laid {d₁} {d₂} {d₃} n k l c p q =
         let f : leb (length (page_of s)) (length d) ≡ true =
@@ -54,7 +55,7 @@ module _ (s : Day) (d : List ℕ) where
         let mid : n - line_length ≡ line_length * s.count = omega arith in
         let all = lays_before (rw mid at p) q in
         let stands = all.lays (drop n d) (record { is = c }) in (
-          rw (e, f) (ap Length m),
+          rw (e, f) (ap Ok m),
           rw (e, f) (stands.is ∙ ap (λ (j : ℕ). page_of s ++ drop j d) m),
         )
 
@@ -66,7 +67,7 @@ module _ (s : Day) (d : List ℕ) where
           let few = (sound_facts s e).few in
           rw (e, le-leb (length (page_of s)) (length d) (omega (arith, long)))
 
-      pub prints : printing s d ≡ Length (length (page_of s))
+      pub prints : printing s d ≡ Ok (length (page_of s))
       unfolding printing
       prints = rw no_question
 

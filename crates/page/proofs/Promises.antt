@@ -21,7 +21,8 @@ use Rattle.day.specs.Day.{campaign, total_takings, total_budgets}
 use Rattle.day.specs.Day.{sound}
 use Rattle.questions.specs.Questions.{first_failed}
 use Rattle.day.proofs.State.{Sound, sound_facts, held_at}
-use Rattle.page.specs.declared.Printing.TheVariants.{Length, Refusal}
+use Rattle.refusal.specs.Refusal.{refusal}
+use Rattle.std.specs.Prelude.{Ok, Err}
 use Rattle.page.specs.Page.{Row, RowFits, AllFit, FiguresFit, line_length, page, read_page}
 use Rattle.page.specs.Figures.{page_row, figures}
 use Rattle.page.specs.Printing.{page_of, page_question, printing, printed, number, values, Tells}
@@ -117,11 +118,11 @@ tells s d = record {
     q : ℕ
     q = page_question s d
 
-    numbered : (t : Bool) → eqb q 0 ≡ t → number (cond t (Length (length (page_of s))) (Refusal q)) ≡ q
+    numbered : (t : Bool) → eqb q 0 ≡ t → number (cond t (Ok (length (page_of s))) (Err (refusal q))) ≡ q
     numbered true e = sym (eqb-true q 0 e)
     numbered false e = refl
 
-    valued : (t : Bool) → values (cond t (Length (length (page_of s))) (Refusal q))
+    valued : (t : Bool) → values (cond t (Ok (length (page_of s))) (Err (refusal q)))
         ≡ cond t (length (page_of s) ∷ []) (q ∷ [])
     valued true = refl
     valued false = refl

@@ -1,14 +1,14 @@
 -- Pages as they read, computed: that of document 01's listing at its end, that of no campaigns, and two with great
 -- figures, a campaign at the limits of document 01 and the greatest that the columns hold; three are read back. And
 -- questions 1 and 18 of a page, with what is left in the lent buffer.
-use Rattle.std.specs.Prelude.{◌≡◌, List, [], ◌∷◌, ◌++◌, ℕ, replicate}
+use Rattle.std.specs.Prelude.{◌≡◌, List, [], ◌∷◌, ◌++◌, ℕ, replicate, Result, Ok, Err}
 use Prim.Native.String.{String}
 use Rattle.campaigns.specs.declared.Phase.TheVariants.{Closed}
 use Rattle.day.specs.declared.Day.{Day}
 use Rattle.day.specs.Day.{in_phase, blank}
 use Rattle.lines.specs.Form.{bytes}
-use Rattle.page.specs.declared.Printing.{Printing}
-use Rattle.page.specs.declared.Printing.TheVariants.{Length, Refusal}
+use Rattle.refusal.specs.declared.Refusal.{Refusal}
+use Rattle.refusal.specs.Refusal.{refusal}
 use Rattle.page.specs.Page.{Row, Figures, page, read_page}
 use Rattle.page.specs.Printing.{printing, printed}
 
@@ -42,7 +42,7 @@ columns = record {
 }
 
 -- printing the page of a state into a lent buffer of so many bytes, all 7: the answer, and the buffer afterwards
-abbrev pub Leaves : Day → (room : ℕ) → Printing → (after : List ℕ) → Type 0
+abbrev pub Leaves : Day → (room : ℕ) → Result ℕ Refusal → (after : List ℕ) → Type 0
 Leaves s n a after = (printing s (replicate n 7) ≡ a) × (printed s (replicate n 7) ≡ after)
 
 -- a state that is not sound: its Closed phase does not hold the takings
@@ -68,9 +68,9 @@ pub record Examples : Type 0 where
       "total               99999999999.99      " ∷ [])
   pub columns_back : read_page (page columns) ≡ columns
   -- the blank state's page: room for all of it, a byte beyond, which keeps its value, and a byte too few
-  pub exact_room : Leaves blank 41 (Length 41) nothing_text
-  pub later_byte : Leaves blank 42 (Length 41) (nothing_text ++ (7 ∷ []))
-  pub one_short : Leaves blank 40 (Refusal 18) (replicate 40 7)
+  pub exact_room : Leaves blank 41 (Ok 41) nothing_text
+  pub later_byte : Leaves blank 42 (Ok 41) (nothing_text ++ (7 ∷ []))
+  pub one_short : Leaves blank 40 (Err (refusal 18)) (replicate 40 7)
   -- 1 is asked, and before 18
-  pub unsound : Leaves wrongly_closed 41 (Refusal 1) (replicate 41 7)
-  pub soundness_first : Leaves wrongly_closed 40 (Refusal 1) (replicate 40 7)
+  pub unsound : Leaves wrongly_closed 41 (Err (refusal 1)) (replicate 41 7)
+  pub soundness_first : Leaves wrongly_closed 40 (Err (refusal 1)) (replicate 40 7)

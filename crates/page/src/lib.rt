@@ -1,7 +1,7 @@
 // The station's page: a line for each campaign and one for the takings, printed into a lent buffer.
 #![tactic(auto)]
 
-ghost use Rattle.std.specs.Prelude.{◌≡◌, ◌++◌, ◌∷◌, [], ◌+◌, ◌*◌, ◌-◌, ◌^◌, ◌≤◌, ◌<◌, length, drop, replicate};
+ghost use Rattle.std.specs.Prelude.{◌≡◌, ◌++◌, ◌∷◌, [], ◌*◌, ◌-◌, ◌^◌, ◌≤◌, ◌<◌, length};
 ghost use Rattle.buffer.specs.Buffer.{Put, RoomFor};
 ghost use Rattle.campaigns.specs.Campaign.{campaign_at};
 ghost use Rattle.day.specs.Day.{state_of};
@@ -15,28 +15,10 @@ use campaigns::{Campaign, Head};
 use day::Day;
 use day::ops::audited;
 use print::{put, put_number};
-
-// What printing answers: the length of the page, or the number of the first question that fails.
-#[derive(Clone, Copy)]
-pub enum Printing {
-    Length(usize),
-    Refusal(u64),
-}
+use refusal::Refusal;
 
 // The bytes of a line with its byte 10.
 pub const LINE: usize = 41;
-
-// The first n bytes become spaces: then only what is no space is put.
-fn clear(out: &mut [u8], n: usize)
-    requires { n ≤ length out.old }
-    ensures { out.new ≡ replicate n 32 ++ drop n out.old }
-{
-    let mut i = 0;
-    while i < n {
-        out[i] = b' ';
-        i += 1;
-    }
-}
 
 // An amount of n cents that ends at the place to.
 fn put_cents(out: &mut [u8], to: usize, n: u64) -> usize
@@ -44,8 +26,8 @@ fn put_cents(out: &mut [u8], to: usize, n: u64) -> usize
     ensures { Put out.old out.new result to (cents n) }
 {
     let part = n % 100;
-    out[to - 1] = (48 + part % 10) as u8;
-    out[to - 2] = (48 + part / 10) as u8;
+    out[to - 1] = b'0' + (part % 10) as u8;
+    out[to - 2] = b'0' + (part / 10) as u8;
     out[to - 3] = b'.';
     put_number(out, to - 3, n / 100)
 }
@@ -70,12 +52,8 @@ fn put_rows<'a>(n: usize, terms: &'a [u32; 128], counts: &'a [u16; 256], out: &m
     ensures { Lays out.old out.new 0 (line_length * n)
         (campaign_lines n (campaign_at terms.now counts.now)) }
 {
-    let mut i = n;
-    while i > 0 {
-        let to = LINE * i;
-        i -= 1;
-        let c = entry(i, terms, counts);
-        put_row(out, to, i as u64, c);
+    for i in (0..n).rev() {
+        put_row(out, LINE * (i + 1), i as u64, entry(i, terms, counts));
     }
 }
 
@@ -90,34 +68,31 @@ fn put_total(out: &mut [u8], to: usize, takings: u64)
     put(out, to - 36, b"total");
 }
 
-// The page of a state of any phase, at the front of out.
+// The page of a state of any phase, at the front of out, and its length.
 pub fn print_page<'a>(
     head: Head,
     terms: &'a [u32; 128],
     counts: &'a [u16; 256],
     out: &mut [u8],
-) -> Printing
+) -> Result<usize, Refusal>
     ensures { (result ≡ printing (state_of head terms.now counts.now) out.old)
         × (out.new
         ≡ printed (state_of head terms.now counts.now) out.old) }
 {
-    let audit = audited(head, terms, counts);
-    if !audit.sound {
-        return Printing::Refusal(1);
-    }
+    let audit = audited(head, terms, counts).ok_or(Refusal::UNSOUND)?;
     let n = head.count as usize;
     let len = LINE * n + LINE;
     if out.len() < len {
-        return Printing::Refusal(18);
+        return Err(Refusal::NO_ROOM);
     }
-    clear(out, len);
+    out[..len].fill(b' ');
     put_total(out, len, audit.takings);
     put_rows(n, terms, counts, out);
-    Printing::Length(len)
+    Ok(len)
 }
 
 // The same of a state by value.
-pub fn print_day(day: Day, out: &mut [u8]) -> Printing
+pub fn print_day(day: Day, out: &mut [u8]) -> Result<usize, Refusal>
     ensures { (result ≡ printing day out.old) × (out.new ≡ printed day out.old) }
 {
     print_page(day.head(), &day.terms, &day.counts, out)

@@ -14,12 +14,21 @@ use Rattle.finite.specs.Finite.{one_if, count}
 use Rattle.finite.proofs.Sums.{sum_zero, sum_eq, count_suc, count_skip}
 use Rattle.sets.specs.Set.{member, size}
 use Rattle.lines.specs.Limits.{set_bits}
-use Rattle.lines.specs.Numeral.{numeral}
-use Rattle.lines.specs.Form.{names_slot, names_text, slot_text}
+use Rattle.lines.specs.Numeral.{numeral_in, numeral}
+use Rattle.lines.specs.Form.{names_text, slot_text, names_slot}
 use Rattle.lines.proofs.Numerals.{numeral_one, numeral_more}
 use Rattle.sets.proofs.Algebra.{none_above}
 
 -- Numerals.
+
+-- a numeral has a digit
+pub numeral_some : (n : ℕ) → 0 < length (numeral n)
+unfolding numeral numeral_in
+numeral_some n = go (ltb n 10)
+  where
+    go : (t : Bool) → 0 < length (cond t ((48 + n) ∷ []) (numeral_in 19 (n / 10) ++ ((48 + n % 10) ∷ [])))
+    go true = omega arith
+    go false = rw length-append (omega arith)
 
 pub len_one : (n : ℕ) → n < 10 → length (numeral n) ≡ 1
 len_one n h = ap length (numeral_one n h)

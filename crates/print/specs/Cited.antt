@@ -1,6 +1,5 @@
 -- How the contracts of the crate speak of what is counted. Nothing that a caller of the writer relies on is here.
-use Rattle.std.specs.Prelude.{ℕ, ◌+◌, ◌≤◌, ◌≡◌, ◌&&◌, length}
-use Rattle.lines.specs.Limits.{max_names}
+use Rattle.std.specs.Prelude.{ℕ, ◌+◌, cond, length, Option, Some, None}
 use Rattle.lines.specs.Form.{in_slot, slot_text}
 use Rattle.print.specs.declared.Size.{Size}
 
@@ -8,8 +7,6 @@ use Rattle.print.specs.declared.Size.{Size}
 abbrev pub max_counted : ℕ
 max_counted = 1000
 
--- y is z with one slot more
-pub record Counted (z : Size) (slot n : ℕ) (y : Size) : Type 0 where
-  pub ok : y.ok ≡ (in_slot slot n && z.ok)
-  pub len : y.len ≡ length (slot_text slot n) + z.len
-  pub most : y.len ≤ z.len + max_names
+-- z with one slot more, or none where the slot's number is out of range
+abbrev pub counted : (z : Size) (slot n : ℕ) → Option Size
+counted z slot n = cond (in_slot slot n) (Some (record { len = length (slot_text slot n) + z.len })) None

@@ -1,42 +1,38 @@
 // Words, numerals and names: how long they are, and putting them into a lent buffer.
 #![tactic(auto)]
 
-ghost use Rattle.std.specs.Prelude.{◌≡◌, true, ◌∷◌, ◌++◌, ◌+◌, ◌<◌, ◌≤◌, length};
+ghost use Rattle.std.specs.Prelude.{◌≡◌, ◌∷◌, ◌++◌, ◌+◌, ◌%◌, ◌<◌, ◌≤◌, length, IfSome};
 ghost use Rattle.buffer.specs.Buffer.{Put, RoomFor};
 ghost use Rattle.lines.specs.Limits.{set_bits, max_names};
 ghost use Rattle.lines.specs.Numeral.{numeral};
 ghost use Rattle.lines.specs.Form.{names_text, slot_text};
-ghost use Rattle.print.specs.Cited.{max_counted, Counted};
+ghost use Rattle.print.specs.Cited.{max_counted, counted};
 
-use lines::slots::in_slot;
+use lines::slots::{Lettered, in_slot};
+use sets::Members;
 
-// Whether numbers are in the ranges of their slots, and the length of a line: as far as its slots are counted.
+// The length of a line as far as its slots are counted, their numbers being in the ranges of the slots.
 #[derive(Clone, Copy)]
 pub struct Size {
-    pub ok: bool,
     pub len: usize,
 }
 
-// How many digits the numeral of n has.
+// How many digits the numeral of n has, four a call: most numbers of a line are short, where tests are faster than
+// ilog10.
 fn places(n: u64) -> usize
     ensures { result ≡ length (numeral n) }
 {
-    if n < 10 {
-        return 1;
+    match n {
+        0..=9 => 1,
+        10..=99 => 2,
+        100..=999 => 3,
+        1000..=9999 => 4,
+        _ => 4 + places(n / 10000),
     }
-    if n < 100 {
-        return 2;
-    }
-    if n < 1000 {
-        return 3;
-    }
-    if n < 10000 {
-        return 4;
-    }
-    4 + places(n / 10000)
 }
 
 // How many bytes the names of a set take: 3 for each, and 2 for a name below 10.
+#[tactic(auto, using(crate::proofs::Lengths::names_size, crate::proofs::Lengths::size_most))]
 fn names_len(set: u64) -> usize
     ensures { (result ≡ length (names_text set_bits set)) × (result ≤ max_names) }
 {
@@ -45,7 +41,7 @@ fn names_len(set: u64) -> usize
     (3 * all - short) as usize
 }
 
-// How many bytes the number n takes in its slot.
+// How many bytes the number n takes in the slot of this letter.
 fn slot_len(slot: u8, n: u64) -> usize
     ensures { (result ≡ length (slot_text slot n)) × (result ≤ max_names) }
 {
@@ -58,41 +54,50 @@ fn slot_len(slot: u8, n: u64) -> usize
 impl Size {
     // A line of a form's own bytes.
     pub fn fixed(len: usize) -> Size
-        ensures { (result.ok ≡ true) × (result.len ≡ len) }
+        ensures { result.len ≡ len }
     {
-        Size { ok: true, len }
+        Size { len }
     }
 
-    // One slot more, in front of those that are counted.
-    pub fn slot(self, slot: u8, n: u64) -> Size
+    // One slot more, in front of those that are counted; none where its number is out of range.
+    pub fn slot<S: Lettered>(self, slot: S, n: u64) -> Option<Size>
         requires { self.len ≤ max_counted }
-        ensures { Counted self slot n result }
+        ensures counted { result ≡ counted self (S.letter slot) n }
+        ensures most { IfSome result (λ z. z.len ≤ self.len + max_names) }
     {
-        Size {
-            ok: in_slot(slot, n) & self.ok,
-            len: slot_len(slot, n) + self.len,
+        let letter = slot.letter();
+        if !in_slot(letter, n) {
+            return None;
         }
+        let len = slot_len(letter, n) + self.len;
+        Some(Size { len })
     }
 }
 
 // A line is put from its last byte to its first: so come the digits of a numeral, and they need not be counted again.
 // Each function is given the place where its bytes end, and gives the place where they begin; the room is the caller's.
 
-// The word that ends at the place to.
+// The word that ends at the place to. A loop is faster than copy_from_slice, which asks whether the two overlap.
 pub fn put(out: &mut [u8], to: usize, word: &[u8]) -> usize
     requires { RoomFor out.old to (length word.now) }
     ensures { Put out.old out.new result to word.now }
 {
     let at = to - word.len();
-    let mut i = 0;
-    while i < word.len() {
+    for i in 0..word.len() {
         out[at + i] = word[i];
-        i += 1;
     }
     at
 }
 
+// The last digit of n.
+fn digit(n: u64) -> u8
+    ensures { result ≡ 48 + n % 10 }
+{
+    b'0' + (n % 10) as u8
+}
+
 // The numeral of n that ends at the place to, two digits at a time.
+#[tactic(auto, using(crate::proofs::Lengths::numeral_some, crate::proofs::Digits::numeral_two))]
 pub fn put_number(out: &mut [u8], to: usize, n: u64) -> usize
     requires { RoomFor out.old to (length (numeral n)) }
     ensures { Put out.old out.new result to (numeral n) }
@@ -102,16 +107,16 @@ pub fn put_number(out: &mut [u8], to: usize, n: u64) -> usize
     while rest > 99 {
         i -= 2;
         let pair = rest % 100;
-        out[i + 1] = (48 + pair % 10) as u8;
-        out[i] = (48 + pair / 10) as u8;
+        out[i + 1] = digit(pair);
+        out[i] = digit(pair / 10);
         rest /= 100;
     }
     i -= 1;
-    out[i] = (48 + rest % 10) as u8;
+    out[i] = digit(rest);
     if rest < 10 {
         return i;
     }
-    out[i - 1] = (48 + rest / 10) as u8;
+    out[i - 1] = digit(rest / 10);
     i - 1
 }
 
@@ -122,11 +127,11 @@ fn put_name(out: &mut [u8], at: usize, name: u64) -> usize
 {
     out[at] = b' ';
     if name < 10 {
-        out[at + 1] = (48 + name % 10) as u8;
+        out[at + 1] = digit(name);
         return at + 2;
     }
-    out[at + 1] = (48 + name / 10 % 10) as u8;
-    out[at + 2] = (48 + name % 10) as u8;
+    out[at + 1] = digit(name / 10);
+    out[at + 2] = digit(name);
     at + 3
 }
 
@@ -136,16 +141,14 @@ fn put_names(out: &mut [u8], at: usize, set: u64) -> usize
     ensures { Put out.old out.new at result (names_text set_bits set) }
 {
     let mut to = at;
-    let mut left = set;
-    while left != 0 {
-        to = put_name(out, to, sets::first(left));
-        left = sets::rest(left);
+    for name in Members(set) {
+        to = put_name(out, to, name);
     }
     to
 }
 
-// The number n as its slot reads, ending at the place to.
-pub fn put_slot(out: &mut [u8], to: usize, slot: u8, n: u64) -> usize
+// The number n as the slot of this letter reads, ending at the place to.
+fn put_lettered(out: &mut [u8], to: usize, slot: u8, n: u64) -> usize
     requires { RoomFor out.old to (length (slot_text slot n)) }
     ensures { Put out.old out.new result to (slot_text slot n) }
 {
@@ -157,10 +160,18 @@ pub fn put_slot(out: &mut [u8], to: usize, slot: u8, n: u64) -> usize
     put_number(out, to, n)
 }
 
+// The number n as its slot reads, ending at the place to.
+pub fn put_slot<S: Lettered>(out: &mut [u8], to: usize, slot: S, n: u64) -> usize
+    requires { RoomFor out.old to (length (slot_text (S.letter slot) n)) }
+    ensures { Put out.old out.new result to (slot_text (S.letter slot) n) }
+{
+    put_lettered(out, to, slot.letter(), n)
+}
+
 // A word and the slot behind it, ending at the place to.
-pub fn put_field(out: &mut [u8], to: usize, word: &[u8], slot: u8, n: u64) -> usize
-    requires { RoomFor out.old to (length word.now + length (slot_text slot n)) }
-    ensures { Put out.old out.new result to (word.now ++ slot_text slot n) }
+pub fn put_field<S: Lettered>(out: &mut [u8], to: usize, word: &[u8], slot: S, n: u64) -> usize
+    requires { RoomFor out.old to (length word.now + length (slot_text (S.letter slot) n)) }
+    ensures { Put out.old out.new result to (word.now ++ slot_text (S.letter slot) n) }
 {
     let to = put_slot(out, to, slot, n);
     put(out, to, word)

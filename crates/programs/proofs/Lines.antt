@@ -7,13 +7,13 @@ use mathlib.Core.List.{List, [], ◌∷◌, ◌++◌}
 use Prim.Native.Nat.{ℕ, suc, ◌+◌, ◌≤◌}
 use native.Mathlib.Omega.{arith}
 use borrow.Author.Tests.{ne_eqb}
+use Rattle.std.specs.Prelude.{Result, Ok, Err}
+use Rattle.refusal.specs.declared.Refusal.{Refusal}
 use Rattle.finite.specs.Finite.{total}
 use Rattle.finite.proofs.Tables.{total_snoc}
 use Rattle.lines.specs.declared.Record.{Record}
 use Rattle.lines.specs.declared.Record.TheVariants.{Plan, Campaign, Start, View, Close, Done, Play, Nobody, Refused}
 use Rattle.lines.specs.declared.Record.TheVariants.{Closed, Tally, Pause, Resume}
-use Rattle.lines.specs.declared.Reading.{Reading}
-use Rattle.lines.specs.declared.Reading.TheVariants.{Got, Refusal}
 use Rattle.lines.specs.Reading.{reading}
 use Rattle.campaigns.specs.declared.Terms.{Terms}
 use Rattle.campaigns.specs.declared.View.{View as Lift}
@@ -63,7 +63,7 @@ record_of (tallied p t a n) = Tally 0 p t a n
 record_of (closing t c f) = Closed t c f
 
 first_reads : (a : Answer) → Said a → (w : List ℕ) (rs : List Record) → OutputLines w (answer_records a ++ rs)
-    → reading (first_line w) ≡ Got (record_of a)
+    → reading (first_line w) ≡ Ok (record_of a)
 first_reads (refusing q) h w rs o = o.0.reads
 first_reads done h w rs o = o.0.reads
 first_reads (played i p) h w rs o = o.0.reads
@@ -71,7 +71,7 @@ first_reads no_one h w rs o = o.0.reads
 first_reads (tallied p t a n) h w rs o = absurd h
 first_reads (closing t c f) h w rs o = o.0.reads
 
-said_is : (s : Day) (l : List ℕ) → reading (first_line (reply s l)) ≡ Got (record_of (outcome s l).answer)
+said_is : (s : Day) (l : List ℕ) → reading (first_line (reply s l)) ≡ Ok (record_of (outcome s l).answer)
 unfolding reply_records
 said_is s l =
     let o = outcome s l in
@@ -127,13 +127,13 @@ continued_step h (makes c) a xs = refl
 continued_step h (fails q) a xs = refl
 
 -- the sum with a line more, whose reading is l and whose answer is a
-abbrev summed : ℕ → Reading → Answer → ℕ
+abbrev summed : ℕ → Result Record Refusal → Answer → ℕ
 summed p l a = cond (of_reading is_plan false l && is_ok (record_of a)) 0 (p + price_in (record_of a))
 
 module _ (s : Day) (h : History) where
   abbrev Adds : Record → Call → Outcome → Type 0
   Adds r c o =
-      day_takings (entered h (record { made = c; answer = o.answer })) ≡ summed (day_takings h) (Got r) o.answer
+      day_takings (entered h (record { made = c; answer = o.answer })) ≡ summed (day_takings h) (Ok r) o.answer
 
   -- of a refusal
   refused_adds : (c : Call) (q : ℕ)
@@ -148,7 +148,7 @@ module _ (s : Day) (h : History) where
 
   -- a marking pays nothing
   mark_adds : (r : Record) (b : Bool) (i : ℕ)
-      → ((a : Answer) → summed (day_takings h) (Got r) a ≡ day_takings h + price_in (record_of a))
+      → ((a : Answer) → summed (day_takings h) (Ok r) a ≡ day_takings h + price_in (record_of a))
       → Adds r (mark_campaign b i) (call s (mark_campaign b i))
   mark_adds r b i e =
       let c = mark_campaign b i in
@@ -157,7 +157,7 @@ module _ (s : Day) (h : History) where
 
   record_adds : (r : Record)
       → day_takings (stepped h (request r) (executed s (request r)).answer)
-      ≡ summed (day_takings h) (Got r) (executed s (request r)).answer
+      ≡ summed (day_takings h) (Ok r) (executed s (request r)).answer
   unfolding total
   record_adds (Plan k d) =
       let c = open_plan (record { depth = k; width = d }) in
@@ -182,11 +182,11 @@ module _ (s : Day) (h : History) where
   record_adds (Pause i) = mark_adds (Pause i) true i (λ a. refl)
   record_adds (Resume i) = mark_adds (Resume i) false i (λ a. refl)
 
-  reading_adds : (l : Reading)
+  reading_adds : (l : Result Record Refusal)
       → day_takings (stepped h (request_of l) (executed s (request_of l)).answer)
       ≡ summed (day_takings h) l (executed s (request_of l)).answer
-  reading_adds (Got r) = record_adds r
-  reading_adds (Refusal q) = none_more (day_takings h)
+  reading_adds (Ok r) = record_adds r
+  reading_adds (Err e) = none_more (day_takings h)
 
   line_adds : (l : List ℕ)
       → day_takings (stepped h (request_of (reading l)) (outcome s l).answer) ≡ sum_after (day_takings h) l (reply s l)
@@ -196,7 +196,7 @@ module _ (s : Day) (h : History) where
       ∙ sym (ap after (said_is s l))
     where
       -- the sum where the first line of the answer reads as x
-      after : Reading → ℕ
+      after : Result Record Refusal → ℕ
       after x =
           cond (of_reading is_plan false (reading l) && of_reading is_ok false x) 0
           (day_takings h + of_reading price_in 0 x)
@@ -246,12 +246,12 @@ module _ (s : Day) (t c f : ℕ) where
   request_closes (makes k) = call_closes k
   request_closes (fails q) = λ e. cc
 
-  line_closes : (l : List ℕ) → reading (first_line (reply s l)) ≡ Got (Closed t c f) → Closed t c f ≡ closed_by s
+  line_closes : (l : List ℕ) → reading (first_line (reply s l)) ≡ Ok (Closed t c f) → Closed t c f ≡ closed_by s
   unfolding outcome
   line_closes l e =
       request_closes (request_of (reading l)) (got (record_of (outcome s l).answer) (sym (said_is s l) ∙ e))
     where
-      got : (r : Record) → Got r ≡ Got (Closed t c f) → r ≡ Closed t c f
+      got : (r : Record) → ◌≡◌ {A = Result Record Refusal} (Ok r) (Ok (Closed t c f)) → r ≡ Closed t c f
       got r q = cc
 
 -- All of it.

@@ -5,8 +5,8 @@
 -- `OfLines.closing_noon` speak; and the output forms as lines, in any state.
 use Rattle.std.specs.Prelude.{◌≡◌, List, [], ◌∷◌, ◌++◌, ℕ, ◌+◌, ◌≤◌, length, take, replicate}
 use Prim.Native.String.{String}
+use Rattle.std.specs.Prelude.{Ok}
 use Rattle.lines.specs.declared.Record.TheVariants.{Closed}
-use Rattle.lines.specs.declared.Reading.TheVariants.{Got}
 use Rattle.lines.specs.Form.{bytes}
 use Rattle.lines.specs.Reading.{reading}
 use Rattle.day.specs.declared.Day.{Day}
@@ -90,7 +90,7 @@ ListingAnswered = InputAnswered listing_lines [] listing_answers
 -- behind its other lines the last, (close), is answered (closed (takings 16) (claim 48) (full 64))
 abbrev pub ListingCloses : Type 0
 ListingCloses =
-    reading (first_line (reply (after_lines blank (take 10 listing_lines)) (bytes "(close)"))) ≡ Got (Closed 16 48 64)
+    reading (first_line (reply (after_lines blank (take 10 listing_lines)) (bytes "(close)"))) ≡ Ok (Closed 16 48 64)
 
 -- a running day with an empty line, an output form, a line of 200 bytes that is no form, one of 201 bytes and one of
 -- 402, and a last line without byte 10

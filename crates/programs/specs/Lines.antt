@@ -1,11 +1,11 @@
 -- Any list of input lines, from the blank state, and the lines that answer them: the calls that they make, what the
 -- answers say was paid, and what demand 3 and Algorithm 4 say of their day.
 use Rattle.std.specs.Prelude.{◌≡◌, Bool, true, false, cond, ◌&&◌, List, [], ◌∷◌, ℕ, ◌+◌, ◌≤◌}
+use Rattle.std.specs.Prelude.{Result, Ok, Err}
+use Rattle.refusal.specs.declared.Refusal.{Refusal}
 use Rattle.lines.specs.declared.Record.{Record}
 use Rattle.lines.specs.declared.Record.TheVariants.{Plan, Campaign, Start, View, Close, Done, Play, Nobody, Refused}
 use Rattle.lines.specs.declared.Record.TheVariants.{Closed, Tally, Pause, Resume}
-use Rattle.lines.specs.declared.Reading.{Reading}
-use Rattle.lines.specs.declared.Reading.TheVariants.{Got, Refusal}
 use Rattle.lines.specs.Reading.{reading}
 use Rattle.campaigns.specs.declared.Terms.{Terms}
 use Rattle.campaigns.specs.View.{full}
@@ -100,9 +100,9 @@ price_in (Tally i p t a n) = 0
 price_in (Pause i) = 0
 price_in (Resume i) = 0
 
-abbrev pub of_reading : {A : Type 0} → (Record → A) → A → Reading → A
-of_reading f a (Got r) = f r
-of_reading f a (Refusal q) = a
+abbrev pub of_reading : {A : Type 0} → (Record → A) → A → Result Record Refusal → A
+of_reading f a (Ok r) = f r
+of_reading f a (Err e) = a
 
 -- the sum p, with the line l and its answer w: (ok) to a plan begins a day, and (play C (paid N)) adds N
 abbrev pub sum_after : ℕ → (l w : List ℕ) → ℕ
@@ -132,11 +132,11 @@ pub record OfLines (ls : List (List ℕ)) : Type 0 where
   pub noon : NoonFloor (day_of ls) (after_lines blank ls)
   -- a line more that is answered (closed (takings T) (claim C) (full F)): T is that sum, C the total claim of the
   -- state, and F is full, d^k × T
-  pub closing_is : (l : List ℕ) (t c f : ℕ) → reading (first_line (reply (after_lines blank ls) l)) ≡ Got (Closed t c f)
+  pub closing_is : (l : List ℕ) (t c f : ℕ) → reading (first_line (reply (after_lines blank ls) l)) ≡ Ok (Closed t c f)
       → (t ≡ sum_paid ls) × (c ≡ total_claim (after_lines blank ls)) × (f ≡ full (day_of ls).plan t)
   -- and C lies between the floor's figure and F
   pub closing_noon : (l : List ℕ) (t c f : ℕ)
-      → reading (first_line (reply (after_lines blank ls) l)) ≡ Got (Closed t c f)
+      → reading (first_line (reply (after_lines blank ls) l)) ≡ Ok (Closed t c f)
       → (floor_figure (after_lines blank ls) ≤ c) × (c ≤ f)
   -- the views got Algorithm 4's answers
   pub agrees : (B : Terms → ℕ) → BuysAlike B → DayAgrees B (day_of ls) (after_lines blank ls)

@@ -3,10 +3,10 @@
 -- sum of its parts, and `Reached` carries the sum over the blocks that reads gave. At the end of input the theorem for
 -- any input turns what was told into the answers to the lines (`ran_through`); where a run stops before, it is the
 -- answers to the lines that end in what was taken (`ran_unsent`, `ran_spent`).
-use mathlib.Core.Path.{◌≡◌, refl, sym, ap, ap₂, ◌∙◌, subst}
+use mathlib.Core.Path.{◌≡◌, refl, sym, ap, ap₂, ◌∙◌, subst, subst⁻¹}
 use mathlib.Core.Bool.{Bool, true, false}
 use mathlib.Core.List.{List, [], ◌∷◌, ◌++◌, append_assoc, append-nil}
-use Prim.Native.Nat.{ℕ, suc, ◌+◌, ◌-◌, ◌^◌, ◌≤◌, ◌<◌}
+use Prim.Native.Nat.{ℕ, suc, ◌+◌, ◌-◌, ◌≤◌, ◌<◌}
 use native.Mathlib.Omega.{arith}
 use lib.ListN.{length, take, drop, take-append-drop}
 use lib.Seq.{take-take, take-length, length-take-le}
@@ -14,7 +14,7 @@ use Rattle.finite.proofs.Tests.{never}
 use Rattle.day.specs.Day.{blank}
 use Rattle.reply.specs.Session.{Session, reply_room, fed, consumed_count}
 use Rattle.stream.specs.declared.feed.Fed.{Fed}
-use Rattle.stream.specs.Stream.{finished, session_of, silent, Feeds}
+use Rattle.stream.specs.Stream.{finished, session_of, silent, consumed_bytes, Feeds}
 use Rattle.stream.specs.Input.{after_lines, replies, Split, all_lines}
 use Rattle.stream.proofs.Chunking.{finished_said, front_said, session_next, split, output_at_end, state_at_end}
 use Rattle.stream.proofs.Parts.{stream_more, said_more, part_fed, part_upto, part_inside, part_further, taken_further}
@@ -22,18 +22,12 @@ use Rattle.programs.proofs.Lines.{lines_keep_the_demands}
 use Rattle.wire.specs.declared.Wire.{Wire}
 use Rattle.wire.specs.Wires.{counted_on, max_reads, Reads, Writes, input_of}
 use Rattle.wire.proofs.Blocks as reads
-use Rattle.wire.proofs.Blocks.{counted_more, writes_none, writes_more}
-use Rattle.pumpday.specs.declared.teller.Turn.{Turn}
+use Rattle.wire.proofs.Blocks.{counted_more, writes_more}
 use Rattle.pumpday.specs.declared.teller.Teller.{Teller}
 use Rattle.pumpday.specs.Telling.{new_teller, Told}
 use Rattle.pumpday.specs.Pump.{Runs}
 use Rattle.pumpday.specs.Cited.{held, by, Part, Whole, Taken}
 use Rattle.pumpday.proofs.Fronts.{front}
-
--- nothing taken
-pub tells_none : (w : Teller) → w.wire.told < 2 ^ 64 → Told w (by w []) w
-unfolding fed
-tells_none w h = record { stream_is = refl; writes = writes_none w.wire h }
 
 -- l, and then m
 tells_more : {w v u : Teller} (l m : List ℕ) → Told w (by w l) v → Told v (by v m) u → Told w (by w (l ++ m)) u
@@ -65,44 +59,50 @@ module _ (w : Teller) (l d e : List ℕ) (from : ℕ) (r : Fed) (h : from ≤ le
   part_next = session_next fed_part ∙ sym (ap silent part_taken)
 
   pub part_is : (v : Teller) → Told w (by w (take (from + r.consumed - from) (drop from l))) v
-      → Part w l d from (record { teller = v; from = from + r.consumed })
+      → Part w l d from v (from + r.consumed)
   part_is v q = record {
     upto_is = part_upto w.stream l d e from r h f;
     inside = part_inside w.stream l d e from r h f;
     tells = subst (λ (y : Session). Told w y v) part_taken q;
   }
 
--- The block, part by part.
-module _ (l d : List ℕ) (t r : Turn) (p : Part t.teller l d t.from r) where
-  pub part_less : t.from < length l → reply_room ≤ length d → t.from < r.from
-  part_less = part_further t.teller.stream l d t.from r.from p.upto_is
+-- The block, part by part: the teller v has told the bytes before a place, and a part more of them is told.
+module _ {l d : List ℕ} {v u : Teller} {from to : ℕ} (p : Part v l d from u to) where
+  pub part_less : from < length l → reply_room ≤ length d → from < to
+  part_less = part_further v.stream l d from to p.upto_is
 
-  pub part_more : (w : Teller) → Told w (by w (take t.from l)) t.teller
-      → Told w (by w (take r.from l)) r.teller
-  part_more w h =
-      subst (λ (m : List ℕ). Told w (by w m) r.teller)
-      (taken_further t.teller.stream l d t.from r.from p.upto_is)
-      (tells_more (take t.from l) _ h p.tells)
+  -- the first part
+  pub part_first : from ≡ 0 → Told v (by v (take to l)) u
+  part_first z =
+      let e : to ≡ consumed_count (length d) (held v) l =
+      p.upto_is ∙ ap (λ (i : ℕ). i + consumed_count (length d) (held v) (drop i l)) z ∙ omega arith in
+      subst⁻¹ (λ (i : ℕ). Told v (by v (take i l)) u) e
+      (subst (λ (i : ℕ). Told v (by v (consumed_bytes (held v) (drop i l) d)) u) z p.tells)
 
-pub stopped : (w : Teller) (l : List ℕ) {t : Turn} → t.from ≤ length l → Told w (by w (take t.from l)) t.teller
-    → t.teller.wire.sent ≡ false → Whole w l t
-stopped w l {t} h o e = record { inside = h; tells = o; all = λ s. absurd (never t.teller.wire.sent e s) }
+  pub part_more : {w : Teller} → Told w (by w (take from l)) v → Told w (by w (take to l)) u
+  part_more {w} h =
+      subst (λ (m : List ℕ). Told w (by w m) u) (taken_further v.stream l d from to p.upto_is)
+      (tells_more (take from l) _ h p.tells)
+
+pub stopped : {w v : Teller} {l : List ℕ} {to : ℕ} → to ≤ length l → Told w (by w (take to l)) v
+    → v.wire.sent ≡ false → Whole w l v to
+stopped {v = v} h o e = record { inside = h; tells = o; all = λ s. absurd (never v.wire.sent e s) }
 
 -- One read.
-pub taken_is : {w : Teller} {l : List ℕ} {n : ℕ} {v : Wire} {t : Turn} → Reads w.wire l n v
-    → Whole (record { stream = w.stream; wire = v }) (take n l) t → Taken w l t.teller
-taken_is {w} {l} {n} {v} {t} r o =
+pub taken_is : {w : Teller} {l : List ℕ} {n : ℕ} {v : Wire} {u : Teller} {to : ℕ} → Reads w.wire l n v
+    → Whole (record { stream = w.stream; wire = v }) (take n l) u to → Taken w l u
+taken_is {w} {l} {n} {v} {u} {to} r o =
     let m : length (take n l) ≡ n = length-take-le n l r.inside in
-    let h : t.from ≤ n = omega (arith, o.inside, m) in
+    let h : to ≤ n = omega (arith, o.inside, m) in
     record {
       n = n;
       read = v;
       reads = r;
-      taken = t.from;
+      taken = to;
       inside = h;
       tells =
-          subst (λ (b : List ℕ). Told (record { stream = w.stream; wire = v }) (by w b) t.teller)
-          (take-take t.from n l h) o.tells;
+          subst (λ (b : List ℕ). Told (record { stream = w.stream; wire = v }) (by w b) u)
+          (take-take to n l h) o.tells;
       all = λ s. o.all s ∙ m;
     }
 

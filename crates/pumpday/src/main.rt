@@ -13,24 +13,22 @@ use teller::Teller;
 // The bytes of a read at the most, and the room for the answers to a part of them.
 const BLOCK: usize = 65536;
 
-// Block after block, until a read gives nothing or a write fails. A proved loop has to end: this one counts down from a
-// number that no run uses up.
+// Block after block, until a read gives nothing or a write fails. A proved loop has to end: this one has more turns
+// than any run uses up.
 fn run(rt: HostRuntime, block: &mut [u8], out: &mut [u8]) -> Teller
     requires { (0 < length block.old) × (reply_room ≤ length out.old) }
     ensures { Runs result }
 {
     let mut teller = Teller::new();
-    let mut turns = u64::MAX;
-    while turns > 0 {
-        let w = teller.turn(rt, block, out);
-        if !w.sent() {
-            return w;
+    for _ in 0..u64::MAX {
+        teller.turn(rt, block, out);
+        if !teller.sent() {
+            return teller;
         }
-        if w.ended() {
-            return w.finish(rt, out);
+        if teller.ended() {
+            teller.finish(rt, out);
+            return teller;
         }
-        teller = w;
-        turns -= 1;
     }
     teller
 }
@@ -39,6 +37,5 @@ fn run(rt: HostRuntime, block: &mut [u8], out: &mut [u8]) -> Teller
 fn main(rt: HostRuntime) {
     let mut block = [0u8; BLOCK];
     let mut out = [0u8; BLOCK];
-    let w = run(rt, &mut block, &mut out);
-    w.complain(rt);
+    run(rt, &mut block, &mut out).complain(rt);
 }

@@ -15,126 +15,83 @@ pub struct Teller {
     wire: Wire,
 }
 
-// A teller, and the place up to which it has answered a block.
-#[derive(Clone, Copy)]
-struct Turn {
-    teller: Teller,
-    from: usize,
-}
-
 impl Teller {
     pub fn new() -> Self
         ensures { result ≡ new_teller }
     {
-        let stream = Stream::new();
-        let wire = Wire::new();
         Teller {
-            stream: stream,
-            wire: wire,
+            stream: Stream::new(),
+            wire: Wire::new(),
         }
     }
 
     // Writes what is due from the stream for the bytes that it took, or at the end of input; next is the stream after
     // them.
-    fn tell(self, rt: HostRuntime, taken: &[u8], end: bool, next: Stream, bytes: &[u8]) -> Self
-        requires { (bytes.now ≡ (session_after self.stream taken.now end).output)
-            × (session_of next ≡ silent (session_after self.stream taken.now end)) }
-        ensures { Told self (session_after self.stream taken.now end) result }
+    fn tell(&mut self, rt: HostRuntime, taken: &[u8], end: bool, next: Stream, bytes: &[u8])
+        requires { (bytes.now ≡ (session_after self.old.stream taken.now end).output)
+            × (session_of next ≡ silent (session_after self.old.stream taken.now end)) }
+        ensures { Told self.old (session_after self.old.stream taken.now end) self.new }
     {
-        let wire = self.wire;
-        let sent = wire.write(rt.stdout(), bytes);
-        Teller {
-            stream: next,
-            wire: sent,
-        }
+        self.wire.write(rt.stdout(), bytes);
+        self.stream = next;
     }
 
-    // The block from a place on, as far as there is room for its answers, which are told.
-    fn answer_part(self, rt: HostRuntime, block: &[u8], from: usize, out: &mut [u8]) -> Turn
+    // The block from a place on, as far as there is room for its answers, which are told, and where that ends.
+    fn answer_part(&mut self, rt: HostRuntime, block: &[u8], from: usize, out: &mut [u8]) -> usize
         requires { from ≤ length block.now }
-        ensures { Part self block.now out.old from result }
+        ensures { Part self.old block.now out.old from self.new result }
     {
-        let stream = self.stream;
-        let fed = stream.feed(&block[from..], out);
-        let next = fed.stream;
-        let written = fed.written;
+        let fed = self.stream.feed(&block[from..], out);
         let to = from + fed.consumed;
-        let teller = self.tell(rt, &block[from..to], false, next, &out[..written]);
-        Turn {
-            teller: teller,
-            from: to,
-        }
+        self.tell(rt, &block[from..to], false, fed.stream, &out[..fed.written]);
+        to
     }
 
     // The whole block, part by part, unless a write fails.
-    fn answer_block(self, rt: HostRuntime, block: &[u8], out: &mut [u8]) -> Turn
+    fn answer_block(&mut self, rt: HostRuntime, block: &[u8], out: &mut [u8]) -> usize
         requires { reply_room ≤ length out.old }
-        ensures { Whole self block.now result }
+        ensures { Whole self.old block.now self.new result }
     {
-        let mut t = Turn {
-            teller: self,
-            from: 0,
-        };
-        while t.from < block.len() {
-            let w = t.teller;
-            if !w.sent() {
-                return t;
-            }
-            let next = w.answer_part(rt, block, t.from, out);
-            t = next;
+        let mut from = self.answer_part(rt, block, 0, out);
+        while from < block.len() && self.sent() {
+            from = self.answer_part(rt, block, from, out);
         }
-        t
+        from
     }
 
     // One read, and the answers to what it gave, which is borrowed until they are told, so that nothing writes over it.
     // What is left in `out` is free.
-    pub fn turn(self, rt: HostRuntime, block: &mut [u8], out: &mut [u8]) -> Self
+    pub fn turn(&mut self, rt: HostRuntime, block: &mut [u8], out: &mut [u8])
         requires { (0 < length block.old) × (reply_room ≤ length out.old) }
-        ensures { Taken self block.new result }
+        ensures { Taken self.old block.new self.new }
     {
-        let wire = self.wire;
-        let got = wire.read(rt.stdin(), block);
-        let n = got.n;
-        let given = &block[..n];
-        let stream = self.stream;
-        let next = got.wire;
-        let teller = Teller {
-            stream: stream,
-            wire: next,
-        };
-        let t = teller.answer_block(rt, given, out);
-        t.teller
+        let n = self.wire.read(rt.stdin(), block);
+        self.answer_block(rt, &block[..n], out);
     }
 
     // The end of input: the answer to a last line without byte 10. What is left in `out` is free.
-    pub fn finish(self, rt: HostRuntime, out: &mut [u8]) -> Self
+    pub fn finish(&mut self, rt: HostRuntime, out: &mut [u8])
         requires { reply_room ≤ length out.old }
-        ensures { Told self (finished (session_of self.stream)) result }
+        ensures { Told self.old (finished (session_of self.old.stream)) self.new }
     {
-        let stream = self.stream;
-        let fed = stream.finish(out);
-        let next = fed.stream;
-        let written = fed.written;
-        self.tell(rt, b"", true, next, &out[..written])
+        let fed = self.stream.finish(out);
+        self.tell(rt, b"", true, fed.stream, &out[..fed.written]);
     }
 
     pub fn ended(self) -> bool
         ensures { result ≡ self.wire.ended }
     {
-        let wire = self.wire;
-        wire.ended()
+        self.wire.ended()
     }
 
     pub fn sent(self) -> bool
         ensures { result ≡ self.wire.sent }
     {
-        let wire = self.wire;
-        wire.sent()
+        self.wire.sent()
     }
 
     // Standard error is free, as of `Wire::complain`.
     pub fn complain(self, rt: HostRuntime) {
-        let wire = self.wire;
-        wire.complain(rt.stderr(), b"pumpday");
+        self.wire.complain(rt.stderr(), b"pumpday");
     }
 }

@@ -32,7 +32,8 @@ use Rattle.stream.specs.Input.{after_lines}
 use Rattle.programs.specs.Lines.{calls_of, day_of}
 use Rattle.programs.proofs.Lines.{lines_make_calls}
 use Rattle.floor.specs.History.{own_views}
-use Rattle.earnings.specs.declared.Earnings.TheVariants.{Refused, Figures}
+use Rattle.std.specs.Prelude.{Ok, Err}
+use Rattle.refusal.specs.Refusal.{refusal}
 use Rattle.earnings.specs.Earnings.{question_of, earned}
 use Rattle.pumpgreatest.specs.Prints.{answer, day_earnings, DayEarned}
 
@@ -74,7 +75,7 @@ module _ (s : Day) (h : History) (r : Reached s h) where
       ∙ r.tracks.inside j (omega (arith, length-map h.views (λ (w : View). w.set))))
 
   few : length (own_views h) ≤ max_handed_in
-      → earned s (own_views h) ≡ Figures (total_takings s) (most_of s (own_views h))
+      → earned s (own_views h) ≡ Ok (record { takings = total_takings s; greatest = most_of s (own_views h) })
   unfolding earned question_of first_failed
   few l =
       rw (
@@ -84,7 +85,7 @@ module _ (s : Day) (h : History) (r : Reached s h) where
         le-leb s.count 64 (sound_facts s r.is_sound).few,
       )
 
-  many : (vs : List ℕ) → max_handed_in < length vs → earned s vs ≡ Refused 19
+  many : (vs : List ℕ) → max_handed_in < length vs → earned s vs ≡ Err (refusal 19)
   unfolding earned question_of first_failed
   many vs l = rw (r.is_sound, lt-leb (length vs) max_handed_in l)
 
@@ -93,7 +94,8 @@ module _ (s : Day) (h : History) (r : Reached s h) where
     where
       go : (b : Bool) → leb (length (own_views h)) max_handed_in ≡ b
           → earned s (take n (own_views h))
-          ≡ cond b (Figures (total_takings s) (most_of s (own_views h))) (Refused 19)
+          ≡ cond b (Ok (record { takings = total_takings s; greatest = most_of s (own_views h) }))
+          (Err (refusal 19))
       go true e =
           let f = leb-true (length (own_views h)) max_handed_in e in
           ap (earned s) (take_all n (own_views h) (omega arith)) ∙ few f

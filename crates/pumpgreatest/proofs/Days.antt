@@ -1,10 +1,11 @@
--- A run, block after block: what reads gave adds up to one input (`Reached`), whose day is the one that the stream and
--- the entries for views have.
-use mathlib.Core.Path.{◌≡◌, ap, ap₂, ◌∙◌, subst, subst⁻¹}
+-- The line of an input's day: the day is the one that the stream and the entries for views have at its end.
+use mathlib.Core.Path.{◌≡◌, ap, ap₂, ◌∙◌, subst}
 use mathlib.Core.Bool.{true, false}
-use mathlib.Core.List.{List, [], ◌++◌}
-use Prim.Native.Nat.{ℕ, suc, ◌≤◌, ◌<◌}
-use lib.ListN.{length, take}
+use mathlib.Core.List.{List}
+use Prim.Native.Nat.{ℕ, ◌<◌}
+use lib.ListN.{length}
+use Rattle.std.specs.Prelude.{Some}
+use Rattle.finite.proofs.Tests.{never}
 use Rattle.day.specs.declared.Day.{Day}
 use Rattle.day.specs.Day.{blank}
 use Rattle.allotments.specs.Limits.{max_handed_in}
@@ -15,18 +16,19 @@ use Rattle.stream.specs.Input.{after_lines, all_lines}
 use Rattle.stream.proofs.Chunking.{split}
 use Rattle.recording.specs.Recording.{noted, last_views}
 use Rattle.recording.specs.Cited.{Took}
-use Rattle.recording.proofs.Bytes.{took_none, took_more}
 use Rattle.recording.proofs.Views.{any_recording}
-use Rattle.wire.specs.Wires.{counted_on, max_reads, input_of}
-use Rattle.wire.proofs.Blocks.{no_more}
-use Rattle.wire.proofs.Heard.{Heard, Ended, heard_none, heard_more, untold, ended_failed, ended_told, ended_spent}
-use Rattle.earnings.specs.declared.Earnings.{Earnings}
+use Rattle.wire.specs.Wires.{counted_on, input_of}
+use Rattle.std.specs.Prelude.{Result}
+use Rattle.refusal.specs.declared.Refusal.{Refusal}
+use Rattle.earnings.specs.declared.Figures.{Figures}
 use Rattle.earnings.specs.Earnings.{earned, earnings_text}
-use Rattle.pumpgreatest.specs.declared.Read.{Read}
-use Rattle.pumpgreatest.specs.declared.teller.Teller.{Teller}
-use Rattle.pumpgreatest.specs.Telling.{new_teller, Told}
+use Rattle.teller.specs.declared.Teller.{Teller}
+use Rattle.teller.specs.Telling.{Heard}
+use Rattle.pumpgreatest.specs.declared.told.Line.{Line}
+use Rattle.pumpgreatest.specs.declared.Reader.{Reader}
+use Rattle.pumpgreatest.specs.Telling.{Told}
 use Rattle.pumpgreatest.specs.Prints.{day_earnings, Prints}
-use Rattle.pumpgreatest.specs.Cited.{earned_of, Taken, earned_at_end}
+use Rattle.pumpgreatest.specs.Cited.{earned_of, earned_at_end}
 use Rattle.pumpgreatest.proofs.Answers.{lines_answered}
 
 -- the earnings at the end of an input that was taken whole, beside more entries than the search takes views
@@ -41,63 +43,45 @@ ended_earnings i v k w l t =
     ∙ ap (earned (after_lines blank ls)) r.views_are
     ∙ lines_answered ls (length v) l
 
--- A run: the stream k, the entries u and the teller w, after reads that gave blocks, with so many turns left.
-abbrev pub Reached : (v : List ℕ) → Stream → List ℕ → Teller → ℕ → Type 0
-Reached v k u w turns = Heard (λ i. Took new_stream v i k u) w.wire turns
-
-pub reached_none : (v : List ℕ) {k : Stream} {w : Teller} → k ≡ new_stream → w ≡ new_teller
-    → Reached v k v w max_reads
-reached_none v e f =
-    heard_none (ap (λ (w : Teller). w.wire) f)
-    (subst⁻¹ (λ (k : Stream). Took new_stream v [] k v) e (took_none new_stream v))
-
--- what is told of the input i
-abbrev Whole : Teller → List ℕ → Type 0
-Whole r i =
-    (r.earnings ≡ day_earnings (all_lines (split i)))
-    × (r.wire.told ≡ counted_on 0 (earnings_text (day_earnings (all_lines (split i)))))
-
-prints_of : {r : Teller} → Ended (Whole r) r.wire → Prints r
-prints_of e = record {
-  blocks = e.blocks;
-  none_empty = e.none_empty;
-  input = split (input_of e.blocks);
-  got_is = e.got_is;
-  ended_is = e.ended_is;
-  earnings_is = λ f h. (e.holds f h).0;
-  told_is = λ f h. (e.holds f h).1;
-  none_told = e.none_told;
-  none_told_yet = e.none_told_yet;
-}
-
-module _ {v : List ℕ} {k : Stream} {u : List ℕ} {w : Teller} {turns : ℕ} (a : Reached v k u w turns) {l : List ℕ}
-    {t : Read} {x : List ℕ} (r : Taken w k u l t x) where
+-- A whole run: what was heard led from a new stream, with the entries v, to m.
+module _ {n m : Reader} {w : Teller Line}
+    (h : Heard (λ (k : Reader) (l : List ℕ) (m : Reader). Took k.stream k.views l m.stream m.views) n m w)
+    (new : n.stream ≡ new_stream) where
   abbrev input : List ℕ
-  input = input_of a.blocks
+  input = input_of h.blocks
 
-  more_took : Took new_stream v (input ++ take r.n l) t.stream x
-  more_took = took_more a.holds r.took
+  took : Took new_stream n.views input m.stream m.views
+  took = subst (λ (k : Stream). Took k n.views input m.stream m.views) new h.took_is
 
-  pub reached_more : t.teller.wire.ended ≡ false → {n : ℕ} → suc n ≡ turns → Reached v t.stream x t.teller n
-  reached_more = heard_more a r.reads more_took
+  -- the input has not ended, or a read failed
+  pub ran_untold : (w.wire.failed ≡ false → w.wire.ended ≡ true → ⊥) → Prints w
+  ran_untold never = record {
+    blocks = h.blocks;
+    none_empty = h.none_empty;
+    input = split input;
+    got_is = h.got_is;
+    ended_is = λ f i. h.ended_is i;
+    earnings_is = λ f e. absurd (never f e);
+    told_is = λ f e. absurd (never f e);
+    none_told = λ f. h.none_told;
+    none_told_yet = λ f. h.none_told;
+  }
 
-  -- the last read failed
-  pub ran_failed : t.teller.wire.failed ≡ true → Prints t.teller
-  ran_failed e = prints_of (ended_failed a r.reads (Whole t.teller) e)
-
-  -- the last read gave nothing
-  pub ran_through : t.teller.wire.failed ≡ false → t.teller.wire.ended ≡ true → max_handed_in < length v
-      → {y : Teller} → Told t.teller (earned_at_end t.stream x) y → Prints y
-  ran_through s e room {y} q =
-      let none = no_more a.reads r.reads e in
-      let earnings : earned_at_end t.stream x ≡ day_earnings (all_lines (split input)) =
-      ended_earnings input v t.stream x room
-      (subst (λ (i : List ℕ). Took new_stream v i t.stream x) none more_took) in
-      prints_of (ended_told a r.reads s e q.writes (
-        q.earnings_is ∙ earnings,
-        q.writes.told_is
-            ∙ ap₂ (λ (i : ℕ) (z : Earnings). counted_on i (earnings_text z)) (untold a r.reads) earnings,
-      ))
-
-pub ran_spent : {P : List ℕ → Type 0} {w : Teller} {turns : ℕ} → Heard P w.wire turns → turns ≤ 0 → Prints w
-ran_spent {w = w} a h = prints_of (ended_spent a (Whole w) h)
+  -- the input has ended, and the line of its day was told
+  pub ran_through : w.wire.failed ≡ false → w.wire.ended ≡ true → max_handed_in < length n.views → {u : Teller Line}
+      → Told w (earned_at_end m.stream m.views) u → Prints u
+  ran_through s e room {u} q =
+      let earnings : earned_at_end m.stream m.views ≡ day_earnings (all_lines (split input)) =
+      ended_earnings input n.views m.stream m.views room took in
+      record {
+        blocks = h.blocks;
+        none_empty = h.none_empty;
+        input = split input;
+        got_is = q.writes.got_is ∙ h.got_is;
+        ended_is = λ f j. q.writes.ended_is ∙ e;
+        earnings_is = λ f j. q.told_is ∙ ap (λ (x : Result Figures Refusal). Some (record { earnings = x })) earnings;
+        told_is = λ f j. q.writes.told_is
+            ∙ ap₂ (λ (a : ℕ) (x : Result Figures Refusal). counted_on a (earnings_text x)) h.none_told earnings;
+        none_told = λ f. absurd (never u.wire.failed (q.writes.failed_is ∙ s) f);
+        none_told_yet = λ f. absurd (never u.wire.ended f (q.writes.ended_is ∙ e));
+      }

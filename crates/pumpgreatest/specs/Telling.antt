@@ -1,15 +1,15 @@
--- What is told: the line of a day's earnings, over the program's wire; only `src/teller.rt` can put a teller together.
-use Rattle.std.specs.Prelude.{◌≡◌}
-use Rattle.earnings.specs.declared.Earnings.{Earnings}
-use Rattle.earnings.specs.declared.Earnings.TheVariants.{Refused}
+-- What is told: the line of a day's earnings, over the program's wire; only `crates/teller` can put a teller together.
+use Rattle.std.specs.Prelude.{Result}
+use Rattle.refusal.specs.declared.Refusal.{Refusal}
+use Rattle.earnings.specs.declared.Figures.{Figures}
 use Rattle.earnings.specs.Earnings.{earnings_text}
-use Rattle.wire.specs.Wires.{new_wire, Writes}
-use Rattle.pumpgreatest.specs.declared.teller.Teller.{Teller}
+use Rattle.teller.specs.declared.Teller.{Teller}
+use Rattle.teller.specs.Telling as telling
+use Rattle.pumpgreatest.specs.declared.told.Line.{Line}
 
-abbrev pub new_teller : Teller
-new_teller = record { earnings = Refused 0; wire = new_wire }
+abbrev pub new_teller : Teller Line
+new_teller = telling.new_teller
 
 -- the line of x told
-pub record Told (w : Teller) (x : Earnings) (r : Teller) : Type 0 where
-  pub earnings_is : r.earnings ≡ x
-  pub writes : Writes w.wire (earnings_text x) r.wire
+abbrev pub Told : (w : Teller Line) (x : Result Figures Refusal) (r : Teller Line) → Type 0
+Told w x r = telling.Told (λ (l : Line). earnings_text l.earnings) w (record { earnings = x }) r

@@ -1,15 +1,13 @@
--- What is told: the page of a state, over the program's wire; only `src/teller.rt` can put a teller together.
-use Rattle.std.specs.Prelude.{◌≡◌}
+-- What is told: the page of a state, over the program's wire; only `crates/teller` can put a teller together.
 use Rattle.day.specs.declared.Day.{Day}
-use Rattle.day.specs.Day.{blank}
 use Rattle.page.specs.Printing.{page_of}
-use Rattle.wire.specs.Wires.{new_wire, Writes}
-use Rattle.pumppage.specs.declared.teller.Teller.{Teller}
+use Rattle.teller.specs.declared.Teller.{Teller}
+use Rattle.teller.specs.Telling as telling
+use Rattle.pumppage.specs.declared.told.Page.{Page}
 
-abbrev pub new_teller : Teller
-new_teller = record { day = blank; wire = new_wire }
+abbrev pub new_teller : Teller Page
+new_teller = telling.new_teller
 
 -- the page of s told
-pub record Told (w : Teller) (s : Day) (r : Teller) : Type 0 where
-  pub day_is : r.day ≡ s
-  pub writes : Writes w.wire (page_of s) r.wire
+abbrev pub Told : (w : Teller Page) (s : Day) (r : Teller Page) → Type 0
+Told w s r = telling.Told (λ (p : Page). page_of p.day) w (record { day = s }) r

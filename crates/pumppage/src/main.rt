@@ -2,125 +2,75 @@
 // write that fails is told on standard error; no page is printed of a day that could not be read to its end.
 #![tactic(auto)]
 
-mod teller;
+mod told;
 
 ghost use Rattle.std.specs.Prelude.{◌≡◌, true, ◌≤◌, ◌<◌, length};
 ghost use Rattle.day.specs.Day.{sound};
-ghost use Rattle.reply.specs.Session.{reply_room, fed};
-ghost use Rattle.stream.specs.Stream.{finished, session_of, silent};
+ghost use Rattle.stream.specs.Stream.{finished, session_of};
+ghost use Rattle.stream.proofs.Parts.{stream_none, stream_more};
 ghost use Rattle.pumppage.specs.Telling.{Told};
 ghost use Rattle.pumppage.specs.Prints.{Prints};
-ghost use Rattle.pumppage.specs.Cited.{Part, Taken};
+ghost use Rattle.pumppage.specs.Cited.{Took};
 
-use page::{Printing, print_day};
+use page::print_day;
 use stream::feed::Stream;
-use teller::Teller;
+use teller::{Listener, Teller};
+use told::Page;
 
 // The bytes of a read at the most, and the room for a page.
 const BLOCK: usize = 65536;
 
-// The stream, and the place in the block.
-#[derive(Clone, Copy)]
-struct Turn {
+// The stream that the day is fed to, and room for its answers, which nobody is told, and for the page.
+#[derive(Drop)]
+struct Reader {
     stream: Stream,
-    from: usize,
+    out: [u8; BLOCK],
 }
 
-// The stream, and the teller after a read.
-#[derive(Clone, Copy)]
-struct Read {
-    stream: Stream,
-    teller: Teller,
+impl Listener for Reader {
+    ghost took = { λ k l m. Took k.stream l m.stream };
+
+    // The whole block, part by part, each as far as there is room for its answers.
+    fn take(&mut self, block: &[u8]) {
+        let mut from = 0;
+        while from < block.len() {
+            let fed = self.stream.feed(&block[from..], &mut self.out);
+            self.stream = fed.stream;
+            from += fed.consumed;
+        }
+    }
+
+    ghost took_none = { λ k. stream_none k.stream };
+
+    ghost took_more = { λ k m n l b t s. stream_more (session_of k.stream) l b _ t _ s };
 }
 
-// The block from a place on, as far as there is room for its answers, which nobody is told.
-fn take_part(stream: Stream, block: &[u8], from: usize, out: &mut [u8]) -> Turn
-    requires { from ≤ length block.now }
-    ensures { Part stream block.now out.old from result }
-{
-    let fed = stream.feed(&block[from..], out);
-    let next = fed.stream;
-    Turn {
-        stream: next,
-        from: from + fed.consumed,
+impl Reader {
+    // A last line without byte 10, and the page.
+    fn finish(&mut self, rt: HostRuntime, teller: &mut Teller<Page>)
+        requires { sound self.old.stream.day ≡ true }
+        ensures { Told teller.old (finished (session_of self.old.stream)).day teller.new }
+    {
+        let next = self.stream.finish(&mut self.out).stream;
+        let day = next.day;
+        if let Ok(n) = print_day(day, &mut self.out) {
+            teller.tell(rt, Page { day }, &self.out[..n]);
+        }
     }
 }
 
-// The whole block, part by part.
-fn take_block(stream: Stream, block: &[u8], out: &mut [u8]) -> Stream
-    requires { reply_room ≤ length out.old }
-    ensures { session_of result ≡ silent (fed (session_of stream) block.now) }
-{
-    let mut t = Turn {
-        stream: stream,
-        from: 0,
-    };
-    while t.from < block.len() {
-        let next = take_part(t.stream, block, t.from, out);
-        t = next;
-    }
-    t.stream
-}
-
-// One read, and what it gave, which is borrowed until it is taken, so that nothing writes over it. What is left in
-// `out` is free.
-fn read_block(
-    rt: HostRuntime,
-    teller: Teller,
-    stream: Stream,
-    block: &mut [u8],
-    out: &mut [u8],
-) -> Read
-    requires { (0 < length block.old) × (reply_room ≤ length out.old) }
-    ensures { Taken teller stream block.new result }
-{
-    let r = teller.read(rt, block);
-    let n = r.n;
-    let given = &block[..n];
-    let w = r.teller;
-    let next = take_block(stream, given, out);
-    Read {
-        stream: next,
-        teller: w,
-    }
-}
-
-// A last line without byte 10, and the page. What is left in `out` is free.
-fn finish(rt: HostRuntime, teller: Teller, stream: Stream, out: &mut [u8]) -> Teller
-    requires { (reply_room ≤ length out.old) × (sound stream.day ≡ true) }
-    ensures { Told teller (finished (session_of stream)).day result }
-{
-    let fed = stream.finish(out);
-    let next = fed.stream;
-    let day = next.day;
-    match print_day(day, out) {
-        Printing::Length(n) => teller.tell(rt, day, &out[..n]),
-        Printing::Refusal(_) => teller,
-    }
-}
-
-// Block after block, until a read gives nothing or fails. A proved loop has to end: this one counts down from a number
-// that no run uses up.
-fn run(rt: HostRuntime, block: &mut [u8], out: &mut [u8]) -> Teller
-    requires { (0 < length block.old) × (reply_room ≤ length out.old) }
+// The whole input, and its page, unless a read failed.
+fn run(rt: HostRuntime, block: &mut [u8]) -> Teller<Page>
+    requires { 0 < length block.old }
     ensures { Prints result }
 {
-    let mut stream = Stream::new();
-    let mut teller = Teller::new();
-    let mut turns = u64::MAX;
-    while turns > 0 {
-        let t = read_block(rt, teller, stream, block, out);
-        let next = t.stream;
-        let w = t.teller;
-        if w.failed() {
-            return w;
-        }
-        if w.ended() {
-            return finish(rt, w, next, out);
-        }
-        stream = next;
-        teller = w;
-        turns -= 1;
+    let mut reader = Reader {
+        stream: Stream::new(),
+        out: [0; BLOCK],
+    };
+    let mut teller = Teller::hear(rt, &mut reader, block);
+    if teller.ended() && !teller.failed() {
+        reader.finish(rt, &mut teller);
     }
     teller
 }
@@ -128,7 +78,5 @@ fn run(rt: HostRuntime, block: &mut [u8], out: &mut [u8]) -> Teller
 // It promises nothing: what a run promises, `run` does, and behind it only standard error is written.
 fn main(rt: HostRuntime) {
     let mut block = [0u8; BLOCK];
-    let mut out = [0u8; BLOCK];
-    let w = run(rt, &mut block, &mut out);
-    w.complain(rt);
+    run(rt, &mut block).complain(rt, b"pumppage");
 }

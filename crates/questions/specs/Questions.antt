@@ -1,5 +1,7 @@
 -- Questions at the door: the first "no", and the questions that need no more of a state than its head.
-use Rattle.std.specs.Prelude.{◌≡◌, Bool, cond, List, [], ◌∷◌, ℕ, ◌+◌, leb, ltb}
+use Rattle.std.specs.Prelude.{◌≡◌, Bool, cond, List, [], ◌∷◌, ℕ, ◌+◌, leb, ltb, eqb, Result, Ok, Err}
+use Rattle.refusal.specs.declared.Refusal.{Refusal}
+use Rattle.refusal.specs.Refusal.{refusal}
 use Rattle.sets.specs.Set.{size, within}
 use Rattle.campaigns.specs.declared.Head.{Head}
 use Rattle.campaigns.specs.declared.Plan.{Plan}
@@ -22,6 +24,10 @@ question n b = record { asked = n; yes = b }
 unfoldable pub first_failed : List Question → ℕ
 first_failed [] = 0
 first_failed (q ∷ qs) = cond q.yes (first_failed qs) q.asked
+
+-- that number as what an operation hands back: a refusal, or no value where the call is accepted
+abbrev pub verdict : ℕ → Result Unit Refusal
+verdict n = cond (eqb n 0) (Ok tt) (Err (refusal n))
 
 -- The same in propositions: n is the number that is given where question q asks for P and the rest is asked behind it;
 -- where none is left to ask, the call is accepted.

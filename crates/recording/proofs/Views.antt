@@ -11,8 +11,10 @@ use lib.Dec.{leb, ltb}
 use lib.ListN.{length, take, set, length-append, length-set}
 use lib.Seq.{take_all, take-set-le, take-suc-set, take-append-le, set_out}
 use borrow.Author.Tests.{eq-eqb, leb-true, leb-false, ltb-true, ltb-false}
+use Rattle.std.specs.Prelude.{Result}
+use Rattle.refusal.specs.declared.Refusal.{Refusal}
+use Rattle.lines.specs.declared.Record.{Record}
 use Rattle.sets.specs.Set.{without}
-use Rattle.lines.specs.declared.Reading.{Reading}
 use Rattle.lines.specs.Limits.{line_buffer}
 use Rattle.lines.specs.Reading.{reading}
 use Rattle.campaigns.specs.declared.View.{View}
@@ -182,7 +184,7 @@ noted_last s v (k ∷ ls) l = noted_last (next s k) (noted s k v) ls l
 cut_noted : (s : Day) (l v : List ℕ) → noted s (take line_buffer l) v ≡ noted s l v
 unfolding noted
 cut_noted s l v =
-    ap (λ (r : Reading). set v s.accepted (without (shown_in (request_of r)) s.paused)) (cut_reading l)
+    ap (λ (r : Result Record Refusal). set v s.accepted (without (shown_in (request_of r)) s.paused)) (cut_reading l)
 
 recorded_line : (y : Session) (v m : List ℕ)
     → recorded y v (10 ∷ m) ≡ recorded (ended y) (noted y.day y.pending v) m

@@ -4,60 +4,23 @@
 
 ghost use Rattle.std.specs.Prelude.{◌≡◌, ◌++◌, ◌∷◌, [], ◌≤◌, length};
 ghost use Rattle.lines.specs.Reading.{reading};
-ghost use Rattle.reply.specs.Reply.{request, request_of};
+ghost use Rattle.reply.specs.Reply.{request_of};
 ghost use Rattle.reply.specs.Session.{reply_room, fed, upto};
 ghost use Rattle.stream.specs.Stream.{finished, session_of, stream_of};
 ghost use Rattle.recording.specs.Recording.{shown_in, noted};
 ghost use Rattle.recording.specs.Cited.{Took};
 
 use batch::line_end;
-use lines::{Reading, Record, read_line};
+use lines::{Record, read_line};
 use stream::feed::{Stream, at_most_held};
 
-// The set that a view shows; any other record shows none.
-fn shown(input: Record) -> u64
-    ensures { result ≡ shown_in (request input) }
-{
-    match input {
-        Record::Plan { depth: _, width: _ } => 0,
-        Record::Campaign {
-            price: _,
-            budget: _,
-        } => 0,
-        Record::Start => 0,
-        Record::View(set) => set,
-        Record::Close => 0,
-        Record::Done => 0,
-        Record::Play {
-            campaign: _,
-            paid: _,
-        } => 0,
-        Record::Nobody => 0,
-        Record::Refused(_) => 0,
-        Record::Closed {
-            takings: _,
-            claim: _,
-            full: _,
-        } => 0,
-        Record::Tally {
-            campaign: _,
-            plays: _,
-            turns: _,
-            age: _,
-            named: _,
-        } => 0,
-        Record::Pause(_) => 0,
-        Record::Resume(_) => 0,
-    }
-}
-
-// The same of a line.
+// The set that a line shows which is a view; any other line shows none.
 fn shown_by(line: &[u8]) -> u64
     ensures { result ≡ shown_in (request_of (reading line.now)) }
 {
     match read_line(line) {
-        Reading::Got(input) => shown(input),
-        Reading::Refusal(_) => 0,
+        Ok(Record::View(set)) => set,
+        _ => 0,
     }
 }
 
@@ -67,15 +30,12 @@ fn note(stream: Stream, views: &mut [u64])
     ensures { views.new
         ≡ noted stream.day (session_of stream).pending views.old }
 {
-    let day = stream.day;
-    let pending = stream.pending;
-    let n = at_most_held(stream.kept);
-    let set = shown_by(&pending[..n]);
+    let Stream { day, pending, kept } = stream;
+    let set = shown_by(&pending[..at_most_held(kept)]);
     let at = day.accepted as usize;
-    if at >= views.len() {
-        return;
+    if at < views.len() {
+        views[at] = sets::without(set, day.paused);
     }
-    views[at] = sets::without(set, day.paused);
 }
 
 // A line, or what is left of one that has bytes pending, and its byte 10.
@@ -83,11 +43,9 @@ fn take_line(stream: Stream, line: &[u8], views: &mut [u64], out: &mut [u8]) -> 
     requires { (reply_room ≤ length out.old) × (upto line.now ≡ length line.now) }
     ensures { Took stream views.old (line.now ++ (10 ∷ [])) result views.new }
 {
-    let fed = stream.feed(line, out);
-    let whole = fed.stream;
+    let whole = stream.feed(line, out).stream;
     note(whole, views);
-    let last = whole.feed(b"\n", out);
-    last.stream
+    whole.feed(b"\n", out).stream
 }
 
 // A block of the day's input. The lent bytes `out` are room for its answers, which nobody is told: what stands in them
@@ -101,13 +59,11 @@ pub fn take_block(stream: Stream, block: &[u8], views: &mut [u64], out: &mut [u8
     let mut from = 0;
     let mut end = line_end(block, 0);
     while end < block.len() {
-        let next = take_line(s, &block[from..end], views, out);
-        s = next;
+        s = take_line(s, &block[from..end], views, out);
         from = end + 1;
         end = line_end(block, from);
     }
-    let rest = s.feed(&block[from..], out);
-    rest.stream
+    s.feed(&block[from..], out).stream
 }
 
 // The end of the input: a last line without byte 10 counts if it has bytes.
@@ -117,6 +73,5 @@ pub fn take_end(stream: Stream, views: &mut [u64], out: &mut [u8]) -> Stream
         × (views.new ≡ noted stream.day (session_of stream).pending views.old) }
 {
     note(stream, views);
-    let fed = stream.finish(out);
-    fed.stream
+    stream.finish(out).stream
 }

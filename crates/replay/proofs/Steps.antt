@@ -7,8 +7,7 @@ use mathlib.Core.List.{List, [], ◌∷◌, ◌++◌}
 use Prim.Native.Nat.{ℕ, suc, ◌+◌, ◌*◌, ◌^◌, ◌≤◌, ◌<◌}
 use native.Mathlib.Omega.{arith}
 use lib.Dec.{eqb}
-use lib.ListN.{get_or, length, take, drop, length-drop, drop_of_length-le}
-use lib.Seq.{drop-cons}
+use lib.ListN.{get_or, length}
 use borrow.Author.Tests.{ltb-true, eq-eqb, ne_eqb}
 use Rattle.finite.specs.Finite.{total}
 use Rattle.finite.proofs.Tables.{total_snoc}
@@ -26,6 +25,9 @@ use Rattle.day.specs.declared.Outcome.{Outcome}
 use Rattle.day.specs.Day.{blank_plan, campaign}
 use Rattle.day.specs.Calls.{number, Call, questions, found, player, offers, view_answer, result, call}
 use Rattle.day.specs.Calls.Call.{open_plan, add_campaign, start_day, show_view, ask_tally, close_day, mark_campaign}
+use Rattle.day.specs.declared.Call.{Call as Asked}
+use Rattle.day.specs.declared.Call.TheVariants.{Open, Add, Start, Show, Tally, Close, Pause, Resume}
+use Rattle.day.specs.InPlace.{asked}
 use Rattle.day.proofs.Questions.{Yes, call_elim}
 use Rattle.day.proofs.State.{Sound, sound_facts, held_at}
 use Rattle.demands.specs.Choice.{Right}
@@ -147,10 +149,21 @@ viewed_once s p w o e =
     (λ h q. view_takings h w o.answer ∙ ap (λ (n : ℕ). n + paid_in o.answer) q)
 
 -- the other calls leave the takings
-pub unpaid : (s : Day) (p : ℕ) (c : Call) (o : Outcome) → o ≡ call s c
-    → ((h : History) (a : Answer) → day_takings (with_call h c a) ≡ day_takings h)
-    → ReplaysTo s p (c ∷ []) (at o.day p)
-unpaid s p c o e k = one_call s p c o e p (λ h q. quiet h c o.answer (k h o.answer) ∙ q)
+other_calls : (d : Asked) → ((pl : Plan) → d ≡ Open pl → ⊥) → ((w : View) → d ≡ Show w → ⊥) → (h : History) (a : Answer)
+    → day_takings (with_call h (asked d) a) ≡ day_takings h
+other_calls (Open pl) n m h a = absurd (n pl refl)
+other_calls (Add t) n m h a = refl
+other_calls Start n m h a = refl
+other_calls (Show w) n m h a = absurd (m w refl)
+other_calls (Tally i) n m h a = refl
+other_calls Close n m h a = refl
+other_calls (Pause i) n m h a = refl
+other_calls (Resume i) n m h a = refl
+
+pub unpaid : (s : Day) (p : ℕ) (d : Asked) (o : Outcome) → o ≡ call s (asked d) → ((pl : Plan) → d ≡ Open pl → ⊥)
+    → ((w : View) → d ≡ Show w → ⊥) → ReplaysTo s p (asked d ∷ []) (at o.day p)
+unpaid s p d o e n m =
+    one_call s p (asked d) o e p (λ h q. quiet h (asked d) o.answer (other_calls d n m h o.answer) ∙ q)
 
 -- A list and what follows it.
 final_append : (cs ds : List Call) (s : Day) → final s (cs ++ ds) ≡ final (final s cs) ds
@@ -165,28 +178,28 @@ continued_append [] ds s h = refl
 continued_append (c ∷ cs) ds s h =
     continued_append cs ds (call s c).day (entered h (exchange c (call s c).answer))
 
--- three words in hand
-module _ (ws : List ℕ) where
-  cons : (j k : ℕ) → k ≡ suc j → j < length ws → drop j ws ≡ get_or ws j 0 ∷ drop k ws
-  cons j k e h = rw e (drop-cons ws j 0 h)
+-- three words are one call
+three : (x : List ℕ) → length x ≡ 3 → x ≡ get_or x 0 0 ∷ get_or x 1 0 ∷ get_or x 2 0 ∷ []
+three [] h = absurd (omega (arith, h))
+three (a ∷ []) h = absurd (omega (arith, h))
+three (a ∷ b ∷ []) h = absurd (omega (arith, h))
+three (a ∷ b ∷ c ∷ []) h = refl
+three (a ∷ b ∷ c ∷ d ∷ l) h = absurd (omega (arith, h))
 
-  three : (i : ℕ) → i + 3 ≤ length ws
-      → drop i ws ≡ get_or ws i 0 ∷ get_or ws (i + 1) 0 ∷ get_or ws (i + 2) 0 ∷ drop (i + 3) ws
-  three i h =
-      cons i (i + 1) (omega arith) (omega arith)
-      ∙ ap (λ (l : List ℕ). get_or ws i 0 ∷ l) (cons (i + 1) (i + 2) (omega arith) (omega arith)
-      ∙ ap (λ (l : List ℕ). get_or ws (i + 1) 0 ∷ l) (cons (i + 2) (i + 3) (omega arith) (omega arith)))
+decode_three : (x rest : List ℕ) → length x ≡ 3
+    → decode (x ++ rest) ≡ call_in (get_or x 0 0) (get_or x 1 0) (get_or x 2 0) ++ decode rest
+unfolding decode
+decode_three x rest h = ap (λ (y : List ℕ). decode (y ++ rest)) (three x h)
 
--- What is left to run at word i of ws, from the state s₁ and the takings p, comes to what the whole list comes to from
--- s.
-pub record Rest (s : Day) (ws : List ℕ) (i : ℕ) (s₁ : Day) (p : ℕ) : Type 0 where
+-- What is left to run of ws, from the state s₁ and the takings p, comes to what the whole list comes to from s.
+pub record Rest (s : Day) (ws left : List ℕ) (s₁ : Day) (p : ℕ) : Type 0 where
   pub day : History
   pub takings_are : day_takings day ≡ p
   pub bounded : Bounded s₁ p
-  pub state_left : final s₁ (decode (drop i ws)) ≡ final s (decode ws)
-  pub day_left : continued day (transcript s₁ (decode (drop i ws))) ≡ history (transcript s (decode ws))
+  pub state_left : final s₁ (decode left) ≡ final s (decode ws)
+  pub day_left : continued day (transcript s₁ (decode left)) ≡ history (transcript s (decode ws))
 
-pub rest_start : (s : Day) (ws : List ℕ) → Rest s ws 0 s 0
+pub rest_start : (s : Day) (ws : List ℕ) → Rest s ws ws s 0
 unfolding total
 rest_start s ws = record {
   day = opening blank_plan;
@@ -196,18 +209,17 @@ rest_start s ws = record {
   day_left = refl;
 }
 
--- a call made of three words
-pub rest_step : (s : Day) (ws : List ℕ) (i : ℕ) (s₁ : Day) (p : ℕ) (r : Replayed) → i + 3 ≤ length ws
-    → Rest s ws i s₁ p → ReplaysTo s₁ p (call_in (get_or ws i 0) (get_or ws (i + 1) 0) (get_or ws (i + 2) 0)) r
-    → Rest s ws (i + 3) r.day r.paid
-unfolding decode
-rest_step s ws i s₁ p r l k runs =
-    let cs : List Call = call_in (get_or ws i 0) (get_or ws (i + 1) 0) (get_or ws (i + 2) 0) in
-    let ds : List Call = decode (drop (i + 3) ws) in
-    let now : decode (drop i ws) ≡ cs ++ ds = ap decode (three ws i l) in
+-- with what three words call
+pub rest_step : (s : Day) (ws left x rest : List ℕ) (s₁ : Day) (p : ℕ) (r : Replayed) → left ≡ x ++ rest
+    → length x ≡ 3 → Rest s ws left s₁ p
+    → ReplaysTo s₁ p (call_in (get_or x 0 0) (get_or x 1 0) (get_or x 2 0)) r → Rest s ws rest r.day r.paid
+rest_step s ws left x rest s₁ p r e l k runs =
+    let cs : List Call = call_in (get_or x 0 0) (get_or x 1 0) (get_or x 2 0) in
+    let ds : List Call = decode rest in
+    let now : decode left ≡ cs ++ ds = ap decode e ∙ decode_three x rest l in
     let day : History = continued k.day (transcript s₁ cs) in
     let e : r ≡ at (final s₁ cs) (day_takings day) = runs k.day k.takings_are in
-    let here : Rest s ws (i + 3) (final s₁ cs) (day_takings day) =
+    let here : Rest s ws rest (final s₁ cs) (day_takings day) =
     record {
       day = day;
       takings_are = refl;
@@ -218,7 +230,7 @@ rest_step s ws i s₁ p r l k runs =
           ∙ ap (λ (l : List Call). continued k.day (transcript s₁ l)) (sym now)
           ∙ k.day_left;
     } in
-    subst⁻¹ (λ (x : Replayed). Rest s ws (i + 3) x.day x.paid) e here
+    subst⁻¹ (λ (y : Replayed). Rest s ws rest y.day y.paid) e here
 
 -- fewer than three
 decode_short : (l : List ℕ) → length l < 3 → decode l ≡ []
@@ -228,35 +240,16 @@ decode_short (x ∷ []) h = refl
 decode_short (x ∷ y ∷ []) h = refl
 decode_short (x ∷ y ∷ z ∷ l) h = absurd (omega arith)
 
-pub decode_end : (ws : List ℕ) (i : ℕ) → length ws < i + 3 → decode (drop i ws) ≡ []
-decode_end ws i h = decode_short (drop i ws) (omega (arith, length-drop i ws))
-
--- a kind that is none of the eight is past them; in two steps, since each "not" makes a case
-past_four : (k : ℕ) → (k ≡ 0 → ⊥) → (k ≡ 1 → ⊥) → (k ≡ 2 → ⊥) → (k ≡ 3 → ⊥) → 4 ≤ k
-past_four k a b c d = omega arith
-
-past_rest : (k : ℕ) → 4 ≤ k → (k ≡ 4 → ⊥) → (k ≡ 5 → ⊥) → (k ≡ 6 → ⊥) → (k ≡ 7 → ⊥) → 8 ≤ k
-past_rest k l e f g h = omega arith
-
-pub past_eight : (k : ℕ) → (k ≡ 0 → ⊥) → (k ≡ 1 → ⊥) → (k ≡ 2 → ⊥) → (k ≡ 3 → ⊥) → (k ≡ 4 → ⊥) → (k ≡ 5 → ⊥)
-    → (k ≡ 6 → ⊥) → (k ≡ 7 → ⊥) → 8 ≤ k
-past_eight k a b c d e f g h = past_rest k (past_four k a b c d) e f g h
-
--- a kind past the eight is no call
-pub no_call : (kind a b : ℕ) → 8 ≤ kind → call_in kind a b ≡ []
-unfolding call_in
-no_call kind a b h = ap (take 1) (drop_of_length-le _ h)
-
 pub no_calls : (s : Day) (p : ℕ) → ReplaysTo s p [] (at s p)
 unfolding final transcript continued
 no_calls s p h q = ap (at s) (sym q)
 
 -- nothing is left
-pub replayed : (s : Day) (ws : List ℕ) (i : ℕ) (s₁ : Day) (p : ℕ) → length ws < i + 3 → Rest s ws i s₁ p
+pub replayed : (s : Day) (ws left : List ℕ) (s₁ : Day) (p : ℕ) → length left < 3 → Rest s ws left s₁ p
     → Replays s ws (at s₁ p)
 unfolding final transcript continued
-replayed s ws i s₁ p l k =
-    let none : decode (drop i ws) ≡ [] = decode_end ws i l in
+replayed s ws left s₁ p l k =
+    let none : decode left ≡ [] = decode_short left l in
     let ran : s₁ ≡ final s (decode ws) = sym (ap (final s₁) none) ∙ k.state_left in
     let day : k.day ≡ history (transcript s (decode ws)) =
     sym (ap (λ (cs : List Call). continued k.day (transcript s₁ cs)) none) ∙ k.day_left in

@@ -2,15 +2,16 @@
 // 3.
 #![tactic(auto)]
 
-ghost use Rattle.std.specs.Prelude.{◌≡◌, [], ◌∷◌, ◌*◌, ◌≤◌};
+ghost use Rattle.std.specs.Prelude.{◌≡◌, [], ◌∷◌, ◌*◌, ◌≤◌, option_to_list, option_map};
 ghost use Rattle.campaigns.specs.Limits.{max_price};
 ghost use Rattle.day.specs.Calls.Call.{open_plan, show_view};
+ghost use Rattle.day.specs.InPlace.{asked};
 ghost use Rattle.floor.specs.History.{paid_in};
 ghost use Rattle.replay.specs.Replay.{call_in, Replays};
-ghost use Rattle.replay.specs.Cited.{at, ReplaysTo};
+ghost use Rattle.replay.specs.Cited.{ReplaysTo};
 
 use campaigns::{Plan, Terms, View};
-use day::{Answer, Day, Outcome};
+use day::{Answer, Call, Day};
 
 // The state at a list's end, and the day's takings, added up from the answers.
 #[derive(Clone, Copy)]
@@ -24,81 +25,68 @@ fn paid_in(answer: Answer) -> u64
     ensures { result ≡ paid_in answer }
 {
     match answer {
-        Answer::Refused(_) => 0,
-        Answer::Done => 0,
-        Answer::Played { campaign: _, paid } => paid,
-        Answer::Nobody => 0,
-        Answer::Tallied {
-            plays: _,
-            turns: _,
-            age: _,
-            named: _,
-        } => 0,
-        Answer::Closing {
-            takings: _,
-            claim: _,
-            full: _,
-        } => 0,
+        Answer::Played { paid, .. } => paid,
+        _ => 0,
+    }
+}
+
+// The call that three words encode, or none where the kind is none of the eight.
+#[tactic(auto, unfolding(crate::specs::Replay::call_in))]
+fn call_of(kind: u64, a: u64, b: u64) -> Option<Call>
+    ensures { option_to_list (option_map asked result) ≡ call_in kind a b }
+{
+    match kind {
+        0 => Some(Call::Open(Plan { depth: a, width: b })),
+        1 => Some(Call::Add(Terms {
+            price: a,
+            budget: b,
+        })),
+        2 => Some(Call::Start),
+        3 => Some(Call::Show(View { set: a })),
+        4 => Some(Call::Tally(a)),
+        5 => Some(Call::Close),
+        6 => Some(Call::Pause(a)),
+        7 => Some(Call::Resume(a)),
+        _ => None,
     }
 }
 
 // An accepted opening begins a day, so that the takings begin again.
-fn open(day: Day, paid: u64, plan: Plan) -> Replayed
-    ensures { ReplaysTo day paid (open_plan plan ∷ []) result }
+fn open(before: Replayed, plan: Plan) -> Replayed
+    ensures { ReplaysTo before.day before.paid (open_plan plan ∷ []) result }
 {
-    let outcome = day.open(plan);
-    let answer = outcome.answer;
-    if answer.number() == 0 {
-        return keep(outcome, 0);
+    let outcome = before.day.open(plan);
+    let accepted = outcome.answer.number() == 0;
+    Replayed {
+        day: outcome.day,
+        paid: if accepted { 0 } else { before.paid },
     }
-    keep(outcome, paid)
 }
 
 // A view adds what its answer says was paid. Each accepted view pays at most 1,000,000, and there are at most 4,096.
-fn view(day: Day, paid: u64, view: View) -> Replayed
-    requires { paid ≤ max_price * day.accepted }
-    ensures { ReplaysTo day paid (show_view view ∷ []) result }
+fn view(before: Replayed, view: View) -> Replayed
+    requires { before.paid ≤ max_price * before.day.accepted }
+    ensures { ReplaysTo before.day before.paid (show_view view ∷ []) result }
 {
-    let outcome = day.view(view);
-    let answer = outcome.answer;
-    let more = paid_in(answer);
-    keep(outcome, paid + more)
-}
-
-// The state handed back, beside the takings.
-fn keep(outcome: Outcome, paid: u64) -> Replayed
-    ensures { result ≡ at outcome.day paid }
-{
-    let day = outcome.day;
+    let outcome = before.day.view(view);
+    let more = paid_in(outcome.answer);
     Replayed {
-        day: day,
-        paid: paid,
+        day: outcome.day,
+        paid: before.paid + more,
     }
 }
 
-// One call, or none where the kind is none of the eight.
-fn step(day: Day, paid: u64, kind: u64, a: u64, b: u64) -> Replayed
-    requires { paid ≤ max_price * day.accepted }
-    ensures { ReplaysTo day paid (call_in kind a b) result }
+// One call. No other than these two changes the takings.
+fn step(before: Replayed, call: Call) -> Replayed
+    requires { before.paid ≤ max_price * before.day.accepted }
+    ensures { ReplaysTo before.day before.paid (asked call ∷ []) result }
 {
-    match kind {
-        0 => open(day, paid, Plan { depth: a, width: b }),
-        1 => keep(
-            day.add(Terms {
-                price: a,
-                budget: b,
-            }),
-            paid,
-        ),
-        2 => keep(day.start(), paid),
-        3 => view(day, paid, View { set: a }),
-        4 => keep(day.tally(a), paid),
-        5 => keep(day.close(), paid),
-        6 => keep(day.pause(a), paid),
-        7 => keep(day.resume(a), paid),
+    match call {
+        Call::Open(plan) => open(before, plan),
+        Call::Show(shown) => view(before, shown),
         _ => Replayed {
-            day: day,
-            paid: paid,
+            day: before.day.execute(call).day,
+            paid: before.paid,
         },
     }
 }
@@ -107,17 +95,11 @@ fn step(day: Day, paid: u64, kind: u64, a: u64, b: u64) -> Replayed
 pub fn replay(day: Day, calls: &[u64]) -> Replayed
     ensures { Replays day calls.now result }
 {
-    let mut state = day;
-    let mut paid: u64 = 0;
-    let mut i = 0;
-    while 3 <= calls.len() - i {
-        let next = step(state, paid, calls[i], calls[i + 1], calls[i + 2]);
-        state = next.day;
-        paid = next.paid;
-        i += 3;
+    let mut state = Replayed { day, paid: 0 };
+    for words in calls.chunks_exact(3) {
+        if let Some(call) = call_of(words[0], words[1], words[2]) {
+            state = step(state, call);
+        }
     }
-    Replayed {
-        day: state,
-        paid: paid,
-    }
+    state
 }

@@ -5,11 +5,13 @@ use mathlib.Core.List.{List, [], ◌∷◌, ◌++◌, append_assoc, append-nil}
 use Prim.Native.Nat.{ℕ, zero, suc, ◌+◌, ◌≤◌, ◌<◌}
 use native.Mathlib.Omega.{arith}
 use lib.Dec.{leb, eqb}
-use lib.ListN.{length, take, drop, get_or, length-take, drop_of_length-le}
+use lib.ListN.{length, take, drop, get_or, length-take}
 use lib.Seq.{take_all, take-suc, drop-cons}
-use borrow.Author.Tests.{le-leb, lt-ltb, leb-true, leb-false, eqb-true, ne_eqb}
-use Rattle.lines.specs.declared.Reading.{Reading}
-use Rattle.lines.specs.declared.Reading.TheVariants.{Refusal}
+use borrow.Author.Tests.{le-leb, lt-ltb, leb-true, leb-false, eqb-true}
+use Rattle.std.specs.Prelude.{Result, Err}
+use Rattle.refusal.specs.declared.Refusal.{Refusal}
+use Rattle.refusal.specs.Refusal.{refusal}
+use Rattle.lines.specs.declared.Record.{Record}
 use Rattle.lines.specs.Limits.{max_line, line_buffer}
 use Rattle.lines.specs.Reading.{reading}
 use Rattle.day.specs.declared.Day.{Day}
@@ -18,7 +20,7 @@ use Rattle.reply.specs.Session.{Session, reply_room, longer, ended, after_byte, 
 
 -- A line cut at `line_buffer` bytes reads as the whole line does.
 
-cut_long : (l : List ℕ) → max_line < length l → reading l ≡ Refusal 16
+cut_long : (l : List ℕ) → max_line < length l → reading l ≡ Err (refusal 16)
 unfolding reading
 cut_long l h = rw (lt-ltb max_line (length l) h)
 
@@ -33,11 +35,12 @@ cut_reading l = go (leb (length l) line_buffer) refl
 
 pub cut_reply : (s : Day) (l : List ℕ) → reply s (take line_buffer l) ≡ reply s l
 unfolding reply outcome
-cut_reply s l = ap (λ (r : Reading). record_lines (reply_records (executed s (request_of r)))) (cut_reading l)
+cut_reply s l =
+    ap (λ (r : Result Record Refusal). record_lines (reply_records (executed s (request_of r)))) (cut_reading l)
 
 pub cut_next : (s : Day) (l : List ℕ) → next s (take line_buffer l) ≡ next s l
 unfolding next outcome
-cut_next s l = ap (λ (r : Reading). (executed s (request_of r)).day) (cut_reading l)
+cut_next s l = ap (λ (r : Result Record Refusal). (executed s (request_of r)).day) (cut_reading l)
 
 -- Feeding.
 
@@ -168,18 +171,3 @@ consumed_line n x l h r k =
       consumed_cons n y (get_or l (upto l) 0) (drop (suc (upto l)) l) r,
       ap (λ (z : Session). consumed_count n z (drop (suc (upto l)) l)) (byte_end y (get_or l (upto l) 0) (upto_at l k)),
     )
-
--- The first byte 10 from a place on.
-
-pub upto_past : (s : List ℕ) (i : ℕ) → i < length s → (get_or s i 0 ≡ 10 → ⊥) → upto (drop i s)
-    ≡ suc (upto (drop (suc i) s))
-unfolding upto
-upto_past s i h n = ap upto (drop-cons s i 0 h) ∙ rw (ne_eqb (get_or s i 0) 10 n)
-
-pub upto_here : (s : List ℕ) (i : ℕ) → i < length s → get_or s i 0 ≡ 10 → upto (drop i s) ≡ 0
-unfolding upto
-upto_here s i h e = ap upto (drop-cons s i 0 h) ∙ rw e
-
-pub upto_none : (s : List ℕ) (i : ℕ) → length s ≤ i → upto (drop i s) ≡ 0
-unfolding upto
-upto_none s i h = ap upto (drop_of_length-le s h)

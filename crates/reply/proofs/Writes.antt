@@ -10,10 +10,11 @@ use Rattle.lines.specs.Limits.{answer_room}
 use Rattle.lines.specs.Form.{is_output, text, in_range}
 use Rattle.lines.specs.declared.Record.{Record}
 use Rattle.lines.proofs.Choice.{answer_most}
-use Rattle.writer.specs.declared.Writing.TheVariants.{Length}
+use Rattle.std.specs.Prelude.{Ok}
 use Rattle.writer.specs.Writing.{line, write_question, writing, written}
 use Rattle.buffer.specs.Buffer.{over}
 use Rattle.buffer.proofs.Over.{over_front}
+use Rattle.buffer.proofs.Puts.{put_none}
 use Rattle.reply.specs.Reply.{record_lines}
 
 pub line_most : (r : Record) → is_output r ≡ true → length (line r) ≤ answer_room
@@ -27,7 +28,7 @@ module _ (r : Record) (d : List ℕ) (h : in_range r ≡ true) (o : is_output r 
   unfolding write_question
   no_question = rw (h, le-leb (length (line r)) (length d) (omega (arith, line_most r o)))
 
-  pub writing_is : writing r d ≡ Length (length (line r))
+  pub writing_is : writing r d ≡ Ok (length (line r))
   unfolding writing
   writing_is = rw no_question
 
@@ -50,3 +51,6 @@ unfolding record_lines
 lines_append [] b = refl
 lines_append (r ∷ a) b =
     ap (λ (w : List ℕ). line r ++ w) (lines_append a b) ∙ sym (append_assoc (line r) (record_lines a) (record_lines b))
+
+-- what an answer of one record, or of none, has to show
+pub ruleset one_record = (line_most, one_line, no_lines, put_none)

@@ -3,9 +3,10 @@
 -- word and show its values. Input forms make the calls that their words name and hand them their numbers, output forms
 -- get 17.
 use Rattle.std.specs.Prelude.{◌≡◌, true, false, List, [], ◌∷◌, ℕ, suc, ◌≤◌, ◌<◌, length, take, drop, get_or}
+use Rattle.std.specs.Prelude.{Ok, Err}
+use Rattle.refusal.specs.Refusal.{refusal}
 use Rattle.lines.specs.declared.Record.{Record}
 use Rattle.lines.specs.declared.Record.TheVariants.{Done, Tally}
-use Rattle.lines.specs.declared.Reading.TheVariants.{Got, Refusal}
 use Rattle.lines.specs.Limits.{max_question}
 use Rattle.lines.specs.Form.{bytes, numbers, is_output, text, in_range}
 use Rattle.lines.specs.Reading.{reading}
@@ -24,7 +25,7 @@ use Rattle.reply.specs.Session.{upto, first_line}
 pub record OutputLine (w : List ℕ) (r : Record) : Type 0 where
   pub output : is_output r ≡ true
   pub ranged : in_range r ≡ true
-  pub reads : reading (first_line w) ≡ Got r
+  pub reads : reading (first_line w) ≡ Ok r
   pub ends : get_or w (upto w) 0 ≡ 10
 
 -- the lines of w, and nothing else, are such lines of these records
@@ -48,9 +49,9 @@ answer_word (closing t c f) = bytes "(closed "
 pub record Answered (s : Day) (l : List ℕ) : Type 0 where
   -- a line that is read as a record which makes a call hands back what the call does; one that makes none, or that is
   -- not read, its number and the unchanged state
-  pub call_is : (r : Record) (c : Call) → reading l ≡ Got r → request r ≡ makes c → outcome s l ≡ call s c
-  pub no_call : (r : Record) (q : ℕ) → reading l ≡ Got r → request r ≡ fails q → outcome s l ≡ refused s q
-  pub unread : (q : ℕ) → reading l ≡ Refusal q → outcome s l ≡ refused s q
+  pub call_is : (r : Record) (c : Call) → reading l ≡ Ok r → request r ≡ makes c → outcome s l ≡ call s c
+  pub no_call : (r : Record) (q : ℕ) → reading l ≡ Ok r → request r ≡ fails q → outcome s l ≡ refused s q
+  pub unread : (q : ℕ) → reading l ≡ Err (refusal q) → outcome s l ≡ refused s q
   -- every refusal leaves the state; its number runs from 1 to the highest that the papers give
   pub refusal_is : (q : ℕ) → (outcome s l).answer ≡ refusing q → (next s l ≡ s) × (1 ≤ q) × (q ≤ max_question)
   pub lines_are : OutputLines (reply s l) (reply_records (outcome s l))

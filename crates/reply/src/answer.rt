@@ -12,20 +12,17 @@ ghost use Rattle.reply.specs.Cited.{answer_in_range, tallies_room};
 use campaigns::entry::entry;
 use day::Answer;
 use lines::Record;
-use writer::Writing;
 
 // The line of an output form that is in its ranges, at the place at.
 fn write_record(r: Record, out: &mut [u8], at: usize) -> usize
     requires { (in_range r ≡ true) × (is_output r ≡ true) × (at + answer_room ≤ length out.old) }
     ensures { Put out.old out.new at result (line r) }
 {
-    match writer::write_line(r, &mut out[at..]) {
-        Writing::Length(n) => at + n,
-        Writing::Refusal(_) => at,
-    }
+    at + writer::write_line(r, &mut out[at..]).unwrap()
 }
 
 // The answer's first line, or none for a tally, which no line asks for.
+#[tactic(auto, using(crate::proofs::Writes::one_record))]
 pub fn write_answer(answer: Answer, out: &mut [u8], at: usize) -> usize
     requires { (answer_in_range answer ≡ true) × (at + answer_room ≤ length out.old) }
     ensures { Put out.old out.new at result (record_lines (answer_records answer))
@@ -36,12 +33,7 @@ pub fn write_answer(answer: Answer, out: &mut [u8], at: usize) -> usize
         Answer::Done => write_record(Record::Done, out, at),
         Answer::Played { campaign, paid } => write_record(Record::Play { campaign, paid }, out, at),
         Answer::Nobody => write_record(Record::Nobody, out, at),
-        Answer::Tallied {
-            plays: _,
-            turns: _,
-            age: _,
-            named: _,
-        } => at,
+        Answer::Tallied { .. } => at,
         Answer::Closing {
             takings,
             claim,
@@ -62,36 +54,17 @@ pub fn write_answer(answer: Answer, out: &mut [u8], at: usize) -> usize
 pub fn closes(answer: Answer) -> bool
     ensures { result ≡ is_closing answer }
 {
-    match answer {
-        Answer::Refused(_) => false,
-        Answer::Done => false,
-        Answer::Played {
-            campaign: _,
-            paid: _,
-        } => false,
-        Answer::Nobody => false,
-        Answer::Tallied {
-            plays: _,
-            turns: _,
-            age: _,
-            named: _,
-        } => false,
-        Answer::Closing {
-            takings: _,
-            claim: _,
-            full: _,
-        } => true,
-    }
+    matches!(answer, Answer::Closing { .. })
 }
 
 // The tally of campaign i.
+#[tactic(auto, using(crate::proofs::Ranges::tally_range))]
 fn tally_record<'a>(i: u64, terms: &'a [u32; 128], counts: &'a [u16; 256]) -> Record
     requires { i < max_campaigns }
     ensures { (result ≡ tally_record i (campaign_at terms.now counts.now i))
         × (in_range result ≡ true) }
 {
-    let at = i as usize;
-    let c = entry(at, terms, counts);
+    let c = entry(i as usize, terms, counts);
     Record::Tally {
         campaign: i,
         plays: c.plays,
@@ -114,12 +87,10 @@ pub fn write_tallies<'a>(
         (record_lines (tally_records (campaign_at terms.now counts.now) n))
         × (result ≤ at + tallies_room) }
 {
-    let mut i: u64 = 0;
     let mut to = at;
-    while i < n {
+    for i in 0..n {
         let tally = tally_record(i, terms, counts);
         to = write_record(tally, out, to);
-        i += 1;
     }
     to
 }

@@ -1,4 +1,5 @@
 pub mod Bits
 pub mod Algebra
+pub mod Taken
 pub mod Walk
 pub mod Bounds

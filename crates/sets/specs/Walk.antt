@@ -1,6 +1,7 @@
 -- The walk of a set (document 02, request 9): the first step goes to the least mark, each later one to the least above
 -- the last, and there are as many steps as marks.
-use Rattle.std.specs.Prelude.{◌≡◌, true, false, cond, List, [], ◌∷◌, ℕ, zero, suc, ◌+◌, ◌≤◌, ◌<◌, ltb, length}
+use Rattle.std.specs.Prelude.{◌≡◌, ◌≢◌, Option, MatchOption, true, false, cond, List, []}
+use Rattle.std.specs.Prelude.{◌∷◌, ℕ, zero, suc, ◌+◌, ◌≤◌, ◌<◌, ltb, length}
 use Rattle.sets.specs.Set.{member, size, next, beyond}
 
 -- at most `fuel` steps, the first to the least member from a on, each later one to the least above the last
@@ -32,6 +33,11 @@ pub record OneWay (set : ℕ) : Type 0 where
   pub as_many : length (members set) ≡ size set
   pub only : (rs : List ℕ) → Steps set 0 rs → rs ≡ members set
   pub one_step : next set 0 < 64 → members set ≡ next set 0 ∷ members (beyond set (next set 0))
+
+-- a step of the walk from `set`: nothing where nothing is left, else the least member, and `left` is what is behind it
+abbrev pub StepGives : (set : ℕ) → Option ℕ → (left : ℕ) → Type 0
+StepGives set r left =
+    MatchOption r ((set ≡ 0) × (left ≡ 0)) (λ i. (set ≢ 0) × (i ≡ next set 0) × (left ≡ beyond set (next set 0)))
 
 abbrev pub AlwaysOneWay : Type 0
 AlwaysOneWay = (set : ℕ) → OneWay set

@@ -3,20 +3,15 @@
 #![tactic(auto)]
 
 ghost use Rattle.std.specs.Prelude.{◌≡◌, ◌<◌};
+ghost use Rattle.sets.specs.Walk.{members, StepGives};
+ghost use Rattle.std.specs.Iterator.{item_count};
 ghost use Rattle.sets.specs.Set.{member, size, within, next, without, including, beyond};
-
-// A count of bits as a number of the sets' own width.
-fn wide(bits: u32) -> u64
-    ensures { result ≡ bits }
-{
-    bits as u64
-}
 
 // How many members the set has: the count of ones.
 pub fn count(set: u64) -> u64
     ensures { result ≡ size set }
 {
-    wide(u64::count_ones(set))
+    u64::from(set.count_ones())
 }
 
 // Whether every member is below n.
@@ -29,14 +24,14 @@ pub fn within(set: u64, n: u64) -> bool
     set >> n == 0
 }
 
-// The walk of a set, from its least member to the next, is these two: `first` is the step, `rest` what is left to walk
-// behind it. A loop goes on while what is left is not 0.
+// A set is walked by `for i in Members(set)`, from its least member to the next. The two functions here are a step of
+// that iterator: `first` is the member that it gives, `rest` what is left of the walk behind it.
 
 // The least member, or 64 where there is none: the trailing zeros.
 pub fn first(set: u64) -> u64
     ensures { result ≡ next set 0 }
 {
-    wide(u64::trailing_zeros(set))
+    u64::from(set.trailing_zeros())
 }
 
 // The set without its least member: one less turns that bit and the zeros below it, and nothing above.
@@ -46,8 +41,7 @@ pub fn rest(set: u64) -> u64
     if set == 0 {
         return 0;
     }
-    let less = set - 1;
-    set & less
+    set & (set - 1)
 }
 
 // Whether i is a member.
@@ -71,4 +65,25 @@ pub fn including(set: u64, i: u64) -> u64
     ensures { result ≡ including set i }
 {
     set | (1 << i)
+}
+
+// The members of a set, from the least to the next: what is left of the walk.
+#[derive(Clone, Copy, Debug)]
+pub struct Members(pub u64);
+
+impl Iterator for Members {
+    type Item = u64;
+
+    ghost next_gives = { λ s r t. StepGives s.0 r t.0 };
+
+    ghost remaining = { item_count (λ s. members s.0) };
+
+    fn next(&mut self) -> Option<u64> {
+        let Members(set) = *self;
+        if set == 0 {
+            return None;
+        }
+        *self = Members(rest(set));
+        Some(first(set))
+    }
 }

@@ -1,6 +1,6 @@
 -- A block that is fed part by part, each as far as there is room for its answers: a part and then a part is a part
 -- (`stream_more`, `said_more`), and each part takes a byte at least (`part_further`).
-use mathlib.Core.Path.{◌≡◌, sym, ap, ◌∙◌, subst}
+use mathlib.Core.Path.{◌≡◌, refl, sym, ap, ◌∙◌, subst}
 use mathlib.Core.List.{List, [], ◌∷◌, ◌++◌}
 use Prim.Native.Nat.{ℕ, ◌+◌, ◌-◌, ◌≤◌, ◌<◌}
 use native.Mathlib.Omega.{arith}
@@ -13,6 +13,11 @@ use Rattle.stream.specs.declared.feed.Stream.{Stream}
 use Rattle.stream.specs.declared.feed.Fed.{Fed}
 use Rattle.stream.specs.Stream.{session_of, silent, Feeds}
 use Rattle.stream.proofs.Chunking.{with_said, fed_said, taken_inside}
+
+-- nothing is fed
+pub stream_none : (k : Stream) → session_of k ≡ silent (fed (session_of k) [])
+unfolding fed
+stream_none k = refl
 
 -- y is what x has come to by l, its answers handed over: b more
 module _ (x : Session) (l b : List ℕ) (y : Session) (e : y ≡ silent (fed x l)) where

@@ -1,12 +1,9 @@
 -- A run over a block: what stands before it, what is left of the input kept behind its lines, and where it has taken
 -- all that it can.
 use mathlib.Core.Path.{◌≡◌, refl, sym, ap, ◌∙◌, subst}
-use mathlib.Core.Bool.{Bool, true, false, ◌||◌}
 use mathlib.Core.List.{List, []}
 use Prim.Native.Nat.{ℕ, ◌+◌, ◌-◌, ◌≤◌, ◌<◌}
 use native.Mathlib.Omega.{arith}
-use lib.Dec.{eqb, ltb}
-use borrow.Author.Tests.{eqb-true, ltb-true}
 use lib.ListN.{length, take, drop, length-drop, drop_of_length-le}
 use lib.Seq.{take-length}
 use Rattle.buffer.specs.Buffer.{Put}
@@ -96,7 +93,7 @@ module _ (x : Session) (l d : List ℕ) (t : Position) (h e : List ℕ) (st : Pr
         consumed_nil (length d) (fed x (take t.from l)),
       ))
 
-  runs_full : length d < t.at + reply_room → Processed x l d e t h
+  pub runs_full : length d < t.at + reply_room → Processed x l d e t h
   runs_full k =
       runs (omega (
         arith,
@@ -104,11 +101,3 @@ module _ (x : Session) (l d : List ℕ) (t : Position) (h e : List ℕ) (st : Pr
         consumed_stop (length d) (fed x (take t.from l)) (drop t.from l)
             (omega (arith, st.put.next)),
       ))
-
-  pub runs_ended : (eqb t.from (length l) || ltb (length e - t.at) reply_room) ≡ true → Processed x l d e t h
-  runs_ended q = go (eqb t.from (length l)) refl q
-    where
-      go : (b : Bool) → eqb t.from (length l) ≡ b → (b || ltb (length e - t.at) reply_room) ≡ true
-          → Processed x l d e t h
-      go true p r = runs_through (omega (arith, eqb-true t.from (length l) p))
-      go false p r = runs_full (omega (arith, ltb-true (length e - t.at) reply_room r, st.put.same, st.fits))

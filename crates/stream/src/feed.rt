@@ -10,7 +10,6 @@ ghost use Rattle.stream.specs.Cited.{Processed};
 
 use batch::{Cursor, keep, run_batch};
 use campaigns::Head;
-use campaigns::entry::sized;
 use day::Day;
 use day::ops::prepare;
 use lines::slots::LINE_BUFFER;
@@ -62,16 +61,14 @@ fn run<'a>(
         × (length pending.new ≡ line_buffer) }
 {
     let t = run_batch(first, pending, input, out, list, terms, counts);
-    let from = t.from;
-    let turn = t.turn;
-    if (from == input.len()) | (out.len() - turn.at < ROOM) {
+    if t.from == input.len() || out.len() - t.turn.at < ROOM {
         return t;
     }
-    let n = keep(pending, t.kept, &input[from..]);
+    let n = keep(pending, t.kept, &input[t.from..]);
     Cursor {
-        turn: turn,
         kept: n,
         from: input.len(),
+        ..t
     }
 }
 
@@ -79,10 +76,7 @@ fn run<'a>(
 pub fn at_most_held(n: usize) -> usize
     ensures { result ≡ min n line_buffer }
 {
-    if n > LINE_BUFFER {
-        return LINE_BUFFER;
-    }
-    n
+    n.min(LINE_BUFFER)
 }
 
 // Whether the state is sound is asked here, once for all lines of a block.
@@ -97,11 +91,7 @@ fn begin<'a>(
         × Ready result.sound result.head list.new terms.now counts.now }
 {
     let sound = prepare(head, list, terms, counts);
-    Turn {
-        head: head,
-        sound: sound,
-        at: 0,
-    }
+    Turn { head, sound, at: 0 }
 }
 
 // Zero bytes behind the first n.
@@ -109,11 +99,7 @@ fn clear(pending: &mut [u8], n: usize)
     requires { (n ≤ line_buffer) × (length pending.old ≡ line_buffer) }
     ensures { pending.new ≡ take n pending.old ++ replicate (line_buffer - n) 0 }
 {
-    let mut i = n;
-    while i < pending.len() {
-        pending[i] = 0;
-        i += 1;
-    }
+    pending[n..].fill(0);
 }
 
 // A block of input, as far as out has room for the longest answer.
@@ -131,25 +117,19 @@ pub fn feed_in_place<'a>(
         input.now out.old out.new
         (fed_at result terms.new counts.new pending.new) }
 {
-    let all_terms = *terms;
-    let all_counts = *counts;
-    sized(all_terms, all_counts);
-    let mut list: [u64; 33] = [0; 33];
-    let turn = begin(head, &mut list, terms, counts);
+    let mut list = [0; 33];
     let first = Cursor {
-        turn: turn,
+        turn: begin(head, &mut list, terms, counts),
         kept: at_most_held(kept),
         from: 0,
     };
-    let t = run(first, pending, input, out, &mut list, terms, counts);
-    let last = t.turn;
-    let next = last.head;
-    clear(pending, t.kept);
+    let last = run(first, pending, input, out, &mut list, terms, counts);
+    clear(pending, last.kept);
     Moved {
-        head: next,
-        kept: t.kept,
-        consumed: t.from,
-        written: last.at,
+        head: last.turn.head,
+        kept: last.kept,
+        consumed: last.from,
+        written: last.turn.at,
     }
 }
 
@@ -170,42 +150,24 @@ pub fn finish_in_place<'a>(
     if kept == 0 {
         clear(pending, 0);
         return Moved {
-            head: head,
+            head,
             kept: 0,
             consumed: 0,
             written: 0,
         };
     }
     let r = feed_in_place(head, kept, pending, b"\n", out, terms, counts);
-    let next = r.head;
-    Moved {
-        head: next,
-        kept: r.kept,
-        consumed: 0,
-        written: r.written,
-    }
+    Moved { consumed: 0, ..r }
 }
 
 // What a stream in lent memory has become, by value.
 fn fed_of(moved: Moved, terms: [u32; 128], counts: [u16; 256], pending: [u8; LINE_BUFFER]) -> Fed
     ensures { result ≡ fed_at moved terms counts pending }
 {
-    let head = moved.head;
-    let phase = head.phase;
-    let plan = head.plan;
-    let day = Day {
-        phase: phase,
-        plan: plan,
-        count: head.count,
-        accepted: head.accepted,
-        paused: head.paused,
-        terms: terms,
-        counts: counts,
-    };
     Fed {
         stream: Stream {
-            day: day,
-            pending: pending,
+            day: Day::from_parts(moved.head, terms, counts),
+            pending,
             kept: moved.kept,
         },
         consumed: moved.consumed,
@@ -218,9 +180,8 @@ impl Stream {
     pub fn new() -> Self
         ensures { result ≡ new_stream }
     {
-        let day = Day::blank();
         Stream {
-            day: day,
+            day: Day::blank(),
             pending: [0; LINE_BUFFER],
             kept: 0,
         }
@@ -230,13 +191,16 @@ impl Stream {
     pub fn feed(self, input: &[u8], out: &mut [u8]) -> Fed
         ensures { Feeds self input.now out.old out.new result }
     {
-        let day = self.day;
+        let Stream {
+            day,
+            mut pending,
+            kept,
+        } = self;
         let mut terms = day.terms;
         let mut counts = day.counts;
-        let mut pending = self.pending;
         let moved = feed_in_place(
             day.head(),
-            self.kept,
+            kept,
             &mut pending,
             input,
             out,
@@ -250,18 +214,14 @@ impl Stream {
     pub fn finish(self, out: &mut [u8]) -> Fed
         ensures { Finishes self out.old out.new result }
     {
-        let day = self.day;
+        let Stream {
+            day,
+            mut pending,
+            kept,
+        } = self;
         let mut terms = day.terms;
         let mut counts = day.counts;
-        let mut pending = self.pending;
-        let moved = finish_in_place(
-            day.head(),
-            self.kept,
-            &mut pending,
-            out,
-            &mut terms,
-            &mut counts,
-        );
+        let moved = finish_in_place(day.head(), kept, &mut pending, out, &mut terms, &mut counts);
         fed_of(moved, terms, counts, pending)
     }
 }

@@ -11,8 +11,7 @@ use lib.ListN.{length, take}
 use borrow.Author.Tests.{ne_eqb}
 use Rattle.day.specs.declared.Day.{Day}
 use Rattle.questions.specs.Questions.{first_failed}
-use Rattle.optimum.specs.declared.Optimum.TheVariants.{Takings}
-use Rattle.optimum.specs.declared.Verdict.TheVariants.{Accepted}
+use Rattle.std.specs.Prelude.{Ok}
 use Rattle.optimum.specs.Optimum.{failed, fits, most_of, allotment_takings, number, answer_of, search_answer}
 use Rattle.optimum.specs.Optimum.{takings_questions, takings_answer, verdict_of, checked, BestAllotment}
 use Rattle.optimum.proofs.Asked.{number_found}
@@ -47,7 +46,7 @@ verdict_small zero false p = inl refl
 verdict_small (suc q) b p = inr p
 
 -- a verdict of status 0
-was_accepted : (q : ℕ) (b : Bool) → verdict_status (verdict_of q b) ≡ 0 → verdict_of q b ≡ Accepted
+was_accepted : (q : ℕ) (b : Bool) → verdict_status (verdict_of q b) ≡ 0 → verdict_of q b ≡ Ok true
 was_accepted zero true e = refl
 was_accepted zero false e = absurd (omega (arith, e))
 was_accepted (suc q) b e = absurd (omega (arith, e))
@@ -103,7 +102,7 @@ module _ (h t n views a a' u u' v v' : List ℕ) (e : search_status h t n views 
       let w = found_nothing_failed h t n views a u v e in
       let s = lent_state h t n in
       let front = take (length views) a' in
-      let x : takings_in h t n front ≡ Takings (most_of s views) =
+      let x : takings_in h t n front ≡ Ok (most_of s views) =
       search_taken s views a a' u u' v v' (search_answer s views a u v) (left.searched w.0) w.1
       ∙ ap (λ (q : ℕ). answer_of q (most_of s views)) w.1 in
       (rw (w.0, x), rw (w.0, x))

@@ -3,27 +3,24 @@
 use mathlib.Core.Path.{◌≡◌, refl, ◌∙◌}
 use mathlib.Core.Bool.{Bool, true, false, cond}
 use mathlib.Core.List.{List}
+use Rattle.std.specs.Prelude.{Result, Ok, Err}
 use Prim.Native.Nat.{ℕ}
 use borrow.Author.Tests.{ne_eqb}
 use Rattle.day.specs.declared.Day.{Day}
-use Rattle.noon.specs.declared.Noon.{Noon}
-use Rattle.noon.specs.declared.Noon.TheVariants as figures
+use Rattle.refusal.specs.declared.Refusal.{Refusal}
+use Rattle.std.specs.Prelude.{Result, Ok, Err}
+use Rattle.noon.specs.declared.Figures.{Figures}
 use Rattle.noon.specs.Noon as noon
 use Rattle.lines.specs.declared.Record.{Record}
-use Rattle.lines.specs.declared.Reading.{Reading}
-use Rattle.lines.specs.declared.Reading.TheVariants as reading
 use Rattle.lines.specs.OneText as read
 use Rattle.lines.specs.Reading as lines
-use Rattle.writer.specs.declared.Writing.{Writing}
-use Rattle.writer.specs.declared.Writing.TheVariants as writing
+use Rattle.refusal.specs.declared.Refusal.{Refusal}
 use Rattle.writer.specs.Writing as writer
 use Rattle.writer.proofs.Numbers as writers
-use Rattle.page.specs.declared.Printing.{Printing}
-use Rattle.page.specs.declared.Printing.TheVariants as printing
 use Rattle.page.specs.Printing as page
 use Rattle.page.proofs.Promises as pages
-use Rattle.optimum.specs.declared.Optimum.{Optimum}
-use Rattle.optimum.specs.declared.Optimum.TheVariants as optimum
+use Rattle.std.specs.Prelude.{Result, Ok, Err}
+use Rattle.refusal.specs.declared.Refusal.{Refusal}
 use Rattle.optimum.specs.Optimum.{failed, number}
 use Rattle.optimum.proofs.Greatest.{tells}
 use Rattle.encoding.specs.Encoding.{no_head, no_form, is_head, is_form, record_of}
@@ -41,9 +38,9 @@ kept true q misuse after before stays h = stays h
 kept false q misuse after before stays h = refl
 
 -- the figures at noon
-figures_stay : (x : Noon) (l : List ℕ) → (noon.number x ≡ 0 → ⊥) → figures_into x l ≡ l
-figures_stay (figures.Refused q) l h = refl
-figures_stay (figures.Figures x c f) l h = absurd (h refl)
+figures_stay : (x : Result Figures Refusal) (l : List ℕ) → (noon.number x ≡ 0 → ⊥) → figures_into x l ≡ l
+figures_stay (Err q) l h = refl
+figures_stay (Ok f) l h = absurd (h refl)
 
 pub noon_keeps : (h t n l : List ℕ) → (noon_status h t n ≡ 0 → ⊥) → figures_after h t n l ≡ l
 noon_keeps h t n l =
@@ -51,9 +48,9 @@ noon_keeps h t n l =
     kept (is_head h) (noon.number x) no_head (figures_into x l) l (figures_stay x l)
 
 -- reading and writing a line
-words_stay : (x : Reading) (w : List ℕ) → (read.number x ≡ 0 → ⊥) → read_into x w ≡ w
-words_stay (reading.Got r) w h = absurd (h refl)
-words_stay (reading.Refusal q) w h = refl
+words_stay : (x : Result Record Refusal) (w : List ℕ) → (read.number x ≡ 0 → ⊥) → read_into x w ≡ w
+words_stay (Ok r) w h = absurd (h refl)
+words_stay (Err e) w h = refl
 
 pub read_keeps : (l w : List ℕ) → (read_status l ≡ 0 → ⊥) → record_after l w ≡ w
 read_keeps l w = words_stay (lines.reading l) w
@@ -62,9 +59,9 @@ line_stays : (r : Record) (d : List ℕ) → (writer.number (writer.writing r d)
 unfolding writer.written
 line_stays r d h = rw (ne_eqb (writer.write_question r d) 0 (λ z. h ((writers.tells r d).number_is ∙ z)))
 
-length_stays : (x : Writing) (l : List ℕ) → (writer.number x ≡ 0 → ⊥) → length_told x l ≡ l
-length_stays (writing.Length n) l h = absurd (h refl)
-length_stays (writing.Refusal q) l h = refl
+length_stays : (x : Result ℕ Refusal) (l : List ℕ) → (writer.number x ≡ 0 → ⊥) → length_told x l ≡ l
+length_stays (Ok n) l h = absurd (h refl)
+length_stays (Err q) l h = refl
 
 pub write_keeps : (w d l : List ℕ) → (write_status w d ≡ 0 → ⊥) → (line_after w d ≡ d) × (length_after w d l ≡ l)
 write_keeps w d l e =
@@ -79,9 +76,9 @@ page_stays : (s : Day) (d : List ℕ) → (page.number (page.printing s d) ≡ 0
 unfolding page.printed
 page_stays s d h = rw (ne_eqb (page.page_question s d) 0 (λ z. h (((pages.promises).tells s d).number_is ∙ z)))
 
-page_length_stays : (x : Printing) (l : List ℕ) → (page.number x ≡ 0 → ⊥) → page_length_told x l ≡ l
-page_length_stays (printing.Length n) l h = absurd (h refl)
-page_length_stays (printing.Refusal q) l h = refl
+page_length_stays : (x : Result ℕ Refusal) (l : List ℕ) → (page.number x ≡ 0 → ⊥) → page_length_told x l ≡ l
+page_length_stays (Ok n) l h = absurd (h refl)
+page_length_stays (Err q) l h = refl
 
 pub page_keeps : (h t n d l : List ℕ) → (page_status h t n d ≡ 0 → ⊥)
     → (page_after h t n d ≡ d) × (page_length_after h t n d l ≡ l)
@@ -109,9 +106,9 @@ search_keeps h t n views a a' u u' v v' e left = go (is_head h) refl
         (done.in_allotment.refused refused, done.in_surplus.refused refused, done.in_worth.refused refused)
 
 -- the takings of an allotment
-takings_stay : (x : Optimum) (l : List ℕ) → (number x ≡ 0 → ⊥) → takings_into x l ≡ l
-takings_stay (optimum.Refused q) l h = refl
-takings_stay (optimum.Takings t) l h = absurd (h refl)
+takings_stay : (x : Result ℕ Refusal) (l : List ℕ) → (number x ≡ 0 → ⊥) → takings_into x l ≡ l
+takings_stay (Err r) l h = refl
+takings_stay (Ok t) l h = absurd (h refl)
 
 pub takings_keeps : (h t n a l : List ℕ) → (takings_status h t n a ≡ 0 → ⊥) → takings_after h t n a l ≡ l
 takings_keeps h t n a l =

@@ -1,9 +1,7 @@
 pub mod Stored
-pub mod Lines
 pub mod Streamed
 pub mod Low
 pub mod Kept
 pub mod Given
 pub mod Promised
-pub mod Searches
 pub mod Asked

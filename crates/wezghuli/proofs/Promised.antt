@@ -2,6 +2,7 @@
 -- of an answer, and the numbers of all questions are below 100.
 use mathlib.Core.Path.{◌≡◌, refl, ap, sym, ◌∙◌, subst}
 use mathlib.Core.Bool.{Bool, true, false, cond}
+use Rattle.std.specs.Prelude.{Ok}
 use mathlib.Core.List.{List, [], ◌∷◌, map}
 use Prim.Native.Nat.{ℕ, zero, suc, ◌≤◌, ◌<◌}
 use native.Mathlib.Omega.{arith}
@@ -206,7 +207,7 @@ noon_small : (s : Day) → noon.number (noon.at_noon s) < 100
 unfolding noon.at_noon first_failed
 noon_small s = go (states.sound s)
   where
-    go : (b : Bool) → noon.number (noon.refused_or (cond b 0 1) (noon.figures_of s)) < 100
+    go : (b : Bool) → noon.number (noon.refused_or (cond b 0 1) (Ok (noon.figures_of s))) < 100
     go true = omega arith
     go false = omega arith
 

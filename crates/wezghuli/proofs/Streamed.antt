@@ -96,8 +96,7 @@ stored_in r d =
     lent (head_words (states.head_of r.stream.day)) r.stream.day.terms r.stream.day.counts
     r.stream.pending (stream_words r.stream.kept r.consumed r.written) d
 
-module _ (m : Lent) {r : ℕ} (told : r ≡ status_in m) (is_0 : r ≡ 0) {head : Head} (head_is : head ≡ head_in m.head)
-    (v : Moved) (m' : Lent)
+module _ (m : Lent) (taken : status_in m ≡ 0) {head : Head} (head_is : head ≡ head_in m.head) (v : Moved) (m' : Lent)
     (stored : (m'.head ≡ head_words v.head) × (m'.words ≡ stream_words v.kept v.consumed v.written))
   where
     abbrev before : Stream
@@ -115,7 +114,7 @@ module _ (m : Lent) {r : ℕ} (told : r ≡ status_in m) (is_0 : r ≡ 0) {head 
         ∙ ap₂ stored_in c.back_is c.out_is
 
     none : eqb (status_in m) 0 ≡ true
-    none = eq-eqb (status_in m) 0 (sym told ∙ is_0)
+    none = eq-eqb (status_in m) 0 taken
 
     pub fed_stored : (l : List ℕ) → Feeds before l m.out m'.out back → (0 ≡ status_in m) × (m' ≡ feed_after l m)
     unfolding feed_after
@@ -123,7 +122,7 @@ module _ (m : Lent) {r : ℕ} (told : r ≡ status_in m) (is_0 : r ≡ 0) {head 
         let g = subst (λ (k : Stream). Feeds k l m.out m'.out back) before_is f in
         let x = session_of (stream_in m) in
         let y = fed x (consumed_bytes x l m.out) in
-        (sym is_0 ∙ told, rw none (comes y (consumed_count (length m.out) x l) g))
+        (sym taken, rw none (comes y (consumed_count (length m.out) x l) g))
 
     pub finish_stored : Finishes before m.out m'.out back → (0 ≡ status_in m) × (m' ≡ finish_after m)
     unfolding finish_after
@@ -131,5 +130,5 @@ module _ (m : Lent) {r : ℕ} (told : r ≡ status_in m) (is_0 : r ≡ 0) {head 
         let g = subst (λ (k : Stream). Finishes k m.out m'.out back) before_is f in
         let x = session_of (stream_in m) in
         let z = subst (λ (b : Bool). ComesTo (cond b (finished x) x) 0 m.out m'.out back)
-        (has_room m (sym told ∙ is_0)) g in
-        (sym is_0 ∙ told, rw none (comes (finished x) 0 z))
+        (has_room m taken) g in
+        (sym taken, rw none (comes (finished x) 0 z))

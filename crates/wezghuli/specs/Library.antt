@@ -1,23 +1,18 @@
 -- What the exported functions leave in the lent memory, and their statuses.
-use Rattle.std.specs.Prelude.{cond, List, [], ◌∷◌, ℕ, leb, eqb, length, get_or}
+use Rattle.std.specs.Prelude.{cond, List, [], ◌∷◌, ℕ, leb, eqb, length, get_or, Result, Ok, Err}
+use Rattle.lines.specs.declared.Record.{Record}
 use Rattle.day.specs.declared.Day.{Day}
 use Rattle.day.specs.declared.Outcome.{Outcome}
 use Rattle.day.specs.Day.{state_of}
 use Rattle.day.specs.Calls.{Call, call, number}
 use Rattle.day.specs.Day as states
-use Rattle.noon.specs.declared.Noon.{Noon}
-use Rattle.noon.specs.declared.Noon.TheVariants.{Refused, Figures}
+use Rattle.refusal.specs.declared.Refusal.{Refusal}
+use Rattle.noon.specs.declared.Figures.{Figures}
 use Rattle.noon.specs.Noon.{at_noon}
 use Rattle.noon.specs.Noon as noon
-use Rattle.lines.specs.declared.Reading.{Reading}
-use Rattle.lines.specs.declared.Reading.TheVariants as reading
 use Rattle.lines.specs.OneText as read
 use Rattle.lines.specs.Reading as lines
-use Rattle.page.specs.declared.Printing.{Printing}
-use Rattle.page.specs.declared.Printing.TheVariants as printing
 use Rattle.page.specs.Printing as page
-use Rattle.writer.specs.declared.Writing.{Writing}
-use Rattle.writer.specs.declared.Writing.TheVariants as writing
 use Rattle.writer.specs.Writing as writer
 use Rattle.encoding.specs.Encoding.{no_head, no_form, is_head, head_in, head_words, answer_after, is_form, record_of}
 use Rattle.encoding.specs.Encoding.{record_words, no_stream, no_room, is_stream, stream_words}
@@ -60,15 +55,15 @@ memory_after c m = cond (is_head m.head) (stored (outcome c m) m.answer) m
 
 -- the figures at noon: 0 with full, the total claim and the floor's figure; the number of the question that failed, or
 -- 100, with them as they were
-abbrev pub noon_in : (head terms counts : List ℕ) → Noon
+abbrev pub noon_in : (head terms counts : List ℕ) → Result Figures Refusal
 noon_in h t n = at_noon (lent_state h t n)
 
 abbrev pub noon_status : (head terms counts : List ℕ) → ℕ
 noon_status h t n = cond (is_head h) (noon.number (noon_in h t n)) no_head
 
-abbrev pub figures_into : Noon → List ℕ → List ℕ
-figures_into (Refused q) l = l
-figures_into (Figures x c f) l = x ∷ c ∷ f ∷ []
+abbrev pub figures_into : Result Figures Refusal → List ℕ → List ℕ
+figures_into (Err q) l = l
+figures_into (Ok f) l = f.full ∷ f.claim ∷ f.floor ∷ []
 
 abbrev pub figures_after : (head terms counts figures : List ℕ) → List ℕ
 figures_after h t n l = cond (is_head h) (figures_into (noon_in h t n) l) l
@@ -77,9 +72,9 @@ figures_after h t n l = cond (is_head h) (figures_into (noon_in h t n) l) l
 abbrev pub read_status : (line : List ℕ) → ℕ
 read_status l = read.number (lines.reading l)
 
-abbrev pub read_into : Reading → List ℕ → List ℕ
-read_into (reading.Got r) w = record_words r
-read_into (reading.Refusal q) w = w
+abbrev pub read_into : Result Record Refusal → List ℕ → List ℕ
+read_into (Ok r) w = record_words r
+read_into (Err e) w = w
 
 abbrev pub record_after : (line words : List ℕ) → List ℕ
 record_after l w = read_into (lines.reading l) w
@@ -91,9 +86,9 @@ write_status w d = cond (is_form w) (writer.number (writer.writing (record_of w)
 abbrev pub line_after : (words out : List ℕ) → List ℕ
 line_after w d = cond (is_form w) (writer.written (record_of w) d) d
 
-abbrev pub length_told : Writing → List ℕ → List ℕ
-length_told (writing.Length n) l = n ∷ []
-length_told (writing.Refusal q) l = l
+abbrev pub length_told : Result ℕ Refusal → List ℕ → List ℕ
+length_told (Ok n) l = n ∷ []
+length_told (Err e) l = l
 
 abbrev pub length_after : (words out written : List ℕ) → List ℕ
 length_after w d l = cond (is_form w) (length_told (writer.writing (record_of w) d) l) l
@@ -144,9 +139,9 @@ page_status h t n d = cond (is_head h) (page.number (page.printing (lent_state h
 abbrev pub page_after : (head terms counts out : List ℕ) → List ℕ
 page_after h t n d = cond (is_head h) (page.printed (lent_state h t n) d) d
 
-abbrev pub page_length_told : Printing → List ℕ → List ℕ
-page_length_told (printing.Length n) l = n ∷ []
-page_length_told (printing.Refusal q) l = l
+abbrev pub page_length_told : Result ℕ Refusal → List ℕ → List ℕ
+page_length_told (Ok n) l = n ∷ []
+page_length_told (Err q) l = l
 
 abbrev pub page_length_after : (head terms counts out written : List ℕ) → List ℕ
 page_length_after h t n d l = cond (is_head h) (page_length_told (page.printing (lent_state h t n) d) l) l

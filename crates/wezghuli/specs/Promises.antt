@@ -4,6 +4,7 @@
 -- and misuse is told apart from every refusal.
 use Rattle.std.specs.Prelude.{◌≡◌, true, false, cond, List, [], ◌∷◌, map, ◌⊎◌, ℕ, ◌+◌, ◌≤◌, ◌<◌, eqb, length, get_or}
 use Rattle.std.specs.Prelude.{take, replicate}
+use Rattle.std.specs.Prelude.{Ok}
 use Rattle.campaigns.specs.View.{full}
 use Rattle.day.specs.Day.{blank}
 use Rattle.day.specs.Day as states
@@ -12,7 +13,6 @@ use Rattle.questions.specs.Questions.{first_failed}
 use Rattle.noon.specs.Noon.{floor_figure, noon_questions}
 use Rattle.demands.specs.Transcript.{transcript, final}
 use Rattle.lines.specs.declared.Record.{Record}
-use Rattle.lines.specs.declared.Reading.TheVariants.{Got}
 use Rattle.lines.specs.Limits.{line_buffer}
 use Rattle.lines.specs.OneText as read
 use Rattle.lines.specs.Reading.{reading}
@@ -23,7 +23,7 @@ use Rattle.stream.specs.declared.feed.Fed.{Fed}
 use Rattle.stream.specs.Stream.{new_stream, Feeds, Finishes}
 use Rattle.allotments.specs.Limits.{max_handed_in}
 use Rattle.allotments.specs.Allotment.{at, nobody}
-use Rattle.optimum.specs.declared.Optimum.TheVariants.{Takings}
+use Rattle.std.specs.Prelude.{Ok}
 use Rattle.optimum.specs.Optimum.{failed, fits, takings_questions, takings_answer, most_of, BestAllotment}
 use Rattle.encoding.specs.Encoding.{no_head, no_form, no_stream, no_room, no_fit, is_head, head_words}
 use Rattle.encoding.specs.Encoding.{answer_after, record_words, record_of, stream_words}
@@ -104,7 +104,7 @@ pub record Promises : Type 0 where
       → let s = lent_state head terms counts in states.sound s ≡ true
       → figures_after head terms counts figures
       ≡ full s.plan (states.total_takings s) ∷ states.total_claim s ∷ floor_figure s ∷ []
-  pub read_is : (line words : List ℕ) (r : Record) → reading line ≡ Got r → record_after line words ≡ record_words r
+  pub read_is : (line words : List ℕ) (r : Record) → reading line ≡ Ok r → record_after line words ≡ record_words r
   pub write_is : (words out written : List ℕ) → get_or words 0 0 ≤ 12 → writer.write_question (record_of words) out ≡ 0
       → (line_after words out ≡ writer.written (record_of words) out)
       × (length_after words out written ≡ length (writer.line (record_of words)) ∷ [])
@@ -113,7 +113,7 @@ pub record Promises : Type 0 where
       → (page_after head terms counts out ≡ page.printed s out)
       × (page_length_after head terms counts out written ≡ length (page.page_of s) ∷ [])
   pub takings_is : (head terms counts a takings : List ℕ) (x : ℕ) → is_head head ≡ true
-      → takings_answer (lent_state head terms counts) a ≡ Takings x → takings_after head terms counts a takings ≡ x ∷ []
+      → takings_answer (lent_state head terms counts) a ≡ Ok x → takings_after head terms counts a takings ≡ x ∷ []
   -- the words of the blank state: Closed, takings 0, depth 1, width 1, no campaigns, no views, no marks
   pub blank_words : (a : List ℕ) → (blank_memory a).head ≡ seven 2 0 1 1 0 0 0
   -- campaign i of the arrays: its price and budget; its plays, turns, age and named

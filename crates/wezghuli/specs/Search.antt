@@ -1,9 +1,6 @@
 -- What the exported search and check, and the takings of an allotment, leave in the lent memory, and their statuses.
-use Rattle.std.specs.Prelude.{◌≡◌, true, false, cond, List, [], ◌∷◌, ℕ}
-use Rattle.optimum.specs.declared.Optimum.{Optimum}
-use Rattle.optimum.specs.declared.Optimum.TheVariants as optimum
-use Rattle.optimum.specs.declared.Verdict.{Verdict}
-use Rattle.optimum.specs.declared.Verdict.TheVariants as verdict
+use Rattle.std.specs.Prelude.{◌≡◌, Bool, true, false, cond, List, [], ◌∷◌, ℕ, Result, Ok, Err}
+use Rattle.refusal.specs.declared.Refusal.{Refusal}
 use Rattle.optimum.specs.Optimum.{number, search_answer, Searched, takings_answer, checked}
 use Rattle.encoding.specs.Encoding.{no_head, no_fit, is_head}
 use Rattle.wezghuli.specs.Library.{lent_state}
@@ -19,25 +16,25 @@ pub record SearchLeaves (h t n views a a' u u' v v' : List ℕ) : Type 0 where
       → Searched (lent_state h t n) views a a' u u' v v' (search_answer (lent_state h t n) views a u v)
 
 -- the check: 0 where it accepts, 104 where it rejects, the number of the question that failed, or 100
-abbrev pub verdict_status : Verdict → ℕ
-verdict_status (verdict.Refused q) = q
-verdict_status verdict.Accepted = 0
-verdict_status verdict.Rejected = no_fit
+abbrev pub verdict_status : Result Bool Refusal → ℕ
+verdict_status (Err r) = r.question
+verdict_status (Ok true) = 0
+verdict_status (Ok false) = no_fit
 
 unfoldable pub check_status : (head terms counts views allotment surplus worth : List ℕ) → ℕ
 check_status h t n views a u v = cond (is_head h) (verdict_status (checked (lent_state h t n) views a u v)) no_head
 
 -- the takings of an allotment: 0 with the takings; the number of the question that failed, or 100, with them as they
 -- were
-abbrev pub takings_in : (head terms counts allotment : List ℕ) → Optimum
+abbrev pub takings_in : (head terms counts allotment : List ℕ) → Result ℕ Refusal
 takings_in h t n a = takings_answer (lent_state h t n) a
 
 abbrev pub takings_status : (head terms counts allotment : List ℕ) → ℕ
 takings_status h t n a = cond (is_head h) (number (takings_in h t n a)) no_head
 
-abbrev pub takings_into : Optimum → List ℕ → List ℕ
-takings_into (optimum.Refused q) l = l
-takings_into (optimum.Takings x) l = x ∷ []
+abbrev pub takings_into : Result ℕ Refusal → List ℕ → List ℕ
+takings_into (Err r) l = l
+takings_into (Ok x) l = x ∷ []
 
 abbrev pub takings_after : (head terms counts allotment takings : List ℕ) → List ℕ
 takings_after h t n a l = cond (is_head h) (takings_into (takings_in h t n a) l) l

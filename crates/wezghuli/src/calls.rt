@@ -12,7 +12,7 @@ ghost use Rattle.wezghuli.specs.Library.{memory, memory_after, status};
 use campaigns::{Plan, Terms, View};
 use day::ops::execute;
 use day::{Call, Step};
-use encoding::{STATUS_NO_HEAD, answer_after, head_of, head_words, is_head};
+use encoding::{answer_after, given_head, head_words};
 
 // The blank state: Closed, depth 1, width 1, no campaigns.
 pub fn wezghuli_blank<'a>(
@@ -23,8 +23,7 @@ pub fn wezghuli_blank<'a>(
     ensures { (head.new ≡ head_words (head_of blank))
         × (terms.new ≡ blank.terms) × (counts.new ≡ blank.counts) }
 {
-    let first = day::blank();
-    *head = head_words(first);
+    *head = head_words(day::blank());
     *terms = [0; 128];
     *counts = [0; 256];
 }
@@ -34,12 +33,9 @@ fn store<'a>(step: Step, head: &'a mut [u64; 7], answer: &'a mut [u64; 5]) -> u6
     ensures { (result ≡ number step.answer) × (head.new ≡ head_words step.head)
         × (answer.new ≡ answer_after step.answer answer.old) }
 {
-    let next = step.head;
-    let given = step.answer;
-    let before = *answer;
-    *head = head_words(next);
-    *answer = answer_after(given, before);
-    given.number()
+    *head = head_words(step.head);
+    *answer = answer_after(step.answer, *answer);
+    step.answer.number()
 }
 
 // A call of the state in lent memory, its outcome stored there; words that are no head leave everything as it was.
@@ -56,11 +52,13 @@ fn answer_call<'a>(
         ≡ memory_after (asked ask)
         (memory head.old terms.old counts.old answer.old) }
 {
-    if !is_head(head) {
-        return STATUS_NO_HEAD;
+    match given_head(head) {
+        Ok(before) => {
+            let step = execute(before, ask, terms, counts);
+            store(step, head, answer)
+        }
+        Err(status) => status,
     }
-    let step = execute(head_of(head), ask, terms, counts);
-    store(step, head, answer)
 }
 
 // Opens a plan, with no campaigns, in Filling.
@@ -78,11 +76,13 @@ pub fn wezghuli_open<'a>(
         ≡ memory_after (open_plan (record { depth = depth; width = width }))
         (memory head.old terms.old counts.old answer.old) }
 {
-    let plan = Plan {
-        depth: depth,
-        width: width,
-    };
-    answer_call(head, terms, counts, Call::Open(plan), answer)
+    answer_call(
+        head,
+        terms,
+        counts,
+        Call::Open(Plan { depth, width }),
+        answer,
+    )
 }
 
 // Adds a campaign, with zero counts.
@@ -100,11 +100,13 @@ pub fn wezghuli_add<'a>(
         ≡ memory_after (add_campaign (record { price = price; budget = budget }))
         (memory head.old terms.old counts.old answer.old) }
 {
-    let added = Terms {
-        price: price,
-        budget: budget,
-    };
-    answer_call(head, terms, counts, Call::Add(added), answer)
+    answer_call(
+        head,
+        terms,
+        counts,
+        Call::Add(Terms { price, budget }),
+        answer,
+    )
 }
 
 // Starts the day: no campaign is added from now on.
@@ -137,7 +139,7 @@ pub fn wezghuli_view<'a>(
         ≡ memory_after (show_view (record { set = set }))
         (memory head.old terms.old counts.old answer.old) }
 {
-    answer_call(head, terms, counts, Call::Show(View { set: set }), answer)
+    answer_call(head, terms, counts, Call::Show(View { set }), answer)
 }
 
 // The four counts of a campaign; the state stays.

@@ -2,8 +2,8 @@
 ghost use Rattle.std.specs.Prelude.{◌≡◌};
 ghost use Rattle.wezghuli.specs.Library.{noon_status, figures_after};
 
-use encoding::{STATUS_ACCEPTED, STATUS_NO_HEAD, head_of, is_head};
-use noon::{Noon, at_noon};
+use encoding::{STATUS_ACCEPTED, given_head};
+use noon::at_noon;
 
 // Full, the total claim and the floor's figure; the state stays, and a refusal leaves the figures as they were.
 pub fn wezghuli_noon<'a>(
@@ -16,14 +16,14 @@ pub fn wezghuli_noon<'a>(
         × (figures.new ≡ figures_after head.now terms.now counts.now
         figures.old) }
 {
-    if !is_head(head) {
-        return STATUS_NO_HEAD;
-    }
-    match at_noon(head_of(head), terms, counts) {
-        Noon::Refused(question) => question,
-        Noon::Figures { full, claim, floor } => {
-            *figures = [full, claim, floor];
-            STATUS_ACCEPTED
-        }
+    match given_head(head) {
+        Ok(given) => match at_noon(given, terms, counts) {
+            Ok(told) => {
+                *figures = [told.full, told.claim, told.floor];
+                STATUS_ACCEPTED
+            }
+            Err(refusal) => refusal.question,
+        },
+        Err(status) => status,
     }
 }

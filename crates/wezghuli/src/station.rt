@@ -2,8 +2,8 @@
 ghost use Rattle.std.specs.Prelude.{◌≡◌};
 ghost use Rattle.wezghuli.specs.Library.{page_status, page_after, page_length_after};
 
-use encoding::{STATUS_ACCEPTED, STATUS_NO_HEAD, head_of, is_head};
-use page::Printing;
+use encoding::{STATUS_ACCEPTED, given_head};
+use page::print_page;
 
 // Prints the page at the front of out, and how many bytes it has to written; a refusal leaves both as they were.
 pub fn wezghuli_page<'a>(
@@ -21,14 +21,14 @@ pub fn wezghuli_page<'a>(
         ≡ page_length_after head.now terms.now counts.now out.old
         written.old) }
 {
-    if !is_head(head) {
-        return STATUS_NO_HEAD;
-    }
-    match page::print_page(head_of(head), terms, counts, out) {
-        Printing::Length(n) => {
-            *written = [n as u64];
-            STATUS_ACCEPTED
-        }
-        Printing::Refusal(question) => question,
+    match given_head(head) {
+        Ok(given) => match print_page(given, terms, counts, out) {
+            Ok(n) => {
+                *written = [n as u64];
+                STATUS_ACCEPTED
+            }
+            Err(refusal) => refusal.question,
+        },
+        Err(status) => status,
     }
 }

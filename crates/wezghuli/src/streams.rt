@@ -1,30 +1,32 @@
 // A stream of lines in lent memory: blocks of input and its end.
-ghost use Rattle.std.specs.Prelude.{◌≡◌};
-ghost use Rattle.encoding.specs.Encoding.{head_words, stream_words};
+ghost use Rattle.std.specs.Prelude.{◌≡◌, ◌≢◌, MatchResult};
+ghost use Rattle.encoding.specs.Encoding.{head_in, head_words, stream_words};
 ghost use Rattle.wezghuli.specs.Library.{lent, stream_status, status_in, feed_after, finish_after};
 
+use campaigns::Head;
 use encoding::{
-    STATUS_ACCEPTED, STATUS_NO_HEAD, STATUS_NO_ROOM, STATUS_NO_STREAM, STREAM_KEPT, head_of,
-    head_words, is_head, is_stream,
+    STATUS_ACCEPTED, STATUS_NO_ROOM, STATUS_NO_STREAM, STREAM_KEPT, given_head, head_words,
+    is_stream,
 };
 use reply::ROOM;
 use stream::feed::{Moved, feed_in_place, finish_in_place};
 
-// What the lent memory is not, or that it is a state and a stream with room for the longest answer.
+// The head of a state that is lent beside a stream with room for the longest answer, or the status of what the lent
+// memory is not.
 #[tactic(auto, unfolding(crate::specs::Library::stream_status))]
-fn status(head: &[u64; 7], words: &[u64; 3], room: usize) -> u64
-    ensures { result ≡ stream_status head.now words.now room }
+fn streaming_head(head: &[u64; 7], words: &[u64; 3], room: usize) -> Result<Head, u64>
+    ensures { MatchResult result
+        (λ given. (stream_status head.now words.now room ≡ 0) × (given ≡ head_in head.now))
+        (λ status. (status ≡ stream_status head.now words.now room) × (status ≢ 0)) }
 {
-    if !is_head(head) {
-        return STATUS_NO_HEAD;
-    }
+    let given = given_head(head)?;
     if !is_stream(words) {
-        return STATUS_NO_STREAM;
+        return Err(STATUS_NO_STREAM);
     }
     if room < ROOM {
-        return STATUS_NO_ROOM;
+        return Err(STATUS_NO_ROOM);
     }
-    STATUS_ACCEPTED
+    Ok(given)
 }
 
 // What a stream has become, written.
@@ -32,8 +34,7 @@ fn store(moved: Moved, head: &mut [u64; 7], words: &mut [u64; 3])
     ensures { (head.new ≡ head_words moved.head)
         × (words.new ≡ stream_words moved.kept moved.consumed moved.written) }
 {
-    let next = moved.head;
-    *head = head_words(next);
+    *head = head_words(moved.head);
     *words = [
         moved.kept as u64,
         moved.consumed as u64,
@@ -58,14 +59,15 @@ pub fn wezghuli_feed<'a>(
         words.new out.new ≡ feed_after input.now (lent head.old
         terms.old counts.old pending.old words.old out.old) }
 {
-    let status = status(head, words, out.len());
-    if status != STATUS_ACCEPTED {
-        return status;
+    match streaming_head(head, words, out.len()) {
+        Ok(before) => {
+            let kept = words[STREAM_KEPT] as usize;
+            let moved = feed_in_place(before, kept, pending, input, out, terms, counts);
+            store(moved, head, words);
+            STATUS_ACCEPTED
+        }
+        Err(status) => status,
     }
-    let kept = words[STREAM_KEPT] as usize;
-    let moved = feed_in_place(head_of(head), kept, pending, input, out, terms, counts);
-    store(moved, head, words);
-    STATUS_ACCEPTED
 }
 
 // The end of input: a last line without byte 10 counts if it has bytes.
@@ -83,12 +85,13 @@ pub fn wezghuli_finish<'a>(
         words.new out.new ≡ finish_after (lent head.old terms.old
         counts.old pending.old words.old out.old) }
 {
-    let status = status(head, words, out.len());
-    if status != STATUS_ACCEPTED {
-        return status;
+    match streaming_head(head, words, out.len()) {
+        Ok(before) => {
+            let kept = words[STREAM_KEPT] as usize;
+            let moved = finish_in_place(before, kept, pending, out, terms, counts);
+            store(moved, head, words);
+            STATUS_ACCEPTED
+        }
+        Err(status) => status,
     }
-    let kept = words[STREAM_KEPT] as usize;
-    let moved = finish_in_place(head_of(head), kept, pending, out, terms, counts);
-    store(moved, head, words);
-    STATUS_ACCEPTED
 }

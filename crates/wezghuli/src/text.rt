@@ -3,8 +3,6 @@ ghost use Rattle.std.specs.Prelude.{◌≡◌};
 ghost use Rattle.wezghuli.specs.Library.{read_status, record_after, write_status, line_after, length_after};
 
 use encoding::{STATUS_ACCEPTED, STATUS_NO_FORM, is_form, record_of, record_words};
-use lines::Reading;
-use writer::Writing;
 
 // Reads a line, without its byte 10, into a record; a refusal leaves the record as it was.
 pub fn wezghuli_read_line<'a>(line: &'a [u8], words: &'a mut [u64; 6]) -> u64
@@ -12,11 +10,11 @@ pub fn wezghuli_read_line<'a>(line: &'a [u8], words: &'a mut [u64; 6]) -> u64
         × (words.new ≡ record_after line.now words.old) }
 {
     match lines::read_line(line) {
-        Reading::Got(r) => {
+        Ok(r) => {
             *words = record_words(r);
             STATUS_ACCEPTED
         }
-        Reading::Refusal(question) => question,
+        Err(refusal) => refusal.question,
     }
 }
 
@@ -35,10 +33,10 @@ pub fn wezghuli_write_line<'a>(
         return STATUS_NO_FORM;
     }
     match writer::write_line(record_of(words), out) {
-        Writing::Length(n) => {
+        Ok(n) => {
             *written = [n as u64];
             STATUS_ACCEPTED
         }
-        Writing::Refusal(question) => question,
+        Err(refusal) => refusal.question,
     }
 }

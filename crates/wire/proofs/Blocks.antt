@@ -1,6 +1,6 @@
 -- Counting goes on: what reads gave, block after block, is counted as one input.
 use Rattle.std.proofs.Common.{◌≡◌, ℕ, suc, ◌+◌, ◌%◌, ◌^◌, ◌<◌, true, false, List, [], ◌∷◌, ◌++◌, length, take, sym}
-use Rattle.std.proofs.Common.{refl, ap, ◌∙◌, subst, append-nil, mod-eq_of_lt, arith, length-append, length-take-le}
+use Rattle.std.proofs.Common.{refl, ap, ◌∙◌, append-nil, mod-eq_of_lt, arith, length-append, length-take-le}
 use Rattle.std.proofs.Common.{eqb-true}
 use native.Mathlib.Nat.{mod-add-mod}
 use borrow.Author.Tests.{eqb-false}
@@ -11,28 +11,6 @@ pub counted_more : (n : ℕ) (a b : List ℕ) → counted_on (counted_on n a) b 
 counted_more n a b =
     let s : n + length a + length b ≡ n + length (a ++ b) = omega (arith, length-append a b) in
     mod-add-mod (n + length a) (2 ^ 64) (length b) ∙ ap (λ (i : ℕ). i % 2 ^ 64) s
-
-counted_none : (n : ℕ) → n < 2 ^ 64 → n ≡ counted_on n []
-counted_none n h = let s : n ≡ n + 0 = omega arith in sym (ap (λ (i : ℕ). i % 2 ^ 64) (sym s) ∙ mod-eq_of_lt h)
-
--- as many bytes as a read gave
-pub given_length : {w : Wire} {l : List ℕ} {n : ℕ} {v : Wire} → Reads w l n v → n ≡ length (take n l)
-given_length {l = l} {n = n} r = sym (length-take-le n l r.inside)
-
--- the same bytes told
-pub writes_as : {w v : Wire} {a b : List ℕ} → a ≡ b → Writes w a v → Writes w b v
-writes_as {w} {v} e t = subst (λ (b : List ℕ). Writes w b v) e t
-
--- nothing told
-pub writes_none : (w : Wire) → w.told < 2 ^ 64 → Writes w [] w
-writes_none w h = record {
-  reads_is = refl;
-  got_is = refl;
-  told_is = counted_none w.told h;
-  ended_is = refl;
-  failed_is = refl;
-  sent_before = λ e. e;
-}
 
 -- a, and then b
 pub writes_more : {w v u : Wire} (a b : List ℕ) → Writes w a v → Writes v b u → Writes w (a ++ b) u

@@ -21,13 +21,6 @@ pub struct Wire {
     unread: bool,
 }
 
-// A wire after a read, and how many bytes the read put at the front of the block.
-#[derive(Clone, Copy)]
-pub struct Got {
-    pub wire: Wire,
-    pub n: usize,
-}
-
 impl Wire {
     pub fn new() -> Self
         ensures { result ≡ new_wire }
@@ -44,47 +37,30 @@ impl Wire {
     }
 
     // One read, into a block of one byte at least: into an empty one nothing could be read, and that would be taken for
-    // the end of input. One that fails, whatever the reason, gives nothing, as at the end. Free are the first n bytes,
-    // since no contract can say what the system put there, and the block behind them.
-    pub fn read(self, mut input: Stdin, block: &mut [u8]) -> Got
+    // the end of input. It says how many bytes it put at the front of the block; one that fails, whatever the reason,
+    // gives nothing, as at the end. Free are these bytes, since no contract can say what the system put there, and the
+    // block behind them.
+    pub fn read(&mut self, mut input: Stdin, block: &mut [u8]) -> usize
         requires { 0 < length block.old }
-        ensures { Reads self block.new result.n result.wire }
+        ensures { Reads self.old block.new result self.new }
     {
         let answer = input.read(block);
         let failed = answer.is_err();
         let n = answer.unwrap_or(0);
-        Got {
-            wire: Wire {
-                reads: self.reads.wrapping_add(1),
-                got: self.got.wrapping_add(n as u64),
-                told: self.told,
-                ended: n == 0,
-                failed,
-                sent: self.sent,
-                unread: self.unread,
-            },
-            n,
-        }
+        self.reads = self.reads.wrapping_add(1);
+        self.got = self.got.wrapping_add(n as u64);
+        self.ended = n == 0;
+        self.failed = failed;
+        n
     }
 
-    pub fn write(self, mut output: Stdout, bytes: &[u8]) -> Self
-        ensures { Writes self bytes.now result }
+    pub fn write(&mut self, mut output: Stdout, bytes: &[u8])
+        ensures { Writes self.old bytes.now self.new }
     {
         let answer = output.write_all(bytes);
-        let went = answer.is_ok();
-        let unread = match answer {
-            Ok(()) => false,
-            Err(error) => matches!(error.kind(), ErrorKind::BrokenPipe),
-        };
-        Wire {
-            reads: self.reads,
-            got: self.got,
-            told: self.told.wrapping_add(bytes.len() as u64),
-            ended: self.ended,
-            failed: self.failed,
-            sent: self.sent & went,
-            unread: self.unread | unread,
-        }
+        self.told = self.told.wrapping_add(bytes.len() as u64);
+        self.sent &= answer.is_ok();
+        self.unread |= answer.is_err_and(|error| matches!(error.kind(), ErrorKind::BrokenPipe));
     }
 
     pub fn ended(self) -> bool

@@ -51,3 +51,8 @@ line_slots r = length-append (text r) (10 ∷ []) ∙ slots_counted (template r)
 pub puts_line : (r : Record) {d e : List ℕ} {at to : ℕ} → Put d e at to (filled (template r ++ (10 ∷ [])) (numbers r))
     → Put d e at to (line r)
 puts_line r {d} {e} {at} {to} p = subst (Put d e at to) (sym (line_filled r)) p
+
+-- the same of a record r that is s
+pub whole : {r s : Record} {d e : List ℕ} {at to : ℕ} → r ≡ s
+    → Put d e at to (filled (template s ++ (10 ∷ [])) (numbers s)) → Put d e at to (line r)
+whole {r} {s} {d} {e} {at} {to} q p = subst (λ (x : Record). Put d e at to (line x)) (sym q) (puts_line s p)

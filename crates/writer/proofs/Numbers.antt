@@ -7,7 +7,8 @@ use lib.Dec.{eqb}
 use lib.ListN.{length, drop}
 use lib.Seq.{take_at, drop_at}
 use borrow.Author.Tests.{eqb-true, le-leb, lt-leb}
-use Rattle.writer.specs.declared.Writing.TheVariants.{Length, Refusal}
+use Rattle.std.specs.Prelude.{Ok, Err}
+use Rattle.refusal.specs.Refusal.{refusal}
 use Rattle.writer.specs.Writing.{line, write_question, writing, written, number, values, AlwaysTells}
 
 pub tells : AlwaysTells
@@ -24,11 +25,11 @@ tells r d = record {
 }
   where
     numbered : (t : Bool) → eqb (write_question r d) 0 ≡ t
-        → number (cond t (Length (length (line r))) (Refusal (write_question r d))) ≡ write_question r d
+        → number (cond t (Ok (length (line r))) (Err (refusal (write_question r d)))) ≡ write_question r d
     numbered true e = sym (eqb-true (write_question r d) 0 e)
     numbered false e = refl
 
-    valued : (t : Bool) → values (cond t (Length (length (line r))) (Refusal (write_question r d)))
+    valued : (t : Bool) → values (cond t (Ok (length (line r))) (Err (refusal (write_question r d))))
         ≡ cond t (length (line r) ∷ []) (write_question r d ∷ [])
     valued true = refl
     valued false = refl

@@ -1,6 +1,7 @@
 -- How the contracts of the inner functions speak of a record that is measured and put. Nothing that a caller relies on
 -- is here.
-use Rattle.std.specs.Prelude.{ℕ, ◌+◌, ◌≡◌, Bool, true, false, not, List, [], ◌∷◌, ◌++◌, length}
+use Rattle.std.specs.Prelude.{ℕ, ◌+◌, Bool, true, false, cond, not, List, [], ◌∷◌, ◌++◌, length}
+use Rattle.std.specs.Prelude.{Option, Some, None}
 use Rattle.buffer.specs.Buffer.{Put}
 use Rattle.lines.specs.Form.{bytes, is_slot, slot_text, template, numbers, piece, numbers_after, in_range}
 use Rattle.lines.specs.declared.Record.{Record}
@@ -26,10 +27,9 @@ slots_size (b ∷ t) ns m = plus (is_slot b) (length (piece b ns)) (slots_size t
 abbrev pub line_size : Record → ℕ
 line_size r = slots_size (template r) (numbers r) (own_size (template r) + 1)
 
--- z is whether the numbers of r are in their ranges, and the length of its line
-pub record LineSized (r : Record) (z : Size) : Type 0 where
-  pub ok : z.ok ≡ in_range r
-  pub len : z.len ≡ line_size r
+-- that length, or none where a number of r is out of its range
+abbrev pub sized : Record → Option Size
+sized r = cond (in_range r) (Some (record { len = line_size r })) None
 
 -- d became e: the line of r stands at the place at and ends at the place to
 abbrev pub Puts : List ℕ → List ℕ → ℕ → ℕ → Record → Type 0

@@ -1,12 +1,9 @@
--- Each campaign has left what its whole plays exceed the views below j by that it is given; one given with none left is
--- one too many.
-use Prim.Native.Nat.{◌-◌, ◌≤◌}
+-- Each campaign has left what its whole plays exceed the entries looked at by that it is given; one given with none
+-- left is one too many.
+use Rattle.std.proofs.Common.{take}
 use Rattle.allotments.specs.Allotment.{at}
 use Rattle.certificate.proofs.Passes.{Left}
 use Rattle.certificate.proofs.plays_fit.Given as goal
 
-abbrev pub invariant-loop-j : goal.invariant-loop-j
-invariant-loop-j l = (l.j ≤ l.n) × Left l.count l.initial.left l.left (at l.allotment) l.j
-
-abbrev pub decreases-loop-j : goal.decreases-loop-j
-decreases-loop-j l = l.n - l.j
+abbrev pub invariant-loop-entry : goal.invariant-loop-entry
+invariant-loop-entry l = Left l.count l.initial.left l.left (at (take l.n l.allotment)) l.entry-index

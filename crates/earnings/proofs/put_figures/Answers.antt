@@ -51,7 +51,7 @@ put_field-to-requires-3 c =
     room_left 21 105 c.put_field-to.ensures (omega (arith, numeral_most c.lowest-ratio.result.denominator)) end in
     let over : RoomFor c.put_field-to-2.new.out c.put_field-to-2.result 76 =
     room_left 29 76 c.put_field-to-2.ensures (omega (arith, numeral_most c.lowest-ratio.result.numerator)) under in
-    (omega (arith, numeral_most c.args.greatest, over.0), over.1)
+    (omega (arith, numeral_most c.args.figures.greatest, over.0), over.1)
 
 pub put_field-requires : goal.put_field-requires
 unfolding slot_text
@@ -62,9 +62,9 @@ put_field-requires c =
     room_left 21 105 c.put_field-to.ensures (omega (arith, numeral_most c.lowest-ratio.result.denominator)) end in
     let over : RoomFor c.put_field-to-2.new.out c.put_field-to-2.result 76 =
     room_left 29 76 c.put_field-to-2.ensures (omega (arith, numeral_most c.lowest-ratio.result.numerator)) under in
-    let few : length (numeral c.args.greatest) ≤ 20 = numeral_most c.args.greatest in
+    let few : length (numeral c.args.figures.greatest) ≤ 20 = numeral_most c.args.figures.greatest in
     let most = room_left 32 44 c.put_field-to-3.ensures (omega arith) over in
-    (omega (arith, numeral_most c.args.takings, most.0), most.1)
+    (omega (arith, numeral_most c.args.figures.takings, most.0), most.1)
 
 pub returns : goal.returns
 unfolding slot_text figures_text
@@ -75,7 +75,4 @@ returns c =
     let from_most = put_before from_over c.put_field-to-3.ensures in
     let from_First = put_before from_most c.put_field.ensures in
     subst (λ (r : Ratio). Put a.out.now c.put_field.new.out c.put_field.result report_room
-    (with_ratio a.takings a.greatest r)) c.lowest-ratio.ensures from_First
-
-pub put-to-requires : goal.put-to-requires
-put-to-requires c = omega arith
+    (with_ratio a.figures.takings a.figures.greatest r)) c.lowest-ratio.ensures from_First

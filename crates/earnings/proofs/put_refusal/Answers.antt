@@ -17,7 +17,7 @@ pub put_field-requires : goal.put_field-requires
 unfolding slot_text
 put_field-requires c =
     let p = c.put-to.ensures in
-    (omega (arith, p.next, numeral_most c.args.question), omega (arith, p.next, p.same, c.requires))
+    (omega (arith, p.next, numeral_most c.args.refusal.question), omega (arith, p.next, p.same, c.requires))
 
 -- the bytes put are the line's
 spelled : (q : ℕ) → bytes "(refused " ++ (numeral q ++ bytes ")\n") ≡ line (Refused q)
@@ -28,10 +28,4 @@ pub returns : goal.returns
 unfolding slot_text
 returns c =
     subst (λ (l : List ℕ). Put c.args.out.now c.put_field.new.out c.put_field.result report_room l)
-    (spelled c.args.question) (put_before c.put-to.ensures c.put_field.ensures)
-
-pub put-to-requires : goal.put-to-requires
-put-to-requires c = omega arith
-
-pub shape_of-out : goal.shape_of-out
-shape_of-out c = omega arith
+    (spelled c.args.refusal.question) (put_before c.put-to.ensures c.put_field.ensures)

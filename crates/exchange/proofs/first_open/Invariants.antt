@@ -1,10 +1,6 @@
 -- No view below j is free; the first that is ends the walk, and is the least of all.
-use Prim.Native.Nat.{◌-◌, ◌≤◌}
 use Rattle.exchange.specs.Cited.{NoneFree}
 use Rattle.exchange.proofs.first_open.Given as goal
 
 abbrev pub invariant-loop-j : goal.invariant-loop-j
-invariant-loop-j l = (l.j ≤ l.n) × NoneFree l.allotment l.j
-
-abbrev pub decreases-loop-j : goal.decreases-loop-j
-decreases-loop-j l = l.n - l.j
+invariant-loop-j l = NoneFree l.allotment l.j

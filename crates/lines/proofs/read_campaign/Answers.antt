@@ -1,25 +1,23 @@
--- The campaign form: its fields are read in turn, and by `reads` this is holding the line to the form's template.
-use mathlib.Core.Path.{refl}
-use native.Mathlib.Omega.{arith}
-use Rattle.lines.specs.declared.Record.TheVariants.{Campaign}
+-- The fields are read in turn, as the template has them.
+use Rattle.std.proofs.Common.{sym, ◌∙◌}
 use Rattle.lines.specs.Form.{template}
-use Rattle.lines.specs.Reading.{made}
-use Rattle.lines.proofs.Fields.{reads}
-use Rattle.lines.proofs.Fields.Scanned.{field, last_word}
+use Rattle.lines.specs.Reading.{slot_at, strip, step, rest_of, numbers_of, made, ended_or, held_or}
+use Rattle.lines.specs.Cited.{stripped}
 use Rattle.lines.proofs.read_campaign.Goals as goal
 
-pub field-price-requires : goal.field-price-requires
-field-price-requires c = omega arith
+pub returns-in_err-price : goal.returns-in_err-price
+unfolding template slot_at strip step rest_of numbers_of made ended_or held_or stripped
+returns-in_err-price c = rw (c.from_residual.ensures, sym c.in_err-price.ensures)
 
-pub field-budget-requires : goal.field-budget-requires
-field-budget-requires c = omega arith
-
-pub ended-requires : goal.ended-requires
-ended-requires c = omega arith
+pub returns-in_err-budget : goal.returns-in_err-budget
+unfolding template slot_at strip step rest_of numbers_of made ended_or held_or stripped
+returns-in_err-budget c =
+    rw (
+      c.from_residual-in_err-budget.ensures,
+      sym c.in_ok-price.ensures,
+      sym c.in_err-budget.ensures,
+    )
 
 pub returns : goal.returns
-unfolding template made
-returns c = let budget = c.before.before in
-    reads (Campaign 0 0)
-    (field refl budget.field-price.ensures (field refl budget.field-budget.ensures (last_word refl)))
-    c.ended.ensures
+unfolding template step rest_of numbers_of made held_or stripped
+returns c = c.ended.ensures ∙ rw (sym c.in_ok-price.ensures, sym c.in_ok-budget.ensures)

@@ -1,33 +1,33 @@
--- The closed form: its fields are read in turn, and by `reads` this is holding the line to the form's template.
-use mathlib.Core.Path.{refl}
-use native.Mathlib.Omega.{arith}
-use Rattle.lines.specs.declared.Record.TheVariants.{Closed}
+-- The fields are read in turn, as the template has them.
+use Rattle.std.proofs.Common.{sym, ◌∙◌}
 use Rattle.lines.specs.Form.{template}
-use Rattle.lines.specs.Reading.{made}
-use Rattle.lines.proofs.Fields.{reads}
-use Rattle.lines.proofs.Fields.Scanned.{field, last_word}
+use Rattle.lines.specs.Reading.{slot_at, strip, step, rest_of, numbers_of, made, ended_or, held_or}
+use Rattle.lines.specs.Cited.{stripped}
 use Rattle.lines.proofs.read_closed.Goals as goal
 
-pub field-takings-requires : goal.field-takings-requires
-field-takings-requires c = omega arith
+pub returns-in_err-takings : goal.returns-in_err-takings
+unfolding template slot_at strip step rest_of numbers_of made ended_or held_or stripped
+returns-in_err-takings c = rw (c.from_residual.ensures, sym c.in_err-takings.ensures)
 
-pub field-claim-requires : goal.field-claim-requires
-field-claim-requires c = omega arith
+pub returns-in_err-claim : goal.returns-in_err-claim
+unfolding template slot_at strip step rest_of numbers_of made ended_or held_or stripped
+returns-in_err-claim c =
+    rw (
+      c.from_residual-in_err-claim.ensures,
+      sym c.in_ok-takings.ensures,
+      sym c.in_err-claim.ensures,
+    )
 
-pub field-full-requires : goal.field-full-requires
-field-full-requires c = omega arith
-
-pub ended-requires : goal.ended-requires
-ended-requires c = omega arith
+pub returns-in_err-full : goal.returns-in_err-full
+unfolding template slot_at strip step rest_of numbers_of made ended_or held_or stripped
+returns-in_err-full c =
+    rw (
+      c.from_residual-in_err-full.ensures,
+      sym c.in_ok-takings.ensures,
+      sym c.in_ok-claim.ensures,
+      sym c.in_err-full.ensures,
+    )
 
 pub returns : goal.returns
-unfolding template made
-returns c = let full = c.before.before in
-    let claim = full.before.before in
-    let takings = claim.before.before in
-    reads (Closed 0 0 0)
-    (field refl takings.field-takings.ensures
-    (field refl claim.field-claim.ensures
-    (field refl full.field-full.ensures
-    (last_word refl))))
-    c.ended.ensures
+unfolding template step rest_of numbers_of made held_or stripped
+returns c = c.ended.ensures ∙ rw (sym c.in_ok-takings.ensures, sym c.in_ok-claim.ensures, sym c.in_ok-full.ensures)

@@ -1,25 +1,23 @@
--- The plan form: its fields are read in turn, and by `reads` this is holding the line to the form's template.
-use mathlib.Core.Path.{refl}
-use native.Mathlib.Omega.{arith}
-use Rattle.lines.specs.declared.Record.TheVariants.{Plan}
+-- The fields are read in turn, as the template has them.
+use Rattle.std.proofs.Common.{sym, ◌∙◌}
 use Rattle.lines.specs.Form.{template}
-use Rattle.lines.specs.Reading.{made}
-use Rattle.lines.proofs.Fields.{reads}
-use Rattle.lines.proofs.Fields.Scanned.{field, last_word}
+use Rattle.lines.specs.Reading.{slot_at, strip, step, rest_of, numbers_of, made, ended_or, held_or}
+use Rattle.lines.specs.Cited.{stripped}
 use Rattle.lines.proofs.read_plan.Goals as goal
 
-pub field-depth-requires : goal.field-depth-requires
-field-depth-requires c = omega arith
+pub returns-in_err-depth : goal.returns-in_err-depth
+unfolding template slot_at strip step rest_of numbers_of made ended_or held_or stripped
+returns-in_err-depth c = rw (c.from_residual.ensures, sym c.in_err-depth.ensures)
 
-pub field-width-requires : goal.field-width-requires
-field-width-requires c = omega arith
-
-pub ended-requires : goal.ended-requires
-ended-requires c = omega arith
+pub returns-in_err-width : goal.returns-in_err-width
+unfolding template slot_at strip step rest_of numbers_of made ended_or held_or stripped
+returns-in_err-width c =
+    rw (
+      c.from_residual-in_err-width.ensures,
+      sym c.in_ok-depth.ensures,
+      sym c.in_err-width.ensures,
+    )
 
 pub returns : goal.returns
-unfolding template made
-returns c = let width = c.before.before in
-    reads (Plan 0 0)
-    (field refl width.field-depth.ensures (field refl width.field-width.ensures (last_word refl)))
-    c.ended.ensures
+unfolding template step rest_of numbers_of made held_or stripped
+returns c = c.ended.ensures ∙ rw (sym c.in_ok-depth.ensures, sym c.in_ok-width.ensures)

@@ -1,25 +1,23 @@
--- The play form: its fields are read in turn, and by `reads` this is holding the line to the form's template.
-use mathlib.Core.Path.{refl}
-use native.Mathlib.Omega.{arith}
-use Rattle.lines.specs.declared.Record.TheVariants.{Play}
+-- The fields are read in turn, as the template has them.
+use Rattle.std.proofs.Common.{sym, ◌∙◌}
 use Rattle.lines.specs.Form.{template}
-use Rattle.lines.specs.Reading.{made}
-use Rattle.lines.proofs.Fields.{reads}
-use Rattle.lines.proofs.Fields.Scanned.{field, last_word}
+use Rattle.lines.specs.Reading.{slot_at, strip, step, rest_of, numbers_of, made, ended_or, held_or}
+use Rattle.lines.specs.Cited.{stripped}
 use Rattle.lines.proofs.read_play.Goals as goal
 
-pub field-campaign-requires : goal.field-campaign-requires
-field-campaign-requires c = omega arith
+pub returns-in_err-campaign : goal.returns-in_err-campaign
+unfolding template slot_at strip step rest_of numbers_of made ended_or held_or stripped
+returns-in_err-campaign c = rw (c.from_residual.ensures, sym c.in_err-campaign.ensures)
 
-pub field-paid-requires : goal.field-paid-requires
-field-paid-requires c = omega arith
-
-pub ended-requires : goal.ended-requires
-ended-requires c = omega arith
+pub returns-in_err-paid : goal.returns-in_err-paid
+unfolding template slot_at strip step rest_of numbers_of made ended_or held_or stripped
+returns-in_err-paid c =
+    rw (
+      c.from_residual-in_err-paid.ensures,
+      sym c.in_ok-campaign.ensures,
+      sym c.in_err-paid.ensures,
+    )
 
 pub returns : goal.returns
-unfolding template made
-returns c = let paid = c.before.before in
-    reads (Play 0 0)
-    (field refl paid.field-campaign.ensures (field refl paid.field-paid.ensures (last_word refl)))
-    c.ended.ensures
+unfolding template step rest_of numbers_of made held_or stripped
+returns c = c.ended.ensures ∙ rw (sym c.in_ok-campaign.ensures, sym c.in_ok-paid.ensures)

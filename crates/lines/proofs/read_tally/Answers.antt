@@ -1,43 +1,64 @@
--- The tally form: its fields are read in turn, and by `reads` this is holding the line to the form's template.
-use mathlib.Core.Path.{refl}
-use native.Mathlib.Omega.{arith}
-use Rattle.lines.specs.declared.Record.TheVariants.{Tally}
+-- The fields are read in turn, as the template has them.
+use Rattle.std.proofs.Common.{sym, ◌∙◌}
 use Rattle.lines.specs.Form.{template}
-use Rattle.lines.specs.Reading.{made}
-use Rattle.lines.proofs.Fields.{reads}
-use Rattle.lines.proofs.Fields.Scanned.{field, last_word}
+use Rattle.lines.specs.Reading.{slot_at, strip, step, rest_of, numbers_of, made, ended_or, held_or}
+use Rattle.lines.specs.Cited.{stripped}
 use Rattle.lines.proofs.read_tally.Goals as goal
 
-pub field-campaign-requires : goal.field-campaign-requires
-field-campaign-requires c = omega arith
+pub returns-in_err-campaign : goal.returns-in_err-campaign
+unfolding template slot_at strip step rest_of numbers_of made ended_or held_or stripped
+returns-in_err-campaign c = rw (c.from_residual.ensures, sym c.in_err-campaign.ensures)
 
-pub field-plays-requires : goal.field-plays-requires
-field-plays-requires c = omega arith
+pub returns-in_err-plays : goal.returns-in_err-plays
+unfolding template slot_at strip step rest_of numbers_of made ended_or held_or stripped
+returns-in_err-plays c =
+    rw (
+      c.from_residual-in_err-plays.ensures,
+      sym c.in_ok-campaign.ensures,
+      sym c.in_err-plays.ensures,
+    )
 
-pub field-turns-requires : goal.field-turns-requires
-field-turns-requires c = omega arith
+pub returns-in_err-turns : goal.returns-in_err-turns
+unfolding template slot_at strip step rest_of numbers_of made ended_or held_or stripped
+returns-in_err-turns c =
+    rw (
+      c.from_residual-in_err-turns.ensures,
+      sym c.in_ok-campaign.ensures,
+      sym c.in_ok-plays.ensures,
+      sym c.in_err-turns.ensures,
+    )
 
-pub field-age-requires : goal.field-age-requires
-field-age-requires c = omega arith
+pub returns-in_err-age : goal.returns-in_err-age
+unfolding template slot_at strip step rest_of numbers_of made ended_or held_or stripped
+returns-in_err-age c =
+    rw (
+      c.from_residual-in_err-age.ensures,
+      sym c.in_ok-campaign.ensures,
+      sym c.in_ok-plays.ensures,
+      sym c.in_ok-turns.ensures,
+      sym c.in_err-age.ensures,
+    )
 
-pub field-named-requires : goal.field-named-requires
-field-named-requires c = omega arith
-
-pub ended-requires : goal.ended-requires
-ended-requires c = omega arith
+pub returns-in_err-named : goal.returns-in_err-named
+unfolding template slot_at strip step rest_of numbers_of made ended_or held_or stripped
+returns-in_err-named c =
+    rw (
+      c.from_residual-in_err-named.ensures,
+      sym c.in_ok-campaign.ensures,
+      sym c.in_ok-plays.ensures,
+      sym c.in_ok-turns.ensures,
+      sym c.in_ok-age.ensures,
+      sym c.in_err-named.ensures,
+    )
 
 pub returns : goal.returns
-unfolding template made
-returns c = let named = c.before.before in
-    let age = named.before.before in
-    let turns = age.before.before in
-    let plays = turns.before.before in
-    let campaign = plays.before.before in
-    reads (Tally 0 0 0 0 0)
-    (field refl campaign.field-campaign.ensures
-    (field refl plays.field-plays.ensures
-    (field refl turns.field-turns.ensures
-    (field refl age.field-age.ensures
-    (field refl named.field-named.ensures
-    (last_word refl))))))
+unfolding template step rest_of numbers_of made held_or stripped
+returns c =
     c.ended.ensures
+    ∙ rw (
+      sym c.in_ok-campaign.ensures,
+      sym c.in_ok-plays.ensures,
+      sym c.in_ok-turns.ensures,
+      sym c.in_ok-age.ensures,
+      sym c.in_ok-named.ensures,
+    )

@@ -22,7 +22,7 @@ overflow_sub-result c =
     let n = c.args.count in
     omega (arith, shifted n (below c), pow_pos n)
 
-pub returns : goal.returns
-returns c =
+pub returns-else-count-eq64 : goal.returns-else-count-eq64
+returns-else-count-eq64 c =
     let n = c.args.count in
     everyone_of n (1 * 2 ^ n % 2 ^ 64 - 1) (omega (arith, shifted n (below c), pow_pos n))

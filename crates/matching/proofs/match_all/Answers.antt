@@ -43,10 +43,10 @@ loop-unserved-preserved c =
     let o = c.first_open-first in
     let v = c.serve-after in
     let f = c.freeze in
-    let plays = c.wide32-plays in
-    let price = c.wide32-price in
-    underway_turn c.loop-unserved.invariant c.dearest-c.ensures o.ensures plays.ensures.0
-    price.ensures.0 c.without.ensures c.including.ensures
+    let plays = c.from-plays in
+    let price = c.from-price in
+    underway_turn c.loop-unserved.invariant c.dearest-c.ensures o.ensures plays.ensures
+    price.ensures c.without.ensures c.including.ensures
     c.without-unserved.ensures v.auto.allotment v.ensures f.ensures
 
 pub shape_of-allotment : goal.shape_of-allotment

@@ -5,17 +5,13 @@ use Rattle.noon.proofs.share.Goals as goal
 
 pub overflow_sub-result : goal.overflow_sub-result
 overflow_sub-result c =
-    let s = c.before.before.before.before.before in
-    let high = c.weigh-high in
     omega (
       arith,
-      low_below s.args.plan s.requires high.result c.weigh.result high.ensures.0 c.weigh.ensures.0,
+      low_below c.args.plan c.requires c.weigh-high.result c.weigh.result c.weigh-high.ensures.0 c.weigh.ensures.0,
     )
 
 pub returns : goal.returns
-returns c =
-    let s = c.before.before.before.before.before in
-    let high = c.weigh-high in (
-      share_is s.args.plan s.requires high.result c.weigh.result high.ensures.0 c.weigh.ensures.0,
-      omega (arith, high.ensures.1),
-    )
+returns c = (
+  share_is c.args.plan c.requires c.weigh-high.result c.weigh.result c.weigh-high.ensures.0 c.weigh.ensures.0,
+  omega (arith, c.weigh-high.ensures.1),
+)

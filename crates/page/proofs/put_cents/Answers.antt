@@ -29,10 +29,5 @@ overflow_sub-to c = omega (arith, cents_size c.args.n)
 pub put_number-requires : goal.put_number-requires
 put_number-requires c = simp length-set (omega (arith, cents_size c.args.n))
 
-pub shape_of-out : goal.shape_of-out
-shape_of-out c = simp length-set at c.put_number.ensures.same
-
 pub returns : goal.returns
-returns c = let start = c.before.before.before.before.before in
-    cents_put start.args.n (omega (arith, cents_size start.args.n)) (omega arith)
-    c.put_number.ensures
+returns c = cents_put c.args.n (omega (arith, cents_size c.args.n)) (omega arith) c.put_number.ensures

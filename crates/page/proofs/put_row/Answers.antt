@@ -59,6 +59,3 @@ returns c =
     row_laid start.requires.0 start.args.i (page_row start.args.c) start.requires.1 start.requires.2
     named.put_number.ensures paid.put_cents.ensures price.put_cents-2.ensures plays.put_number-2.ensures
     number.put_number-3.ensures
-
-pub shape_of-out : goal.shape_of-out
-shape_of-out c = (returns c).same

@@ -1,7 +1,7 @@
 -- The lines of the campaigns, from the last to the first. The loop's invariant: those from i on stand over spaces.
 use mathlib.Core.Path.{◌≡◌, sym, ap, ◌∙◌, subst}
 use mathlib.Core.List.{List, [], ◌∷◌, ◌++◌}
-use Prim.Native.Nat.{ℕ, suc, ◌*◌, ◌-◌, ◌<◌}
+use Prim.Native.Nat.{ℕ, suc, ◌+◌, ◌*◌, ◌-◌, ◌<◌}
 use native.Mathlib.Omega.{arith}
 use lib.ListN.{drop}
 use Rattle.finite.specs.Finite.{table}
@@ -17,21 +17,17 @@ use Rattle.page.proofs.put_rows.Goals as goal
 pub loop-i-init : goal.loop-i-init
 loop-i-init c =
     let a = c.args in
-    let f : ℕ → Row = λ i. page_row (campaign_at a.terms.now a.counts.now i) in (
-      omega arith,
-      subst (Lays a.out.now a.out.now (line_length * a.n) (line_length * a.n)) (rows_none a.n f)
-          (lays_none a.out.now (line_length * a.n)),
-    )
+    let f : ℕ → Row = λ i. page_row (campaign_at a.terms.now a.counts.now i) in
+    subst (Lays a.out.now a.out.now (line_length * a.n) (line_length * a.n)) (rows_none a.n f)
+    (lays_none a.out.now (line_length * a.n))
 
 pub put_row-requires : goal.put_row-requires
 put_row-requires c =
-    let start = c.before.before.before.before.before in
     let o = c.loop-i in
-    let e = c.entry-c.ensures.0 in
-    let fits = start.requires.all_fit (o.i - 1) (omega arith) in (
-      (omega arith, omega (arith, o.invariant.1.same, start.requires.room)),
-      omega (arith, start.requires.few),
-      subst (λ (x : Campaign). RowFits (page_row x)) (sym e) fits,
+    let fits = c.requires.all_fit (o.i - 1) (omega arith) in (
+      (omega arith, omega (arith, o.invariant.same, c.requires.room)),
+      omega (arith, c.requires.few),
+      subst (λ (x : Campaign). RowFits (page_row x)) (sym c.entry.ensures.0) fits,
     )
 
 -- the line of campaign j before those from i on
@@ -51,15 +47,12 @@ one_more {d} {e} {g} n f j i {r} h s p q l =
 
 pub loop-i-preserved : goal.loop-i-preserved
 loop-i-preserved c =
-    let turn = c.before.before.before.before.before.before in
-    let a = turn.args in
-    let o = turn.loop-i in
-    let e = c.entry-c.ensures.0 in
-    let p = c.put_row.ensures in
+    let a = c.args in
+    let o = c.loop-i in
     let f : ℕ → Row = λ i. page_row (campaign_at a.terms.now a.counts.now i) in
-    let j = o.i - 1 in
-    let s : o.i ≡ suc j = omega arith in
-    (omega arith, one_more a.n f j o.i (omega arith) s o.invariant.1 (ap page_row e) p)
+    let s : o.i ≡ suc (o.i - 1) = omega arith in
+    let k : o.i - 1 + 1 ≡ o.i = omega arith in
+    one_more a.n f (o.i - 1) o.i (omega arith) s o.invariant (ap page_row c.entry.ensures.0) (rw k at c.put_row.ensures)
 
 pub returns : goal.returns
 returns c =
@@ -67,19 +60,4 @@ returns c =
     let o = c.loop-i in
     let e : o.i ≡ 0 = omega arith in
     subst (λ (k : ℕ). Lays a.out.now o.out (line_length * k) (line_length * a.n)
-    (row_lines k (drop k (rows_of a.n a.terms.now a.counts.now)))) e o.invariant.1
-
-pub overflow_mul-to : goal.overflow_mul-to
-overflow_mul-to c = omega arith
-
-pub overflow_sub-i : goal.overflow_sub-i
-overflow_sub-i c = omega arith
-
-pub entry-c-requires : goal.entry-c-requires
-entry-c-requires c = omega (arith, c.requires.few)
-
-pub loop-i-smaller : goal.loop-i-smaller
-loop-i-smaller c = omega arith
-
-pub shape_of-out : goal.shape_of-out
-shape_of-out c = c.loop-i.invariant.1.same
+    (row_lines k (drop k (rows_of a.n a.terms.now a.counts.now)))) e o.invariant

@@ -1,6 +1,6 @@
 -- The lines of the campaigns, from the last to the first. The loop's invariant: those from i on stand over spaces.
 use mathlib.Core.List.{List}
-use Prim.Native.Nat.{ℕ, ◌*◌, ◌≤◌}
+use Prim.Native.Nat.{ℕ, ◌*◌}
 use lib.ListN.{drop}
 use Rattle.finite.specs.Finite.{table}
 use Rattle.campaigns.specs.Campaign.{campaign_at}
@@ -14,8 +14,4 @@ rows_of n t k = table n (λ i. page_row (campaign_at t k i))
 
 abbrev pub invariant-loop-i : goal.invariant-loop-i
 invariant-loop-i l =
-    (l.i ≤ l.n)
-    × Lays l.initial.out l.out (line_length * l.i) (line_length * l.n) (row_lines l.i (drop l.i (rows_of l.n l.terms l.counts)))
-
-abbrev pub decreases-loop-i : goal.decreases-loop-i
-decreases-loop-i l = l.i
+    Lays l.initial.out l.out (line_length * l.i) (line_length * l.n) (row_lines l.i (drop l.i (rows_of l.n l.terms l.counts)))

@@ -21,6 +21,3 @@ returns c =
     let amount = word.before.before.before.before.before in
     let start = amount.before.before.before in
     total_laid start.requires.0 start.args.takings start.requires.1 amount.put_cents.ensures word.put.ensures
-
-pub shape_of-out : goal.shape_of-out
-shape_of-out c = (returns c).same

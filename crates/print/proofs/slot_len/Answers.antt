@@ -8,8 +8,7 @@ use Rattle.print.proofs.slot_len.Goals as goal
 
 pub returns-then-slot-eq83 : goal.returns-then-slot-eq83
 returns-then-slot-eq83 c = let a = c.args in (
-  c.names_len.ensures.0
-      ∙ ap length (sym (text_names a.slot a.n c.if-slot-eq83.true)),
+  c.names_len.ensures.0 ∙ ap length (sym (text_names a.slot a.n c.if-slot-eq83.true)),
   c.names_len.ensures.1,
 )
 

@@ -1,33 +1,18 @@
--- A run, block after block. The loop's invariant: the stream, the entries for views and the teller stand where the
--- blocks that reads gave have led (`Reached`). A turn leaves it for a read that failed, for a read that gave nothing,
--- or with one block more.
-use Rattle.std.proofs.Common.{◌∙◌, refl, sym, arith}
-use Rattle.pumpgreatest.proofs.Days.{reached_none, reached_more, ran_failed, ran_spent, ran_through}
+-- A run: the line is told where the input has ended and no read failed, and nothing else is.
+use Rattle.std.proofs.Common.{sym, ◌∙◌, rules}
+use Rattle.finite.proofs.Tests.{never}
+use Rattle.pumpgreatest.proofs.Days.{ran_untold, ran_through}
+use Rattle.pumpgreatest.proofs.run.Goals.{else-ended-via-then-ended+else-not-failed, else-ended-via-else-ended}
 use Rattle.pumpgreatest.proofs.run.Goals as goal
 
-pub loop-turns-init : goal.loop-turns-init
-loop-turns-init c =
-    let v = c.args.views.now in
-    (refl, refl, refl, reached_none v c.new-stream.ensures c.new-teller.ensures)
+pub returns-then-not-failed : goal.returns-then-not-failed
+returns-then-not-failed c =
+    ran_through c.hear-teller.ensures c.new.ensures (sym c.failed.ensures ∙ c.if-not-failed.true)
+    (sym c.ended.ensures ∙ c.if-ended.true) (search rules) c.finish.ensures
 
--- a read failed
-pub returns-then-failed : goal.returns-then-failed
-returns-then-failed c =
-    ran_failed c.loop-turns.invariant.3 c.read_block-t.ensures (sym c.failed.ensures ∙ c.if-failed.true)
-
--- the end of input
-pub returns-then-ended : goal.returns-then-ended
-returns-then-ended c =
-    ran_through c.loop-turns.invariant.3 c.read_block-t.ensures (sym c.failed.ensures ∙ c.if-failed.false)
-    (sym c.ended.ensures ∙ c.if-ended.true) c.requires.2 c.finish.ensures
-
-pub loop-turns-preserved : goal.loop-turns-preserved
-loop-turns-preserved c = (
-  c.read_block-t.auto.block ∙ c.loop-turns.invariant.0,
-  c.read_block-t.auto.views ∙ c.loop-turns.invariant.1,
-  c.read_block-t.auto.out ∙ c.loop-turns.invariant.2,
-  reached_more c.loop-turns.invariant.3 c.read_block-t.ensures (sym c.ended.ensures ∙ c.if-ended.false) (omega arith),
-)
-
-pub returns : goal.returns
-returns c = ran_spent c.loop-turns.invariant.3 (omega arith)
+pub returns-else-ended : goal.returns-else-ended
+returns-else-ended c =
+    ran_untold c.hear-teller.ensures c.new.ensures (λ f e. elim c.else-ended.branch [
+      | else-ended-via-then-ended+else-not-failed w ↦ absurd (never _ f (sym w.failed.ensures ∙ w.if-not-failed.false))
+      | else-ended-via-else-ended w ↦ absurd (never _ (sym c.ended.ensures ∙ w.if-ended.false) e)
+    ])

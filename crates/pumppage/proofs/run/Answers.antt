@@ -1,35 +1,21 @@
--- A run, block after block. The loop's invariant: the stream and the teller stand where the blocks that reads gave have
--- led (`Reached`). A turn leaves it for a read that failed, for a read that gave nothing, or with one block more.
-use Rattle.std.proofs.Common.{◌∙◌, refl, sym, arith}
-use Rattle.pumppage.proofs.Pages.{reached_none, reached_more, now_sound, ran_failed, ran_spent, ran_through}
+-- A run: the page is told where the input has ended and no read failed, and nothing else is.
+use Rattle.std.proofs.Common.{sym, ◌∙◌}
+use Rattle.finite.proofs.Tests.{never}
+use Rattle.pumppage.proofs.Pages.{now_sound, ran_untold, ran_through}
+use Rattle.pumppage.proofs.run.Goals.{else-ended-via-then-ended+else-not-failed, else-ended-via-else-ended}
 use Rattle.pumppage.proofs.run.Goals as goal
 
-pub loop-turns-init : goal.loop-turns-init
-loop-turns-init c = (refl, refl, reached_none c.new-stream.ensures c.new-teller.ensures)
-
--- a read failed
-pub returns-then-failed : goal.returns-then-failed
-returns-then-failed c =
-    ran_failed c.loop-turns.invariant.2 c.read_block-t.ensures (sym c.failed.ensures ∙ c.if-failed.true)
-
 pub finish-requires : goal.finish-requires
-finish-requires c = (
-  omega (arith, c.read_block-t.auto.out, c.loop-turns.invariant.1, c.requires.1),
-  now_sound c.loop-turns.invariant.2 c.read_block-t.ensures,
-)
+finish-requires c = now_sound c.hear-teller.ensures c.new.ensures
 
--- the end of input
-pub returns-then-ended : goal.returns-then-ended
-returns-then-ended c =
-    ran_through c.loop-turns.invariant.2 c.read_block-t.ensures (sym c.failed.ensures ∙ c.if-failed.false)
+pub returns-then-not-failed : goal.returns-then-not-failed
+returns-then-not-failed c =
+    ran_through c.hear-teller.ensures c.new.ensures (sym c.failed.ensures ∙ c.if-not-failed.true)
     (sym c.ended.ensures ∙ c.if-ended.true) c.finish.ensures
 
-pub loop-turns-preserved : goal.loop-turns-preserved
-loop-turns-preserved c = (
-  c.read_block-t.auto.block ∙ c.loop-turns.invariant.0,
-  c.read_block-t.auto.out ∙ c.loop-turns.invariant.1,
-  reached_more c.loop-turns.invariant.2 c.read_block-t.ensures (sym c.ended.ensures ∙ c.if-ended.false) (omega arith),
-)
-
-pub returns : goal.returns
-returns c = ran_spent c.loop-turns.invariant.2 (omega arith)
+pub returns-else-ended : goal.returns-else-ended
+returns-else-ended c =
+    ran_untold c.hear-teller.ensures c.new.ensures (λ f e. elim c.else-ended.branch [
+      | else-ended-via-then-ended+else-not-failed w ↦ absurd (never _ f (sym w.failed.ensures ∙ w.if-not-failed.false))
+      | else-ended-via-else-ended w ↦ absurd (never _ (sym c.ended.ensures ∙ w.if-ended.false) e)
+    ])

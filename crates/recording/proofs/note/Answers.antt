@@ -17,20 +17,20 @@ use Rattle.recording.proofs.note.Goals as goal
 pub slice_bounds-pending-end : goal.slice_bounds-pending-end
 slice_bounds-pending-end c =
     let h : length c.args.stream.pending ≡ line_buffer = search rules in
-    omega (arith, c.at_most_held-n.ensures, h)
+    omega (arith, c.at_most_held.ensures, h)
+
+pub returns-else-at-views : goal.returns-else-at-views
+unfolding noted
+returns-else-at-views c =
+    sym (set_out c.args.views.now c.args.stream.day.accepted _ c.if-at-views.false)
 
 pub returns-then-at-views : goal.returns-then-at-views
 unfolding noted
 returns-then-at-views c =
-    sym (set_out c.args.views.now c.args.stream.day.accepted _ c.if-at-views.true)
-
-pub returns : goal.returns
-unfolding noted
-returns c =
     let k = c.args.stream in
     let h : length k.pending ≡ line_buffer = search rules in
-    let line : take c.at_most_held-n.result k.pending ≡ take k.kept k.pending =
-    ap (λ (i : ℕ). take i k.pending) c.at_most_held-n.ensures ∙ take_least k.pending k.kept h in
+    let line : take c.at_most_held.result k.pending ≡ take k.kept k.pending =
+    ap (λ (i : ℕ). take i k.pending) c.at_most_held.ensures ∙ take_least k.pending k.kept h in
     ap (set c.args.views.now k.day.accepted)
     (c.without.ensures ∙ ap (λ (i : ℕ). without i k.day.paused)
     (c.shown_by-set.ensures ∙ ap (λ (l : List ℕ). shown_in (request_of (reading l))) line))

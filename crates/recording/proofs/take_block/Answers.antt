@@ -21,15 +21,15 @@ loop-end-init c =
 pub overflow_add-from : goal.overflow_add-from
 overflow_add-from c = omega (arith, c.loop-end-test.true)
 
-pub take_line-next-requires : goal.take_line-next-requires
-take_line-next-requires c = (omega (arith, c.loop-end.invariant.1, c.requires), line_plain c.loop-end.invariant.2)
+pub take_line-s-requires : goal.take_line-s-requires
+take_line-s-requires c = (omega (arith, c.loop-end.invariant.1, c.requires), line_plain c.loop-end.invariant.2)
 
 pub loop-end-smaller : goal.loop-end-smaller
 loop-end-smaller c = omega (arith, c.loop-end-test.true, c.loop-end.invariant.2.end_is)
 
 pub loop-end-preserved : goal.loop-end-preserved
 loop-end-preserved c =
-    let r = c.take_line-next in
+    let r = c.take_line-s in
     let o = c.loop-end in
     let e = c.line_end-end-in-loop-end.ensures in (
       r.auto.views ∙ o.invariant.0,
@@ -40,7 +40,7 @@ loop-end-preserved c =
 pub returns : goal.returns
 returns c =
     let o = c.loop-end in
-    let r = c.feed-rest in
+    let r = c.feed in
     going_ends o.invariant.2 c.loop-end-test.false o.out r.new.out r.result (omega (arith, o.invariant.1, c.requires))
     r.ensures
 
@@ -63,4 +63,4 @@ pub shape_of-views : goal.shape_of-views
 shape_of-views c = c.loop-end.invariant.0
 
 pub shape_of-out : goal.shape_of-out
-shape_of-out c = c.feed-rest.auto.out ∙ c.loop-end.invariant.1
+shape_of-out c = c.feed.auto.out ∙ c.loop-end.invariant.1

@@ -11,7 +11,7 @@ use Rattle.recording.proofs.take_end.Goals as goal
 pub returns : goal.returns
 returns c =
     let x = session_of c.args.stream in (
-      ap (λ (b : Fed). b.stream) c.finish-fed.ensures.back_is
+      ap (λ (b : Fed). b.stream) c.finish.ensures.back_is
           ∙ ap (λ (b : Bool). stream_of (cond b (finished x) x))
           (le-leb reply_room (length c.args.out.now) c.requires),
       c.note.ensures,

@@ -1,20 +1,16 @@
 -- An opening: its answer tells whether the takings begin again.
-use mathlib.Core.Path.{sym, ◌∙◌}
+use Rattle.std.proofs.Common.{arith}
 use Rattle.replay.proofs.Steps.{opened, not_opened}
 use Rattle.replay.proofs.open.Goals as goal
 
-pub returns-then-number-eq0 : goal.returns-then-number-eq0
-returns-then-number-eq0 c =
-    let a = c.args in
+pub returns-then-accepted : goal.returns-then-accepted
+returns-then-accepted c =
+    let b = c.args.before in
     let o = c.open-outcome in
-    rw c.keep.ensures
-    (opened a.day a.paid a.plan o.result o.ensures
-    (sym c.number.ensures ∙ c.if-number-eq0.true))
+    opened b.day b.paid c.args.plan o.result o.ensures (omega (arith, c.number-accepted.ensures))
 
-pub returns : goal.returns
-returns c =
-    let a = c.args in
+pub returns-else-accepted : goal.returns-else-accepted
+returns-else-accepted c =
+    let b = c.args.before in
     let o = c.open-outcome in
-    rw c.keep-2.ensures
-    (not_opened a.day a.paid a.plan o.result o.ensures
-    (λ z. c.if-number-eq0.false (c.number.ensures ∙ z)))
+    not_opened b.day b.paid c.args.plan o.result o.ensures (λ z. omega (arith, c.number-accepted.ensures, z))

@@ -1,62 +1,52 @@
--- The loop keeps `Rest`: a day whose takings are those added up so far, from which the words that are left come to what
--- the whole list comes to from the start.
-use Prim.Native.Nat.{◌+◌, ◌≤◌}
-use native.Mathlib.Omega.{arith}
-use lib.ListN.{length}
-use Rattle.replay.proofs.Steps.{rest_start, rest_step, replayed}
+-- The loop begins with all words, takes three in each turn, and ends with fewer than three left.
+use Rattle.std.proofs.Common.{List, ℕ, length, ◌<◌, sym, ap, ◌∙◌, subst, arith}
+use Rattle.std.specs.Slice.Iter.{chunks_exact_rest, chunks_exact_size}
+use Rattle.day.specs.Calls.{Call}
+use Rattle.replay.specs.Cited.{ReplaysTo}
+use Rattle.replay.proofs.Steps.{Rest, rest_start, rest_step, replayed, no_calls}
 use Rattle.replay.proofs.replay.Goals as goal
 
-pub loop-i-init : goal.loop-i-init
-loop-i-init c = (omega arith, rest_start c.args.day c.args.calls.now)
+pub loop-words-init : goal.loop-words-init
+loop-words-init c =
+    let day = c.args.day in
+    let words = c.args.calls.now in
+    let all = c.chunks_exact-words-items.ensures in
+    let same = c.into_iter-words-iterator.ensures.into_iter_gives in (
+      ap chunks_exact_size same ∙ all.size,
+      subst (λ (left : List ℕ). Rest day words left day 0) (sym (ap chunks_exact_rest same ∙ all.rest))
+          (rest_start day words),
+    )
 
-pub step-next-requires : goal.step-next-requires
-step-next-requires c = c.loop-i.invariant.1.bounded
+pub step-state-requires : goal.step-state-requires
+step-state-requires c = c.loop-words.invariant.1.bounded
 
-pub loop-i-preserved : goal.loop-i-preserved
-loop-i-preserved c =
-    let start = c.args in
-    let l = c.loop-i in
-    let h : l.i + 3 ≤ length start.calls.now = omega arith in (
-      h,
-      rest_step start.day start.calls.now l.i l.state l.paid c.step-next.result h l.invariant.1
-          c.step-next.ensures,
+-- no call
+pub loop-words-preserved : goal.loop-words-preserved
+loop-words-preserved c =
+    let l = c.loop-words in
+    let next = c.in-Some.ensures.steps in (
+      next.0 ∙ l.invariant.0,
+      rest_step c.args.day c.args.calls.now _ c.in-Some.words.now _ l.state.day l.state.paid l.state next.1.0
+          (next.1.1 ∙ l.invariant.0) l.invariant.1
+          (subst (λ (calls : List Call). ReplaysTo l.state.day l.state.paid calls l.state) c.in_default.ensures
+          (no_calls l.state.day l.state.paid)),
+    )
+
+pub loop-words-preserved-in-Some-call_of : goal.loop-words-preserved-in-Some-call_of
+loop-words-preserved-in-Some-call_of c =
+    let l = c.loop-words in
+    let next = c.in-Some.ensures.steps in
+    let r = c.step-state in (
+      next.0 ∙ l.invariant.0,
+      rest_step c.args.day c.args.calls.now _ c.in-Some.words.now _ l.state.day l.state.paid r.result next.1.0
+          (next.1.1 ∙ l.invariant.0) l.invariant.1
+          (subst (λ (calls : List Call). ReplaysTo l.state.day l.state.paid calls r.result) c.in-Some-call_of.ensures
+          r.ensures),
     )
 
 pub returns : goal.returns
 returns c =
-    let a = c.args in
-    let l = c.loop-i in
-    replayed a.day a.calls.now l.i l.state l.paid (omega arith) l.invariant.1
-
-pub overflow_sub-calls : goal.overflow_sub-calls
-overflow_sub-calls c = omega arith
-
-pub offset_bounds-calls-i : goal.offset_bounds-calls-i
-offset_bounds-calls-i c = omega arith
-
-pub bounds-calls-i : goal.bounds-calls-i
-bounds-calls-i c = omega arith
-
-pub overflow_add-i : goal.overflow_add-i
-overflow_add-i c = omega arith
-
-pub offset_bounds-calls-i-in-loop-i : goal.offset_bounds-calls-i-in-loop-i
-offset_bounds-calls-i-in-loop-i c = omega arith
-
-pub bounds-calls-i-in-loop-i : goal.bounds-calls-i-in-loop-i
-bounds-calls-i-in-loop-i c = omega arith
-
-pub overflow_add-i-in-loop-i : goal.overflow_add-i-in-loop-i
-overflow_add-i-in-loop-i c = omega arith
-
-pub offset_bounds-calls-i-in-loop-i-2 : goal.offset_bounds-calls-i-in-loop-i-2
-offset_bounds-calls-i-in-loop-i-2 c = omega arith
-
-pub bounds-calls-i-in-loop-i-2 : goal.bounds-calls-i-in-loop-i-2
-bounds-calls-i-in-loop-i-2 c = omega arith
-
-pub overflow_add-i-in-loop-i-2 : goal.overflow_add-i-in-loop-i-2
-overflow_add-i-in-loop-i-2 c = omega arith
-
-pub loop-i-smaller : goal.loop-i-smaller
-loop-i-smaller c = omega arith
+    let l = c.loop-words in
+    let few : length (chunks_exact_rest l.words-iterator) < 3 =
+    omega (arith, c.in-None.ensures.steps.1.0, l.invariant.0) in
+    replayed c.args.day c.args.calls.now _ l.state.day l.state.paid few l.invariant.1

@@ -1,12 +1,11 @@
 -- The loop keeps `Rest`: a day whose takings are those added up so far, from which the words that are left come to what
 -- the whole list comes to from the start.
-use Prim.Native.Nat.{◌-◌, ◌≤◌}
-use lib.ListN.{length}
+use Rattle.std.proofs.Common.{◌≡◌}
+use Rattle.std.specs.Slice.Iter.{chunks_exact_rest, chunks_exact_size}
 use Rattle.replay.proofs.Steps.{Rest}
 use Rattle.replay.proofs.replay.Given as goal
 
-abbrev pub invariant-loop-i : goal.invariant-loop-i
-invariant-loop-i l = (l.i ≤ length l.calls) × Rest l.initial.state l.calls l.i l.state l.paid
-
-abbrev pub decreases-loop-i : goal.decreases-loop-i
-decreases-loop-i l = length l.calls - l.i
+abbrev pub invariant-loop-words : goal.invariant-loop-words
+invariant-loop-words l =
+    (chunks_exact_size l.words-iterator ≡ 3)
+    × Rest l.fn.day l.calls (chunks_exact_rest l.words-iterator) l.state.day l.state.paid

@@ -4,4 +4,4 @@ use Rattle.sets.proofs.Bits.{ones_size}
 use Rattle.sets.proofs.count.Goals as goal
 
 pub returns : goal.returns
-returns c = let s = c.before in c.wide.ensures ∙ ones_size s.args.set s.ranges.set.fits
+returns c = let s = c.before in c.from.ensures ∙ ones_size s.args.set s.ranges.set.fits

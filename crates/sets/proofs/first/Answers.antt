@@ -19,4 +19,4 @@ first set h = go (eqb set 0) refl
     go false e = (first_is set h (eqb-false set 0 e)).0
 
 pub returns : goal.returns
-returns c = let s = c.before in c.wide.ensures ∙ first s.args.set s.ranges.set.fits
+returns c = let s = c.before in c.from.ensures ∙ first s.args.set s.ranges.set.fits

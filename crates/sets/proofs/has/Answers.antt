@@ -1,6 +1,5 @@
 -- The lowest bit of the set shifted down by i is bit i.
 use mathlib.Core.Path.{refl}
-use borrow.Author.Rules.{rules}
 use Rattle.sets.specs.Set.{member}
 use Rattle.sets.proofs.has.Goals as goal
 

@@ -4,7 +4,6 @@ use Prim.Native.Nat.{ℕ, ◌*◌, ◌%◌, ◌^◌, ◌<◌}
 use native.Mathlib.Nat.{mod-eq_of_lt, one-mul}
 use lib.Bits.{bit_or}
 use lib.Pow.{pow-lt}
-use borrow.Author.Rules.{rules}
 use Rattle.sets.proofs.Algebra.{including_is}
 use Rattle.sets.proofs.including.Goals as goal
 

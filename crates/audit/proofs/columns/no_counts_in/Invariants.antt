@@ -2,11 +2,7 @@
 use Rattle.audit.proofs.Loops.{PassedFrom}
 use lib.Dec.{eqb}
 use Rattle.campaigns.specs.Campaign.{uncounted, campaign_at}
-use Prim.Native.Nat.{◌-◌}
 use Rattle.audit.proofs.columns.no_counts_in.Given as goal
 
 abbrev pub invariant-loop-i : goal.invariant-loop-i
 invariant-loop-i l = PassedFrom l.n l.m (λ j. uncounted (campaign_at l.terms l.counts j)) (eqb l.any 0) l.i
-
-abbrev pub decreases-loop-i : goal.decreases-loop-i
-decreases-loop-i l = l.m - l.i

@@ -2,12 +2,11 @@
 use Rattle.audit.specs.Cited.{no_terms_from}
 use Rattle.audit.proofs.Zeros.{or_zero}
 use Rattle.audit.proofs.Loops.{none_passed_from, next_passed_from, all_passed}
-use mathlib.Core.Bool.{and_assoc}
 use native.Mathlib.Omega.{arith}
 use Rattle.audit.proofs.columns.no_terms_from.Goals as goal
 
 pub loop-i-preserved : goal.loop-i-preserved
-loop-i-preserved c = next_passed_from c.loop-i.invariant (omega arith) (simp (or_zero, and_assoc))
+loop-i-preserved c = next_passed_from c.loop-i.invariant (omega arith) (simp or_zero)
 
 pub returns : goal.returns
 unfolding no_terms_from

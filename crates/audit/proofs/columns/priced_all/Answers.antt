@@ -16,24 +16,3 @@ returns c = all_passed c.loop-i.invariant (omega arith)
 
 pub loop-i-init : goal.loop-i-init
 loop-i-init c = none_passed
-
-pub offset_bounds-terms-i : goal.offset_bounds-terms-i
-offset_bounds-terms-i c = omega arith
-
-pub bounds-terms-i : goal.bounds-terms-i
-bounds-terms-i c = omega arith
-
-pub overflow_add-budget : goal.overflow_add-budget
-overflow_add-budget c = omega arith
-
-pub offset_bounds-terms-i-in-loop-i : goal.offset_bounds-terms-i-in-loop-i
-offset_bounds-terms-i-in-loop-i c = omega arith
-
-pub bounds-terms-i-in-loop-i : goal.bounds-terms-i-in-loop-i
-bounds-terms-i-in-loop-i c = omega arith
-
-pub overflow_step-i : goal.overflow_step-i
-overflow_step-i c = omega arith
-
-pub loop-i-smaller : goal.loop-i-smaller
-loop-i-smaller c = omega arith

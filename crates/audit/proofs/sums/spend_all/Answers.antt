@@ -11,7 +11,7 @@ use mathlib.Core.Path.{◌≡◌, refl, ap₂, ◌∙◌}
 use Rattle.campaigns.specs.declared.Campaign.{Campaign}
 use Rattle.campaigns.specs.Campaign.{campaign_at}
 use native.Mathlib.Omega.{arith}
-use Prim.Native.Nat.{ℕ, ◌*◌, ◌≤◌, ◌<◌}
+use Prim.Native.Nat.{ℕ, ◌+◌, ◌*◌, ◌≤◌, ◌<◌}
 use Rattle.audit.proofs.sums.spend_all.Goals as goal
 
 -- what a campaign has paid
@@ -29,39 +29,30 @@ pub loop-i-init : goal.loop-i-init
 unfolding every sum
 loop-i-init c = (omega arith, refl, refl, refl, refl, omega arith, omega arith, omega arith)
 
-pub overflow_mul-spent : goal.overflow_mul-spent
-overflow_mul-spent c =
-    let m = product_most c.wide32-price.result c.wide16.result c.wide32-price.ensures.1 c.wide16.ensures.1 in
-    record { fits = omega arith }
-
 pub returns-then-budget-spent : goal.returns-then-budget-spent
 unfolding spent_of
 returns-then-budget-spent c =
     let f = campaign_at c.args.terms.now c.args.counts.now in
     let i = c.loop-i.i in
-    let e : c.wide32-price.result * c.wide16.result ≡ paid f i =
-    ap₂ (λ (x y : ℕ). x * y) c.wide32-price.ensures.0 c.wide16.ensures.0 in
+    let e : c.from-price.result * c.from.result ≡ paid f i =
+    ap₂ (λ (x y : ℕ). x * y) c.from-price.ensures c.from.ensures in
     rw (every_not c.args.n (λ j. leb (paid f j) (f j).budget) i (omega arith)
-    (lt-leb (paid f i) (f i).budget (omega (arith, e, c.wide32-budget.ensures.0))))
-
-pub overflow_mul-turned : goal.overflow_mul-turned
-overflow_mul-turned c =
-    let m = product_most c.wide32-price.result c.wide16-in-loop-i.result c.wide32-price.ensures.1
-    c.wide16-in-loop-i.ensures.1 in
-    record { fits = omega arith }
+    (lt-leb (paid f i) (f i).budget (omega (arith, e, c.from-budget.ensures))))
 
 pub loop-i-preserved : goal.loop-i-preserved
 loop-i-preserved c =
     let f = campaign_at c.args.terms.now c.args.counts.now in
     let l = c.loop-i in
-    let e : c.wide32-price.result * c.wide16.result ≡ paid f l.i =
-    ap₂ (λ (x y : ℕ). x * y) c.wide32-price.ensures.0 c.wide16.ensures.0 in
-    let t : c.wide32-price.result * c.wide16-in-loop-i.result ≡ (f l.i).price * (f l.i).turns =
-    ap₂ (λ (x y : ℕ). x * y) c.wide32-price.ensures.0 c.wide16-in-loop-i.ensures.0 in
-    let spent_most = product_most c.wide32-price.result c.wide16.result c.wide32-price.ensures.1 c.wide16.ensures.1 in
-    let turned_most = product_most c.wide32-price.result c.wide16-in-loop-i.result c.wide32-price.ensures.1
-    c.wide16-in-loop-i.ensures.1 in
-    let b = c.wide32-budget.ensures.0 in (
+    let e : c.from-price.result * c.from.result ≡ paid f l.i =
+    ap₂ (λ (x y : ℕ). x * y) c.from-price.ensures c.from.ensures in
+    let t : c.from-price.result * c.from-in-loop-i.result ≡ (f l.i).price * (f l.i).turns =
+    ap₂ (λ (x y : ℕ). x * y) c.from-price.ensures c.from-in-loop-i.ensures in
+    let price_most : c.from-price.result < 4_294_967_296 = omega (arith, c.fits-terms l.i) in
+    let plays_most : c.from.result < 65_536 = omega (arith, c.fits-counts l.i) in
+    let turns_most : c.from-in-loop-i.result < 65_536 = omega (arith, c.fits-counts (l.i + 64)) in
+    let spent_most = product_most c.from-price.result c.from.result price_most plays_most in
+    let turned_most = product_most c.from-price.result c.from-in-loop-i.result price_most turns_most in
+    let b = c.from-budget.ensures in (
       omega arith,
       every_next l.i (λ j. leb (paid f j) (f j).budget)
           ∙ both_join (every l.i (λ j. leb (paid f j) (f j).budget))
@@ -70,7 +61,7 @@ loop-i-preserved c =
       omega (arith, sum_next l.i (λ j. (f j).budget), l.invariant.2, b),
       omega (arith, sum_next l.i (paid f), l.invariant.3, e),
       omega (arith, sum_next l.i (λ j. (f j).price * (f j).turns), l.invariant.4, t),
-      omega (arith, c.wide32-budget.ensures.1, l.invariant.5),
+      omega (arith, c.fits-terms (l.i + 64), l.invariant.5),
       omega (arith, spent_most, l.invariant.6),
       omega (arith, turned_most, l.invariant.7),
     )

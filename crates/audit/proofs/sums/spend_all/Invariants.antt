@@ -6,16 +6,13 @@ use Prim.Native.Nat.{◌*◌}
 use mathlib.Core.Bool.{true}
 use mathlib.Core.Path.{◌≡◌}
 use Rattle.campaigns.specs.Campaign.{campaign_at}
-use Prim.Native.Nat.{◌-◌, ◌≤◌}
+use Prim.Native.Nat.{◌≤◌}
 use Rattle.audit.proofs.sums.spend_all.Given as goal
 
 abbrev pub invariant-loop-i : goal.invariant-loop-i
 invariant-loop-i l =
     (l.i ≤ l.n) × (paid_columns l.i (campaign_at l.terms l.counts) ≡ true)
-    × (l.all ≡ sum l.i (λ j. (campaign_at l.terms l.counts j).budget))
+    × (l.budgets ≡ sum l.i (λ j. (campaign_at l.terms l.counts j).budget))
     × (l.takings ≡ sum l.i (λ j. (campaign_at l.terms l.counts j).price * (campaign_at l.terms l.counts j).plays))
     × (l.turned ≡ sum l.i (λ j. (campaign_at l.terms l.counts j).price * (campaign_at l.terms l.counts j).turns))
-    × (l.all ≤ l.i * 4_294_967_296) × (l.takings ≤ l.i * 281_474_976_710_656) × (l.turned ≤ l.i * 281_474_976_710_656)
-
-abbrev pub decreases-loop-i : goal.decreases-loop-i
-decreases-loop-i l = l.n - l.i
+    × (l.budgets ≤ l.i * 4_294_967_296) × (l.takings ≤ l.i * 281_474_976_710_656) × (l.turned ≤ l.i * 281_474_976_710_656)

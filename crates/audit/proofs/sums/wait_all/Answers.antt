@@ -24,7 +24,7 @@ overflow_sub-sum c =
     let i = c.loop-i.i in
     let z = plan_sized pl c.requires.weights.plan_sound in
     let w : c.weigh-weight.result ≡ weight pl.depth pl.width (f i).age =
-    c.weigh-weight.ensures.0 ∙ ap (weight pl.depth pl.width) c.wide16.ensures.0 in
+    c.weigh-weight.ensures.0 ∙ ap (weight pl.depth pl.width) c.from.ensures in
     omega (
       arith,
       w,
@@ -40,9 +40,9 @@ gained_most p x y h k =
 
 pub overflow_add-sum : goal.overflow_add-sum
 overflow_add-sum c =
-    let p : c.wide32.result ≤ 1_000_000 =
-    omega (arith, c.wide32.ensures.0, c.requires.entries_bounded.price_most c.loop-i.i c.loop-i-test.true) in
-    omega (arith, gained_most c.wide32.result c.weigh-weight.result c.weigh-low.result p c.weigh-weight.ensures.1)
+    let p : c.from-in-loop-i.result ≤ 1_000_000 =
+    omega (arith, c.from-in-loop-i.ensures, c.requires.entries_bounded.price_most c.loop-i.i c.loop-i-test.true) in
+    omega (arith, gained_most c.from-in-loop-i.result c.weigh-weight.result c.weigh-low.result p c.weigh-weight.ensures.1)
 
 pub loop-i-preserved : goal.loop-i-preserved
 unfolding waited_of
@@ -50,20 +50,14 @@ loop-i-preserved c =
     let pl = c.args.plan in
     let f = campaign_at c.args.terms.now c.args.counts.now in
     let l = c.loop-i in
-    let p : c.wide32.result ≤ 1_000_000 =
-    omega (arith, c.wide32.ensures.0, c.requires.entries_bounded.price_most l.i c.loop-i-test.true) in
-    let m = gained_most c.wide32.result c.weigh-weight.result c.weigh-low.result p c.weigh-weight.ensures.1 in
+    let p : c.from-in-loop-i.result ≤ 1_000_000 =
+    omega (arith, c.from-in-loop-i.ensures, c.requires.entries_bounded.price_most l.i c.loop-i-test.true) in
+    let m = gained_most c.from-in-loop-i.result c.weigh-weight.result c.weigh-low.result p c.weigh-weight.ensures.1 in
     let w : c.weigh-weight.result ≡ weight pl.depth pl.width (f l.i).age =
-    c.weigh-weight.ensures.0 ∙ ap (weight pl.depth pl.width) c.wide16.ensures.0 in
-    let g : c.wide32.result * (c.weigh-weight.result - c.weigh-low.result) ≡ (f l.i).price * waiting pl (f l.i) =
-    ap₂ (λ (x y : ℕ). x * y) c.wide32.ensures.0 (ap₂ (λ (x y : ℕ). x - y) w c.weigh-low.ensures.0) in (
+    c.weigh-weight.ensures.0 ∙ ap (weight pl.depth pl.width) c.from.ensures in
+    let g : c.from-in-loop-i.result * (c.weigh-weight.result - c.weigh-low.result) ≡ (f l.i).price * waiting pl (f l.i) =
+    ap₂ (λ (x y : ℕ). x * y) c.from-in-loop-i.ensures (ap₂ (λ (x y : ℕ). x - y) w c.weigh-low.ensures.0) in (
       omega arith,
       omega (arith, sum_next l.i (λ j. (f j).price * waiting pl (f j)), l.invariant.1, g),
       omega (arith, m, l.invariant.2),
     )
-
-pub returns : goal.returns
-returns c =
-    let e : c.loop-i.i ≡ c.args.n = omega arith in
-    c.loop-i.invariant.1
-    ∙ ap (λ (m : ℕ). waited_of c.args.plan m (campaign_at c.args.terms.now c.args.counts.now)) e

@@ -4,12 +4,9 @@ use Rattle.audit.specs.Cited.{waited_of}
 use Prim.Native.Nat.{◌*◌}
 use mathlib.Core.Path.{◌≡◌}
 use Rattle.campaigns.specs.Campaign.{campaign_at}
-use Prim.Native.Nat.{◌-◌, ◌≤◌}
+use Prim.Native.Nat.{◌≤◌}
 use Rattle.audit.proofs.sums.wait_all.Given as goal
 
 abbrev pub invariant-loop-i : goal.invariant-loop-i
 invariant-loop-i l = (l.i ≤ l.n) × (l.sum ≡ waited_of l.plan l.i (campaign_at l.terms l.counts))
     × (l.sum ≤ l.i * 4_294_967_296_000_000)
-
-abbrev pub decreases-loop-i : goal.decreases-loop-i
-decreases-loop-i l = l.n - l.i

@@ -23,9 +23,6 @@ small pl e i h =
 pub overflow_sub-base : goal.overflow_sub-base
 overflow_sub-base c = let z = plan_sized c.args.plan c.requires in omega (arith, z.wide)
 
-pub overflow_add-i-end : goal.overflow_add-i-end
-overflow_add-i-end c = let z = plan_sized c.args.plan c.requires in omega (arith, z.shallow)
-
 pub loop-i-init : goal.loop-i-init
 loop-i-init c = (omega arith, sym (pow-zero (c.args.plan.width - 1)), λ j h. absurd (omega arith), refl)
 
@@ -73,9 +70,3 @@ returns c = let l = c.loop-i in
           λ a h. subst (λ (x : ℕ). get_or l.list x 0 ≡ (c.args.plan.width - 1) ^ (k - a))
           (let e : k - (k - a) ≡ a = omega arith in e) (l.invariant.2 (k - a) (omega arith));
     }
-
-pub overflow_sub-list : goal.overflow_sub-list
-overflow_sub-list c = omega arith
-
-pub loop-i-smaller : goal.loop-i-smaller
-loop-i-smaller c = omega arith

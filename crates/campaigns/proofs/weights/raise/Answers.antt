@@ -4,30 +4,29 @@ use Rattle.finite.proofs.Tests.{one_more}
 use Rattle.campaigns.proofs.Laws.{weight_top, plan_sized}
 use Rattle.powers.specs.Power.{weight}
 use native.Mathlib.Omega.{arith}
-use lib.ListN.{get_or, set, length-set}
+use lib.ListN.{get_or, set, length, length-set}
 use lib.Seq.{get_or-set_same, get_or-set_other}
-use Prim.Native.Nat.{ℕ, ◌-◌, ◌*◌, ◌^◌, ◌≤◌}
+use Prim.Native.Nat.{ℕ, ◌+◌, ◌-◌, ◌*◌, ◌^◌, ◌≤◌, ◌<◌}
 use native.Mathlib.Numerals.{add-one}
 use native.Mathlib.Nat.{pow-zero, pow-suc, pow-le-pow_right, le_trans, mul_comm, mul-le-mul}
+use mathlib.Core.List.{List}
 use mathlib.Core.Path.{◌≡◌, ap, ap₂, sym, ◌∙◌}
 use Rattle.campaigns.proofs.weights.raise.Goals as goal
 
 -- the entry at hand becomes its weight
-product : (c : goal.After-list-1)
-    → get_or c.loop-i.list c.loop-i.i 0 * c.loop-i.power ≡ weight
-    c.args.plan.depth c.args.plan.width
-    c.loop-i.i
+product : (k d i x p : ℕ) → x ≡ (d - 1) ^ (k - i) → p ≡ d ^ i → x * p ≡ weight k d i
 unfolding weight
-product c =
-    let l = c.loop-i in
-    let k = c.args.plan.depth in
-    let d = c.args.plan.width in
-    let t = c.loop-i-test.true in
-    ap₂ (λ (x y : ℕ). x * y) (l.invariant.3 l.i (omega arith) (omega arith)) l.invariant.1
-    ∙ mul_comm ((d - 1) ^ (k - l.i)) (d ^ l.i)
+product k d i x p entry power = ap₂ (λ (x y : ℕ). x * y) entry power ∙ mul_comm ((d - 1) ^ (k - i)) (d ^ i)
 
-pub overflow_add-i-end : goal.overflow_add-i-end
-overflow_add-i-end c = let z = plan_sized c.args.plan c.requires.plan_fits in omega (arith, z.shallow)
+-- with it stored, the entries up to i are weights
+stored : (k d i p : ℕ) (l : List ℕ) → i < length l → ((a : ℕ) → a < i → a ≤ k → get_or l a 0 ≡ weight k d a)
+    → get_or l i 0 * p ≡ weight k d i
+    → (a : ℕ) → a < i + 1 → a ≤ k → get_or (set l i (get_or l i 0 * p)) a 0 ≡ weight k d a
+stored k d i p l inside below here a h g =
+    let x = get_or l i 0 * p in
+    one_more (λ a. a ≤ k → get_or (set l i x) a 0 ≡ weight k d a) i
+    (λ a h g. get_or-set_other l i a x 0 (λ e. omega arith) ∙ below a h g)
+    (λ g. get_or-set_same l i x 0 inside ∙ here) a (omega arith) g
 
 pub loop-i-init : goal.loop-i-init
 loop-i-init c = (
@@ -53,16 +52,11 @@ overflow_mul-list c = let z =
     record {
       fits = omega (
         arith,
-        product c,
+        product _ _ c.loop-i.i _ _ (c.loop-i.invariant.3 c.loop-i.i (omega arith) (omega arith)) c.loop-i.invariant.1,
         weight_top c.args.plan c.requires.plan_fits
             c.loop-i.i (omega (arith, c.loop-i-test.true)),
       );
     }
-
-pub offset_bounds-list-i-in-loop-i : goal.offset_bounds-list-i-in-loop-i
-offset_bounds-list-i-in-loop-i c = let z =
-    plan_sized c.args.plan c.requires.plan_fits in
-    omega (arith, z.shallow)
 
 pub bounds-list-i-in-loop-i : goal.bounds-list-i-in-loop-i
 bounds-list-i-in-loop-i c =
@@ -90,20 +84,23 @@ loop-i-preserved c = let l = c.loop-i in
     let x = get_or l.list l.i 0 * l.power in (
       omega arith,
       ap (λ (x : ℕ). x * d) l.invariant.1 ∙ sym (pow-suc d l.i) ∙ ap (λ (x : ℕ). d ^ x) (sym (add-one l.i)),
-      λ a h g. one_more (λ a. a ≤ k → get_or (set l.list l.i x) a 0 ≡ weight k d a) l.i
-          (λ a h g. get_or-set_other l.list l.i a x 0 (λ e. omega arith) ∙ l.invariant.2 a h g)
-          (λ g. get_or-set_same l.list l.i x 0 (omega (arith, l.invariant.4, z.shallow)) ∙ product c) a
-          (omega arith) g,
+      stored k d l.i l.power l.list (omega (arith, l.invariant.4, z.shallow)) l.invariant.2
+          (product k d l.i _ _ (l.invariant.3 l.i (omega arith) (omega arith)) l.invariant.1),
       λ a h g. get_or-set_other l.list l.i a x 0 (λ e. omega arith) ∙ l.invariant.3 a (omega arith) g,
       length-set l.list l.i x ∙ l.invariant.4,
     )
 
 pub returns : goal.returns
-returns c = record {
-  plan_sound = c.requires.plan_fits;
-  weigh_is =
-      λ a h. c.loop-i.invariant.2 a (omega arith) h;
-}
+returns c = record { plan_sound = c.requires.plan_fits; weigh_is = λ a h. c.loop-i.invariant.2 a (omega arith) h }
 
-pub loop-i-smaller : goal.loop-i-smaller
-loop-i-smaller c = omega arith
+pub returns-2 : goal.returns-2
+returns-2 c = let l = c.loop-i in
+    let k = c.args.plan.depth in
+    let d = c.args.plan.width in
+    let z = plan_sized c.args.plan c.requires.plan_fits in record {
+      plan_sound = c.requires.plan_fits;
+      weigh_is =
+          λ a h. stored k d l.i l.power l.list (omega (arith, l.invariant.4, z.shallow)) l.invariant.2
+          (product k d l.i _ _ (l.invariant.3 l.i (omega arith) (omega arith)) l.invariant.1) a
+          (omega arith) h;
+    }

@@ -3,11 +3,11 @@ use Rattle.campaigns.proofs.Laws.{plan_sized, weight_top}
 use native.Mathlib.Omega.{arith}
 use Rattle.campaigns.proofs.weights.weigh.Goals as goal
 
-pub offset_bounds-weights-at : goal.offset_bounds-weights-at
-offset_bounds-weights-at c = let z = plan_sized c.args.plan c.requires.weights.plan_sound in omega arith
+pub offset_bounds-weights-age : goal.offset_bounds-weights-age
+offset_bounds-weights-age c = let z = plan_sized c.args.plan c.requires.weights.plan_sound in omega arith
 
-pub bounds-weights-at : goal.bounds-weights-at
-bounds-weights-at c = let z = plan_sized c.args.plan c.requires.weights.plan_sound in omega arith
+pub bounds-weights-age : goal.bounds-weights-age
+bounds-weights-age c = let z = plan_sized c.args.plan c.requires.weights.plan_sound in omega arith
 
 pub returns : goal.returns
 returns c = let w = c.requires.weights.weigh_is c.args.age c.requires.age_le_depth in (

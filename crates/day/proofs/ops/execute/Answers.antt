@@ -6,9 +6,6 @@ use Rattle.day.specs.InPlace.{asked, outcome_of}
 use Rattle.day.proofs.Questions.{unsound_refused}
 use Rattle.day.proofs.ops.execute.Goals as goal
 
-pub prepare-requires : goal.prepare-requires
-prepare-requires c = c.sized.ensures
-
 pub returns-then-not-prepare : goal.returns-then-not-prepare
 returns-then-not-prepare c =
     let known = c.before.before in

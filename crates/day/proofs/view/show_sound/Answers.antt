@@ -1,87 +1,83 @@
 -- Questions 11 to 14; where all are answered yes, the named campaigns of the sound state are what `play` asks for, and
 -- its candidate and counts are the outcome of the view.
-use mathlib.Core.Path.{◌≡◌, sym, subst, ◌∙◌}
+use Rattle.std.specs.Prelude.{Option}
+use mathlib.Core.Path.{◌≡◌, ap, sym, subst, ◌∙◌}
 use mathlib.Core.List.{List}
-use Prim.Native.Nat.{ℕ}
+use Prim.Native.Nat.{ℕ, ◌+◌}
 use native.Mathlib.Omega.{arith}
 use borrow.Author.Tests.{ltb-true}
+use Rattle.campaigns.specs.declared.Phase.{Phase}
 use Rattle.campaigns.specs.Limits.{max_views}
+use Rattle.campaigns.proofs.Meanings.{running_means}
 use Rattle.choice.specs.declared.Candidate.{Candidate}
 use Rattle.choice.specs.Candidates.{candidate_of, after_view}
 use Rattle.choice.specs.Cited.{Counts, InBounds}
+use Rattle.day.specs.declared.Answer.{Answer}
 use Rattle.day.specs.declared.Day.{Day}
+use Rattle.day.specs.declared.Outcome.{Outcome}
 use Rattle.day.specs.Day.{campaign, state_of}
-use Rattle.questions.specs.Questions.{first_failed}
-use Rattle.day.specs.Calls.{questions, found}
 use Rattle.day.specs.Calls.Call.{show_view}
 use Rattle.day.proofs.State.{sound_facts}
-use Rattle.day.proofs.Questions.{Yes, asked_yes}
 use Rattle.day.proofs.Shown.{named_ready, accepted_shows}
-use Rattle.day.proofs.Steps.{steps_refused, own_asks}
+use Rattle.day.proofs.Steps.{verdict_refused, verdict_yes}
 use Rattle.day.proofs.view.show_sound.Goals as goal
-use Rattle.day.proofs.view.show_sound.Goals.{Start, After-view_question-question, Else-question-ne0}
 
-abbrev state : Start → Day
-state s = state_of s.args.head s.args.terms.now s.args.counts.now
-
-asked : (c : After-view_question-question)
-    → c.view_question-question.result ≡ first_failed (questions (state c.before) (show_view c.args.view))
-asked c =
-    let s = c.before in
-    c.view_question-question.ensures ∙ own_asks (state s) (show_view s.args.view) s.requires.kept.is_sound
-
-yes : (c : Else-question-ne0) → Yes (questions (state c.before.before) (show_view c.args.view))
-yes c =
-    let s = c.before.before in
-    asked_yes (state s) (show_view s.args.view) c.view_question-question.result (asked c.before)
-    c.if-question-ne0.false
-
-ready : (c : Else-question-ne0)
-    → let s = c.before.before in
-    InBounds s.args.head.plan (found (state s) s.args.view) (campaign (state s))
-ready c =
-    let s = c.before.before in
-    let y = yes c in
-    named_ready (state s) s.args.view (sound_facts (state s) y.0) y.1.1.1.0
-
-pub returns-then-question-ne0 : goal.returns-then-question-ne0
-returns-then-question-ne0 c =
-    let d = c.before.before in
-    let a = d.args in
-    steps_refused a.head a.terms.now a.counts.now (show_view a.view) c.refused.result
-    d.view_question-question.result c.refused.ensures (asked d) c.if-question-ne0.true
+pub returns-in-Err : goal.returns-in-Err
+returns-in-Err c =
+    let a = c.args in
+    verdict_refused a.head a.terms.now a.counts.now (show_view a.view) c.requires.kept.is_sound
+    c.view_question.ensures c.in-Err.is c.refused.ensures
 
 pub play-chosen-requires : goal.play-chosen-requires
 play-chosen-requires c =
-    let d = c.before.before.before in
-    let s = d.before.before in record {
-      weights = s.requires.weights;
-      sized = s.requires.kept.room;
-      in_bounds = subst (λ (x : ℕ). InBounds s.args.head.plan (record { set = x }) (campaign (state s)))
-          (sym c.without.ensures) (ready d);
+    let a = c.args in
+    let s = state_of a.head a.terms.now a.counts.now in
+    let y = verdict_yes a.head a.terms.now a.counts.now (show_view a.view) c.requires.kept.is_sound
+    c.view_question.ensures c.in_default.is in record {
+      weights = c.requires.weights;
+      sized = c.requires.kept.room;
+      in_bounds = subst (λ (x : ℕ). InBounds a.head.plan (record { set = x }) (campaign s)) (sym c.without.ensures)
+          (named_ready s a.view (sound_facts s y.0) y.1.1.1.0);
     }
 
 pub overflow_add-result : goal.overflow_add-result
 overflow_add-result c =
-    let d = c.before.before.before.before.before.before in
-    omega (arith, ltb-true d.args.head.accepted max_views (yes d).1.1.0)
+    let a = c.args in
+    let y = verdict_yes a.head a.terms.now a.counts.now (show_view a.view) c.requires.kept.is_sound
+    c.view_question.ensures c.in_default.is in
+    omega (arith, ltb-true a.head.accepted max_views y.1.1.0)
 
 -- what the walk gave, of the view that was found
-abbrev Walked : Start → Candidate → List ℕ → ℕ → Type 0
+abbrev Walked : Day → Option Candidate → List ℕ → ℕ → Type 0
 Walked s b m x =
-    let f = campaign (state s) in
     record {
-      value : b ≡ candidate_of s.args.head.plan (record { set = x }) f 64;
-      counts : Counts (after_view s.args.head.plan (record { set = x }) b f) s.args.terms.now m;
+      value : b ≡ candidate_of s.plan (record { set = x }) (campaign s) 64;
+      counts : Counts (after_view s.plan (record { set = x }) b (campaign s)) s.terms m;
     }
+
+-- the outcome in the phase p
+abbrev viewed : Day → List ℕ → Answer → Phase → Outcome
+viewed s m r p = record {
+  day = record {
+    phase = p;
+    plan = s.plan;
+    count = s.count;
+    accepted = s.accepted + 1;
+    paused = s.paused;
+    terms = s.terms;
+    counts = m;
+  };
+  answer = r;
+}
 
 pub returns : goal.returns
 returns c =
-    let found = c.before.before.before.before in
-    let d = found.before.before in
-    let s = d.before.before in
-    let a = s.args in
-    let play = c.play-chosen in
-    let walked = subst (Walked s play.result _) found.without.ensures play.ensures in
-    accepted_shows a.head a.terms.now a.counts.now a.view play.result (yes d) walked.value _
-    c.view_answer-answer.result walked.counts c.view_answer-answer.ensures
+    let a = c.args in
+    let s = state_of a.head a.terms.now a.counts.now in
+    let y = verdict_yes a.head a.terms.now a.counts.now (show_view a.view) c.requires.kept.is_sound
+    c.view_question.ensures c.in_default.is in
+    let b = c.play-chosen.result in
+    let walked = subst (Walked s b c.play-chosen.new.counts) c.without.ensures c.play-chosen.ensures in
+    ap (viewed s c.play-chosen.new.counts c.view_answer.result) ((running_means a.head.phase).0 y.1.0)
+    ∙ accepted_shows a.head a.terms.now a.counts.now a.view b y walked.value _ c.view_answer.result walked.counts
+    c.view_answer.ensures

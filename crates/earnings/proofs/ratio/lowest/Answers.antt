@@ -1,7 +1,6 @@
 -- Where nothing could be earned 1 to 1, else both divided by their greatest common divisor.
 use mathlib.Core.Path.{◌≡◌, ap, ◌∙◌}
 use Prim.Native.Nat.{ℕ, ◌/◌}
-use native.Mathlib.Omega.{arith}
 use borrow.Author.Tests.{eq-eqb, ne_eqb}
 use Rattle.earnings.specs.Ratio.{gcd, ratio_of}
 use Rattle.earnings.proofs.ratio.lowest.Goals as goal
@@ -16,15 +15,6 @@ divided t g k n e =
 
 pub returns-then-greatest-eq0 : goal.returns-then-greatest-eq0
 returns-then-greatest-eq0 c = nothing c.args.takings c.args.greatest c.if-greatest-eq0.true
-
-pub gcd-common-requires : goal.gcd-common-requires
-gcd-common-requires c = omega arith
-
-pub nonzero_div-result : goal.nonzero_div-result
-nonzero_div-result c = c.gcd-common.ensures.1
-
-pub nonzero_div-result-2 : goal.nonzero_div-result-2
-nonzero_div-result-2 c = c.gcd-common.ensures.1
 
 pub returns : goal.returns
 returns c = let a = c.args in

@@ -1,19 +1,13 @@
--- The record where the line ends with the word, and 17 where it does not: `behind` gives the place behind the word, and
--- the line ends there exactly if nothing is left.
-use Rattle.lines.specs.Cited.{place, stripped}
-use Rattle.lines.proofs.Places.{ends, ends_not}
+-- The word is all that is left exactly if nothing is left behind it.
+use Rattle.std.proofs.Common.{sym}
+use Rattle.lines.specs.Reading.{ended_or}
+use Rattle.lines.proofs.Words.{word_ends}
 use Rattle.lines.proofs.scan.ended.Goals as goal
 
-pub returns-then-behind-s : goal.returns-then-behind-s
-returns-then-behind-s c = let b = c.behind in
-    let start = c.before.before.before.before in
-    let a = start.args in
-    let rest = stripped a.word.now (place a.s.now a.at) in
-    ends a.s.now b.result rest a.r b.ensures c.if-behind-s.true
+pub returns-then-eq : goal.returns-then-eq
+unfolding ended_or
+returns-then-eq c = rw (word_ends, sym c.if-eq.ensures)
 
-pub returns : goal.returns
-returns c = let b = c.behind in
-    let start = c.before.before.before.before in
-    let a = start.args in
-    let rest = stripped a.word.now (place a.s.now a.at) in
-    ends_not a.s.now b.result rest a.r b.ensures c.if-behind-s.false
+pub returns-else-eq : goal.returns-else-eq
+unfolding ended_or
+returns-else-eq c = rw (word_ends, sym c.if-eq.ensures)

@@ -1,20 +1,24 @@
--- A word and the slot behind it: what `names` or `number` saw at the place behind the word is what stands in the slot.
-use mathlib.Core.Path.{ap, sym, ◌∙◌, subst}
-use Prim.Native.Nat.{ℕ}
+-- What stands in the slot is what stands behind the word.
+use Rattle.std.proofs.Common.{ap, ◌∙◌}
+use Rattle.lines.specs.Form.{letter, names_slot}
 use Rattle.lines.specs.Reading.{slot_at}
-use Rattle.lines.specs.Cited.{place, Sees}
+use Rattle.lines.specs.Cited.{found}
+use Rattle.lines.proofs.Letters.{slot_number}
 use Rattle.lines.proofs.scan.field.Goals as goal
 
-pub returns-then-slot-eq83 : goal.returns-then-slot-eq83
-returns-then-slot-eq83 c = let b = c.before.before in
-    let a = b.args in
-    let l = a.s.now in
-    let p = place l b.behind-at.result in
-    subst (Sees l c.names.result)
-    (ap (λ (k : ℕ). slot_at k p) (sym c.if-slot-eq83.true) ∙ ap (slot_at a.slot) b.behind-at.ensures)
-    c.names.ensures
+pub returns-in_err-s : goal.returns-in_err-s
+unfolding slot_at
+returns-in_err-s c = let a = c.args in
+    ap found c.from_residual.ensures
+    ∙ ap (slot_at (letter a.slot)) c.in_err-s.ensures
 
-pub returns : goal.returns
-returns c = let b = c.before.before in
-    let a = b.args in
-    subst (Sees a.s.now c.number.result) (ap (slot_at a.slot) b.behind-at.ensures) c.number.ensures
+pub returns-in-Names : goal.returns-in-Names
+returns-in-Names c =
+    let a = c.args in
+    c.names.ensures ∙ rw c.in-Names.is (ap (slot_at names_slot) c.in_ok-s.ensures)
+
+pub returns-in_default : goal.returns-in_default
+returns-in_default c =
+    let a = c.args in
+    c.number.ensures ∙ slot_number a.slot c.in_ok-s.s.now c.in_default.not-Names
+    ∙ ap (slot_at (letter a.slot)) c.in_ok-s.ensures

@@ -1,17 +1,11 @@
--- The names of a view. The loop's invariant: the names that are left, read from here on into the set so far, give what
--- the whole slot gives; behind the line the set is empty. A turn reads a space and a name, whose bit is above the set.
-use mathlib.Core.Path.{◌≡◌}
-use Prim.Native.Nat.{◌<◌}
-use lib.ListN.{length}
-use Rattle.lines.specs.Form.{names_slot}
-use Rattle.lines.specs.Reading.{slot_at}
-use Rattle.lines.specs.Cited.{place}
-use Rattle.lines.proofs.NamePlaces.{names_from}
+-- The loop keeps: what is left, read on into the set so far, gives what the whole gives.
+use Rattle.std.proofs.Common.{◌≡◌, ◌-◌, ◌^◌, ◌<◌, suc}
+use Rattle.lines.specs.Limits.{set_bits}
+use Rattle.lines.specs.Reading.{set_at}
 use Rattle.lines.proofs.scan.names.Given as goal
 
-abbrev pub invariant-loop-left : goal.invariant-loop-left
-invariant-loop-left l =
-    (names_from l.left l.set (place l.s l.i) ≡ slot_at names_slot (place l.s l.at)) × (length l.s < l.i → l.set ≡ 0)
+abbrev pub invariant-loop-rest : goal.invariant-loop-rest
+invariant-loop-rest l = (set_at (suc set_bits) l.set l.rest ≡ set_at (suc set_bits) 0 l.s) × (l.set < 2 ^ 64)
 
-abbrev pub decreases-loop-left : goal.decreases-loop-left
-decreases-loop-left l = l.left
+abbrev pub decreases-loop-rest : goal.decreases-loop-rest
+decreases-loop-rest l = 2 ^ 64 - l.set

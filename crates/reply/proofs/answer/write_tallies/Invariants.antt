@@ -1,5 +1,5 @@
 -- The loop keeps: the tallies of the first i campaigns stand from `at` to `to`, at most `answer_room` bytes each.
-use Prim.Native.Nat.{◌+◌, ◌-◌, ◌*◌, ◌≤◌}
+use Rattle.std.proofs.Common.{◌+◌, ◌*◌, ◌≤◌}
 use Rattle.lines.specs.Limits.{answer_room}
 use Rattle.buffer.specs.Buffer.{Put}
 use Rattle.campaigns.specs.Campaign.{campaign_at}
@@ -7,8 +7,5 @@ use Rattle.reply.specs.Reply.{tally_records, record_lines}
 use Rattle.reply.proofs.answer.write_tallies.Given as goal
 
 abbrev pub invariant-loop-i : goal.invariant-loop-i
-invariant-loop-i l = (l.i ≤ l.n) × (l.to ≤ l.at + answer_room * l.i)
+invariant-loop-i l = (l.to ≤ l.at + answer_room * l.i)
     × Put l.initial.out l.out l.at l.to (record_lines (tally_records (campaign_at l.terms l.counts) l.i))
-
-abbrev pub decreases-loop-i : goal.decreases-loop-i
-decreases-loop-i l = l.n - l.i

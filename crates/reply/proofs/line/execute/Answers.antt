@@ -1,85 +1,90 @@
 -- An input record runs its operation and is what the record asks for; an output record is refused with 17. Only an
 -- opening changes the plan, so that otherwise the list keeps the weights of the plan.
-use mathlib.Core.Path.{◌≡◌, refl, ap, sym, subst, ◌∙◌}
-use mathlib.Core.Bool.{Bool, true, false}
+use mathlib.Core.Path.{◌≡◌, refl, ap, sym, ◌∙◌}
+use mathlib.Core.Bool.{true, false}
 use mathlib.Core.List.{List}
 use Prim.Native.Nat.{ℕ}
-use Rattle.day.specs.declared.Day.{Day}
 use Rattle.day.specs.declared.Step.{Step}
 use Rattle.day.specs.Day.{state_of}
 use Rattle.lines.specs.declared.Record.{Record}
 use Rattle.lines.specs.declared.Record.TheVariants.{Plan, Campaign, Start, View, Close}
 use Rattle.lines.specs.declared.Record.TheVariants.{Done, Play, Nobody, Refused, Closed}
 use Rattle.lines.specs.declared.Record.TheVariants.{Tally, Pause, Resume}
-use Rattle.day.specs.declared.Outcome.{Outcome}
 use Rattle.day.specs.Calls.Call.{add_campaign, start_day, show_view, close_day, mark_campaign}
-use Rattle.day.specs.Calls.{call}
+use Rattle.day.specs.Calls.{Call, call}
 use Rattle.day.specs.InPlace.{outcome_of}
 use Rattle.campaigns.specs.Cited.{Weights}
 use Rattle.reply.specs.Reply.{request, executed}
 use Rattle.reply.specs.Reply.Request.{makes, fails}
-use Rattle.reply.proofs.Kept.{same_weights, refused_weights}
+use Rattle.campaigns.specs.declared.Head.{Head}
+use Rattle.reply.proofs.Kept.{KeepsPlan, same_weights, refused_weights}
 use Rattle.reply.proofs.line.execute.Goals as goal
 
--- o is what the record r asks for, where r is t
-made : (s : Day) {r t : Record} {o : Outcome} → r ≡ t → o ≡ executed s (request t) → o ≡ executed s (request r)
-made s {r} {t} {o} e p = subst (λ (x : Record). o ≡ executed s (request x)) (sym e) p
+-- a call of the record r, which is u, that keeps the plan
+made : (h : Head) (t n w : List ℕ) {r u : Record} (c : Call) (x : Step) {t' n' : List ℕ} → KeepsPlan c → r ≡ u
+    → request u ≡ makes c → Weights h.plan w → outcome_of x t' n' ≡ call (state_of h t n) c
+    → (outcome_of x t' n' ≡ executed (state_of h t n) (request r)) × Weights x.head.plan w
+made h t n w {r} {u} c x k e f v p = (
+  p ∙ sym (ap (λ (y : Record). executed (state_of h t n) (request y)) e ∙ ap (executed (state_of h t n)) f),
+  same_weights (state_of h t n) c w k p v,
+)
 
 pub returns-in-Plan : goal.returns-in-Plan
 returns-in-Plan c =
+    let a = c.args in
+    let before = state_of a.head a.terms.now a.counts.now in
+    let x = c.open_plan.ensures in
     record {
-      counts_after = made (state_of c.args.head c.args.terms.now c.args.counts.now) c.in-Plan.is c.open_plan.ensures.counts_after;
-      weights = c.open_plan.ensures.weights;
+      counts_after = x.counts_after ∙ sym (ap (λ (r : Record). executed before (request r)) c.in-Plan.is);
+      weights = x.weights;
     }
 
 pub returns-in-Campaign : goal.returns-in-Campaign
 returns-in-Campaign c =
-    let w = c.args.list.now in record {
-      counts_after = made (state_of c.args.head c.args.terms.now c.args.counts.now) c.in-Campaign.is c.add_sound.ensures;
-      weights = same_weights
-          (state_of c.args.head c.args.terms.now c.args.counts.now) (add_campaign _) w tt c.add_sound.ensures c.requires.0;
-    }
+    let a = c.args in
+    let x = c.add_sound in
+    let m = made a.head a.terms.now a.counts.now a.list.now (add_campaign _) x.result tt c.in-Campaign.is refl
+    c.requires.0 x.ensures in
+    record { counts_after = m.0; weights = m.1 }
 
 pub returns-in-Start : goal.returns-in-Start
 returns-in-Start c =
-    record {
-      counts_after = made (state_of c.args.head c.args.terms.now c.args.counts.now) c.in-Start.is c.start_sound.ensures;
-      weights = same_weights (state_of c.args.head c.args.terms.now c.args.counts.now)
-          start_day c.args.list.now tt c.start_sound.ensures c.requires.0;
-    }
+    let a = c.args in
+    let x = c.start_sound in
+    let m = made a.head a.terms.now a.counts.now a.list.now start_day x.result tt c.in-Start.is refl
+    c.requires.0 x.ensures in
+    record { counts_after = m.0; weights = m.1 }
 
 pub returns-in-View : goal.returns-in-View
 returns-in-View c =
-    record {
-      counts_after = made (state_of c.args.head c.args.terms.now c.args.counts.now) c.in-View.is c.show_sound.ensures;
-      weights = same_weights (state_of c.args.head c.args.terms.now c.args.counts.now) (show_view _) c.args.list.now tt c.show_sound.ensures c.requires.0;
-    }
+    let a = c.args in
+    let x = c.show_sound in
+    let m = made a.head a.terms.now a.counts.now a.list.now (show_view _) x.result tt c.in-View.is refl
+    c.requires.0 x.ensures in
+    record { counts_after = m.0; weights = m.1 }
 
 pub returns-in-Close : goal.returns-in-Close
 returns-in-Close c =
-    record {
-      counts_after = made (state_of c.args.head c.args.terms.now c.args.counts.now) c.in-Close.is c.close_sound.ensures;
-      weights = same_weights
-          (state_of c.args.head c.args.terms.now c.args.counts.now) close_day c.args.list.now tt c.close_sound.ensures c.requires.0;
-    }
-
--- a marking keeps the plan
-marking : (s : Day) (w : List ℕ) {r t : Record} (b : Bool) (i : ℕ) {o : Outcome} → r ≡ t
-    → request t ≡ makes (mark_campaign b i) → Weights s.plan w → o ≡ call s (mark_campaign b i)
-    → (o ≡ executed s (request r)) × Weights o.day.plan w
-marking s w {r} {t} b i {o} e f h p = (
-  made s e (p ∙ ap (executed s) (sym f)),
-  same_weights s (mark_campaign b i) w tt p h,
-)
+    let a = c.args in
+    let x = c.close_sound in
+    let m = made a.head a.terms.now a.counts.now a.list.now close_day x.result tt c.in-Close.is refl
+    c.requires.0 x.ensures in
+    record { counts_after = m.0; weights = m.1 }
 
 pub returns-in-Pause : goal.returns-in-Pause
 returns-in-Pause c =
-    let m = marking (state_of c.args.head c.args.terms.now c.args.counts.now) c.args.list.now true _ c.in-Pause.is refl c.requires.0 c.mark_sound.ensures in
+    let a = c.args in
+    let x = c.mark_sound in
+    let m = made a.head a.terms.now a.counts.now a.list.now (mark_campaign true _) x.result tt c.in-Pause.is refl
+    c.requires.0 x.ensures in
     record { counts_after = m.0; weights = m.1 }
 
 pub returns-in-Resume : goal.returns-in-Resume
 returns-in-Resume c =
-    let m = marking (state_of c.args.head c.args.terms.now c.args.counts.now) c.args.list.now false _ c.in-Resume.is refl c.requires.0 c.mark_sound-in-Resume.ensures in
+    let a = c.args in
+    let x = c.mark_sound-in-Resume in
+    let m = made a.head a.terms.now a.counts.now a.list.now (mark_campaign false _) x.result tt c.in-Resume.is refl
+    c.requires.0 x.ensures in
     record { counts_after = m.0; weights = m.1 }
 
 -- a record that is none of the calls
@@ -103,10 +108,12 @@ no_call (Resume i) f g h k l m n = absurd (n i refl)
 -- a record that is no call is refused, and the weights stay
 pub returns-in_default : goal.returns-in_default
 returns-in_default c =
+    let a = c.args in
     let d = c.in_default in
+    let none = no_call a.input d.not-Plan d.not-Campaign d.not-Start d.not-View d.not-Close d.not-Pause d.not-Resume in
     record {
-      counts_after = ap (λ (x : Step). outcome_of x c.args.terms.now c.args.counts.now) c.refused.ensures
-          ∙ ap (executed (state_of c.args.head c.args.terms.now c.args.counts.now)) (sym (no_call c.args.input d.not-Plan d.not-Campaign d.not-Start d.not-View d.not-Close d.not-Pause
-          d.not-Resume));
-      weights = refused_weights c.args.head c.args.list.now c.refused.result 17 c.refused.ensures c.requires.0;
+      counts_after =
+          ap (λ (x : Step). outcome_of x a.terms.now a.counts.now) c.refused.ensures
+          ∙ ap (executed (state_of a.head a.terms.now a.counts.now)) (sym none);
+      weights = refused_weights a.head a.list.now c.refused.result 17 c.refused.ensures c.requires.0;
     }

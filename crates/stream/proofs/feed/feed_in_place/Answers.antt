@@ -8,15 +8,12 @@ use Rattle.stream.specs.Stream.{stream_at}
 use Rattle.stream.proofs.Streams.{feeds}
 use Rattle.stream.proofs.feed.feed_in_place.Goals as goal
 
-pub begin-turn-requires : goal.begin-turn-requires
-begin-turn-requires c = c.sized.ensures
-
 pub returns : goal.returns
 returns c =
     let a = c.args in
     let k = stream_at a.head a.terms.now a.counts.now a.pending.now a.kept in
-    let same = ap (λ (h : Head). state_of h a.terms.now a.counts.now) c.begin-turn.ensures.0 in
-    let r = c.run-t in
+    let same = ap (λ (h : Head). state_of h a.terms.now a.counts.now) c.begin.ensures.0 in
+    let r = c.run-last in
     feeds k a.input.now a.out.now _ c.at_most_held.result (position r.result _ _) _
     c.at_most_held.ensures c.requires r.ensures.1 _ same r.ensures.0
     c.clear.ensures

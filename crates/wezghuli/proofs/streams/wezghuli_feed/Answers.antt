@@ -3,17 +3,19 @@ use Rattle.wezghuli.specs.Library.{lent}
 use Rattle.wezghuli.proofs.Streamed.{fed_misused, fed_stored}
 use Rattle.wezghuli.proofs.streams.wezghuli_feed.Goals as goal
 
-pub returns-then-status-ne-STATUS_ACCEPTED : goal.returns-then-status-ne-STATUS_ACCEPTED
-returns-then-status-ne-STATUS_ACCEPTED c =
+pub returns-in-Err : goal.returns-in-Err
+returns-in-Err c =
     let a = c.args in
+    let misuse = c.in-Err.ensures in
     let told = fed_misused (lent a.head.now a.terms.now a.counts.now a.pending.now a.words.now a.out.now)
-    c.status-status.ensures c.if-status-ne-STATUS_ACCEPTED.true _ in
+    misuse.0 misuse.1 _ in
     record { value = told.0; out_after = told.1 }
 
-pub returns : goal.returns
-returns c =
+pub returns-in-Ok : goal.returns-in-Ok
+returns-in-Ok c =
     let a = c.args in
-    let told = fed_stored (lent a.head.now a.terms.now a.counts.now a.pending.now a.words.now a.out.now)
-    c.status-status.ensures c.if-status-ne-STATUS_ACCEPTED.false
-    c.head_of.ensures c.feed_in_place-moved.result _ c.store.ensures _ c.feed_in_place-moved.ensures in
+    let given = c.in-Ok.ensures in
+    let moved = c.feed_in_place-moved in
+    let told = fed_stored (lent a.head.now a.terms.now a.counts.now a.pending.now a.words.now a.out.now) given.0
+    given.1 moved.result _ c.store.ensures _ moved.ensures in
     record { value = told.0; out_after = told.1 }

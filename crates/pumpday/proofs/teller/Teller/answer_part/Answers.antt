@@ -10,18 +10,18 @@ overflow_add-to c =
     let a = c.args in
     omega (
       arith,
-      part_inside a.self.stream a.block.now a.out.now c.feed-fed.new.out a.from c.feed-fed.result c.requires
+      part_inside a.self.now.stream a.block.now a.out.now c.feed-fed.new.out a.from c.feed-fed.result c.requires
           c.feed-fed.ensures,
     )
 
 pub slice_bounds-tell-end : goal.slice_bounds-tell-end
 slice_bounds-tell-end c =
     let a = c.args in
-    part_inside a.self.stream a.block.now a.out.now c.feed-fed.new.out a.from c.feed-fed.result c.requires
+    part_inside a.self.now.stream a.block.now a.out.now c.feed-fed.new.out a.from c.feed-fed.result c.requires
     c.feed-fed.ensures
 
 pub returns : goal.returns
 returns c =
     let a = c.args in
-    part_is a.self a.block.now a.out.now c.feed-fed.new.out a.from c.feed-fed.result c.requires c.feed-fed.ensures
-    c.tell-teller.result c.tell-teller.ensures
+    part_is a.self.now a.block.now a.out.now c.feed-fed.new.out a.from c.feed-fed.result c.requires c.feed-fed.ensures
+    c.tell.new.self c.tell.ensures

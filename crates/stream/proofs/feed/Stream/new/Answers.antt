@@ -7,4 +7,4 @@ use Rattle.stream.proofs.feed.Stream.new.Goals as goal
 
 pub returns : goal.returns
 unfolding table
-returns c = ap (λ (s : Day). record { day = s; pending = table line_buffer (λ i. 0); kept = 0 }) c.blank-day.ensures
+returns c = ap (λ (s : Day). record { day = s; pending = table line_buffer (λ i. 0); kept = 0 }) c.blank.ensures
