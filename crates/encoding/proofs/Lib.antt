@@ -1,2 +1,3 @@
+pub mod Forms
 pub mod Faithful
 pub mod Words

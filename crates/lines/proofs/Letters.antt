@@ -1,18 +1,12 @@
--- What the code asks of a slot, said of the slot's letter: one row for each slot.
-use mathlib.Core.Path.{◌≡◌, refl}
+-- What stands in a slot that is none of names: a number in its range.
+use mathlib.Core.Path.{◌≡◌, sym}
 use mathlib.Core.List.{List}
 use Prim.Native.Nat.{ℕ}
-use Rattle.lines.specs.declared.slots.Slot.{Slot}
-use Rattle.lines.specs.declared.slots.Slot.TheVariants.{Input, Number, Campaign, Question, Money, Names}
-use Rattle.lines.specs.Form.{letter}
+use borrow.Author.Tests.{ne_eqb}
+use Rattle.lines.specs.Form.{names_slot}
 use Rattle.lines.specs.Reading.{some, numeral_at, ranged, slot_at}
 
-pub slot_number : (s : Slot) (l : List ℕ) → (s ≡ Names → ⊥)
-    → ranged (letter s) (numeral_at l) ≡ slot_at (letter s) (some l)
+pub slot_number : (slot : ℕ) (l : List ℕ) → (slot ≡ names_slot → ⊥)
+    → ranged slot (numeral_at l) ≡ slot_at slot (some l)
 unfolding slot_at
-slot_number Input l h = refl
-slot_number Number l h = refl
-slot_number Campaign l h = refl
-slot_number Question l h = refl
-slot_number Money l h = refl
-slot_number Names l h = absurd (h refl)
+slot_number slot l h = sym (simp (ne_eqb slot names_slot h))

@@ -2,12 +2,12 @@
 ghost use Rattle.std.specs.Prelude.{◌≡◌, get_or, Err};
 ghost use Rattle.std.specs.Option.{ok_or};
 ghost use Rattle.refusal.specs.Refusal.{refusal};
-ghost use Rattle.lines.specs.Form.{letter, names_slot};
+ghost use Rattle.lines.specs.Form.{names_slot};
 ghost use Rattle.lines.specs.Reading.{some, numeral_at, digits, ranged, slot_at, ended_or};
 ghost use Rattle.lines.specs.Cited.{found, fitting, match_rest, stripped};
 
 use crate::Record;
-use crate::slots::Slot;
+use crate::slots::{Lettered, in_slot};
 
 // The digits at the front as a number, where it fits 64 bits.
 fn digits(s: &[u8]) -> Option<(u64, &[u8])>
@@ -37,12 +37,12 @@ fn numeral(s: &[u8]) -> Option<(u64, &[u8])>
     }
 }
 
-// The numeral at the front, where its number is in the range of the slot.
-fn number(s: &[u8], slot: Slot) -> Option<(u64, &[u8])>
-    ensures { found result ≡ ranged (letter slot) (numeral_at s.now) }
+// The numeral at the front, where its number is in the range of the slot of this letter.
+fn number(s: &[u8], slot: u8) -> Option<(u64, &[u8])>
+    ensures { found result ≡ ranged slot (numeral_at s.now) }
 {
     let (number, rest) = numeral(s)?;
-    if slot.holds(number) {
+    if in_slot(slot, number) {
         Some((number, rest))
     } else {
         None
@@ -56,7 +56,7 @@ fn names(s: &[u8]) -> Option<(u64, &[u8])>
     let mut set: u64 = 0;
     let mut rest = s;
     while let [b' ', named @ ..] = rest {
-        let (name, after) = number(named, Slot::Campaign)?;
+        let (name, after) = number(named, b'C')?;
         let bit = 1 << name;
         if bit <= set {
             return None;
@@ -86,14 +86,15 @@ fn behind<'a>(s: &'a [u8], word: &[u8]) -> Option<&'a [u8]>
 
 // The word at the front, and the slot behind it. Inlined, since the word and the slot are known at each call.
 #[inline(always)]
-pub fn field<'a>(s: &'a [u8], word: &[u8], slot: Slot) -> Option<(u64, &'a [u8])>
-    ensures { found result ≡ slot_at (letter slot) (stripped word.now (some s.now)) }
+pub fn field<'a, S: Lettered>(s: &'a [u8], word: &[u8], slot: S) -> Option<(u64, &'a [u8])>
+    ensures { found result ≡ slot_at (S.letter slot) (stripped word.now (some s.now)) }
 {
+    let letter = slot.letter();
     let s = behind(s, word)?;
-    match slot {
-        Slot::Names => names(s),
-        _ => number(s, slot),
+    if letter == b'S' {
+        return names(s);
     }
+    number(s, letter)
 }
 
 // The record r, where the word is all that is left.

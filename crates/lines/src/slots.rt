@@ -83,15 +83,6 @@ impl Lettered for Slot {
     }
 }
 
-impl Slot {
-    // Whether the number is in the range of the slot.
-    pub fn holds(self, number: u64) -> bool
-        ensures { result ≡ in_slot (letter self) number }
-    {
-        in_slot(self.letter(), number)
-    }
-}
-
 // The greatest number in a slot, by its letter.
 pub fn slot_max(slot: u8) -> u64
     ensures { result ≡ slot_max slot }

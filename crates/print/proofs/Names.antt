@@ -2,7 +2,7 @@
 -- puts them keeps `Names`: some stand, and those of what is left of the walk are to come.
 use mathlib.Core.Path.{◌≡◌, ap, sym, ◌∙◌, subst}
 use mathlib.Core.List.{List, [], ◌∷◌, ◌++◌, append_assoc, append-nil}
-use Prim.Native.Nat.{ℕ, ◌+◌, ◌-◌, ◌^◌, ◌≤◌, ◌<◌}
+use Prim.Native.Nat.{ℕ, suc, ◌+◌, ◌-◌, ◌^◌, ◌≤◌, ◌<◌}
 use native.Mathlib.Omega.{arith}
 use native.Mathlib.Numerals.{add-one}
 use lib.ListN.{length, length-append}
@@ -68,6 +68,9 @@ module _ {out₀ : List ℕ} {at set : ℕ} {out : List ℕ} {to left : ℕ} (z 
   below = let f = first_is left z.small e in omega arith
 
   -- the name at hand and those behind it are to come
+  pub fewer : length (members left) ≡ suc (length (members (beyond left i)))
+  fewer = ap length (members_next left below)
+
   split : z.put ++ (name i ++ names_along (members (beyond left i))) ≡ names_text set_bits set
   unfolding names_along
   split = ap (λ (is : List ℕ). z.put ++ names_along is) (sym (members_next left below)) ∙ z.whole

@@ -261,3 +261,14 @@ replayed s ws left s₁ p l k =
       noon = λ st.
           subst⁻¹ (λ (d : Day). NoonFloor (history (transcript s (decode ws))) d) ran (noon_at_end s (decode ws) st);
     }
+
+-- a kind that is none of the eight is past them; in two steps, since each "not" makes a case
+past_four : (k : ℕ) → (k ≡ 0 → ⊥) → (k ≡ 1 → ⊥) → (k ≡ 2 → ⊥) → (k ≡ 3 → ⊥) → 4 ≤ k
+past_four k a b c d = omega arith
+
+past_rest : (k : ℕ) → 4 ≤ k → (k ≡ 4 → ⊥) → (k ≡ 5 → ⊥) → (k ≡ 6 → ⊥) → (k ≡ 7 → ⊥) → 8 ≤ k
+past_rest k l e f g h = omega arith
+
+pub past_eight : (k : ℕ) → (k ≡ 0 → ⊥) → (k ≡ 1 → ⊥) → (k ≡ 2 → ⊥) → (k ≡ 3 → ⊥) → (k ≡ 4 → ⊥) → (k ≡ 5 → ⊥)
+    → (k ≡ 6 → ⊥) → (k ≡ 7 → ⊥) → 8 ≤ k
+past_eight k a b c d e f g h = past_rest k (past_four k a b c d) e f g h
