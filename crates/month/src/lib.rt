@@ -50,11 +50,17 @@ pub struct Worst {
     pub day: DayRecord,
 }
 
-// The report so far, of records that belong to a day: the totals, and the worst day.
+// Both totals so far.
 #[derive(Clone, Copy, Debug, PartialEq, Eq)]
-pub struct Partial {
+pub struct Totals {
     pub takings: u64,
     pub greatest: u64,
+}
+
+// The report so far: the totals, none behind a record that belongs to no day, and the worst day.
+#[derive(Clone, Copy, Debug, PartialEq, Eq)]
+pub struct Partial {
+    pub totals: Option<Totals>,
     pub worst: Option<Worst>,
 }
 
@@ -64,17 +70,22 @@ impl Partial {
         ensures { result ≡ nothing_yet }
     {
         Partial {
-            takings: 0,
-            greatest: 0,
+            totals: Some(Totals {
+                takings: 0,
+                greatest: 0,
+            }),
             worst: None,
         }
     }
 
     // Behind a record that belongs to no day.
-    pub fn invalid() -> Result<Partial, Refusal>
+    pub fn invalid() -> Partial
         ensures { result ≡ invalid }
     {
-        Err(Refusal::NO_DAY)
+        Partial {
+            totals: None,
+            worst: None,
+        }
     }
 
     // Is this day worse than each day before it? On equality it is not. Only figures in their range are multiplied.
@@ -92,11 +103,14 @@ impl Partial {
         }
     }
 
-    // With one record more, which is refused where it belongs to no day.
-    pub fn with(self, day: DayRecord, place: u64) -> Result<Partial, Refusal>
+    // With one record more. Once a record belonged to no day, none is added.
+    pub fn with(self, day: DayRecord, place: u64) -> Partial
         requires { Fits self place }
         ensures { result ≡ after self day place }
     {
+        let Some(totals) = self.totals else {
+            return Partial::invalid();
+        };
         if !day.belongs() {
             return Partial::invalid();
         }
@@ -105,22 +119,25 @@ impl Partial {
         } else {
             self.worst
         };
-        Ok(Partial {
-            takings: self.takings + day.takings,
-            greatest: self.greatest + day.greatest,
+        Partial {
+            totals: Some(Totals {
+                takings: totals.takings + day.takings,
+                greatest: totals.greatest + day.greatest,
+            }),
             worst,
-        })
+        }
     }
 
     // Behind the last record.
-    pub fn done(self) -> Month
+    pub fn done(self) -> Result<Month, Refusal>
         ensures { result ≡ finish self }
     {
-        Month {
-            takings: self.takings,
-            greatest: self.greatest,
+        let totals = self.totals.ok_or(Refusal::NO_DAY)?;
+        Ok(Month {
+            takings: totals.takings,
+            greatest: totals.greatest,
             worst: self.worst.map(|worst| worst.place),
-        }
+        })
     }
 }
 
@@ -133,9 +150,9 @@ pub fn report(days: &[DayRecord]) -> Result<Month, Refusal>
     }
     let mut so_far = Partial::new();
     for (place, day) in days.iter().enumerate() {
-        so_far = so_far.with(*day, place as u64)?;
+        so_far = so_far.with(*day, place as u64);
     }
-    Ok(so_far.done())
+    so_far.done()
 }
 
 // The same of the first `count` records of an array, for callers that have no slice of records.
