@@ -1,3 +1,4 @@
 pub mod Lengths
 pub mod Digits
 pub mod Names
+pub mod Sizes

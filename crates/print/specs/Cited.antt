@@ -1,5 +1,6 @@
 -- How the contracts of the crate speak of what is counted. Nothing that a caller of the writer relies on is here.
-use Rattle.std.specs.Prelude.{ℕ, ◌+◌, cond, length, Option, Some, None}
+use Rattle.std.specs.Prelude.{ℕ, ◌+◌, ◌≤◌, ◌≡◌, Bool, cond, ◌&&◌, length, Some, is_none}
+use Rattle.lines.specs.Limits.{max_names}
 use Rattle.lines.specs.Form.{in_slot, slot_text}
 use Rattle.print.specs.declared.Size.{Size}
 
@@ -7,6 +8,19 @@ use Rattle.print.specs.declared.Size.{Size}
 abbrev pub max_counted : ℕ
 max_counted = 1000
 
--- z with one slot more, or none where the slot's number is out of range
-abbrev pub counted : (z : Size) (slot n : ℕ) → Option Size
-counted z slot n = cond (in_slot slot n) (Some (record { len = length (slot_text slot n) + z.len })) None
+-- z with one slot more: its bytes join the length, and its number, where it is out of range, is the one outside
+abbrev pub counted : (z : Size) (slot n : ℕ) → Size
+counted z slot n = record {
+  len = length (slot_text slot n) + z.len;
+  outside = cond (in_slot slot n) z.outside (Some n);
+}
+
+-- whether the numbers that z counts are in the ranges of their slots
+abbrev pub within : Size → Bool
+within z = is_none z.outside
+
+-- y is z with one slot more: what `Size::slot` answers for every size and number (`proofs/Sizes.counts`)
+pub record Counted (z : Size) (slot n : ℕ) (y : Size) : Type 0 where
+  pub ok : within y ≡ (in_slot slot n && within z)
+  pub len : y.len ≡ length (slot_text slot n) + z.len
+  pub most : y.len ≤ z.len + max_names

@@ -1,7 +1,7 @@
 // Words, numerals and names: how long they are, and putting them into a lent buffer.
 #![tactic(auto)]
 
-ghost use Rattle.std.specs.Prelude.{◌≡◌, ◌∷◌, ◌++◌, ◌+◌, ◌%◌, ◌<◌, ◌≤◌, length, IfSome};
+ghost use Rattle.std.specs.Prelude.{◌≡◌, ◌∷◌, ◌++◌, ◌+◌, ◌%◌, ◌<◌, ◌≤◌, length, None};
 ghost use Rattle.buffer.specs.Buffer.{Put, RoomFor};
 ghost use Rattle.lines.specs.Limits.{set_bits, max_names};
 ghost use Rattle.lines.specs.Numeral.{numeral};
@@ -11,10 +11,12 @@ ghost use Rattle.print.specs.Cited.{max_counted, counted};
 use lines::slots::{Lettered, in_slot};
 use sets::Members;
 
-// The length of a line as far as its slots are counted, their numbers being in the ranges of the slots.
+// The length of a line as far as its slots are counted, and a number that is outside its slot's range, where there is
+// one.
 #[derive(Clone, Copy)]
 pub struct Size {
     pub len: usize,
+    pub outside: Option<u64>,
 }
 
 // How many digits the numeral of n has, four a call: most numbers of a line are short, where tests are faster than
@@ -54,23 +56,21 @@ fn slot_len(slot: u8, n: u64) -> usize
 impl Size {
     // A line of a form's own bytes.
     pub fn fixed(len: usize) -> Size
-        ensures { result.len ≡ len }
+        ensures { (result.len ≡ len) × (result.outside ≡ None) }
     {
-        Size { len }
+        Size { len, outside: None }
     }
 
-    // One slot more, in front of those that are counted; none where its number is out of range.
-    pub fn slot<S: Lettered>(self, slot: S, n: u64) -> Option<Size>
+    // One slot more, in front of those that are counted.
+    pub fn slot<S: Lettered>(self, slot: S, n: u64) -> Size
         requires { self.len ≤ max_counted }
         ensures counted { result ≡ counted self (S.letter slot) n }
-        ensures most { IfSome result (λ z. z.len ≤ self.len + max_names) }
+        ensures most { result.len ≤ self.len + max_names }
     {
         let letter = slot.letter();
-        if !in_slot(letter, n) {
-            return None;
-        }
         let len = slot_len(letter, n) + self.len;
-        Some(Size { len })
+        let outside = (!in_slot(letter, n)).then_some(n).or(self.outside);
+        Size { len, outside }
     }
 }
 

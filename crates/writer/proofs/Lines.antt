@@ -1,16 +1,18 @@
 -- A line is its form's template, filled, with a byte 10 behind it: what the puts of a form make (`puts_line`), and how
 -- long it is, its own bytes and those of its slots (`line_slots`). Both hold for every form: a new one needs no law.
 use mathlib.Core.Path.{◌≡◌, refl, sym, ap, ◌∙◌, subst}
-use mathlib.Core.Bool.{Bool, true, false, cond, not}
+use mathlib.Core.Bool.{Bool, true, false, cond, not, ◌&&◌}
 use mathlib.Core.List.{List, [], ◌∷◌, ◌++◌, append_assoc}
 use Prim.Native.Nat.{ℕ, ◌+◌}
 use native.Mathlib.Omega.{arith}
 use lib.ListN.{length, length-append, get_or}
-use Rattle.lines.specs.Form.{is_slot, slot_text, template, numbers, piece, numbers_after, filled, text}
+use Rattle.std.specs.Prelude.{Some, is_none}
+use Rattle.lines.specs.Form.{is_slot, in_slot, slot_text, template, numbers, piece, numbers_after, filled, text}
+use Rattle.lines.specs.Form.{in_slots, in_range}
 use Rattle.lines.specs.declared.Record.{Record}
 use Rattle.buffer.specs.Buffer.{Put}
 use Rattle.writer.specs.Writing.{line}
-use Rattle.writer.specs.Cited.{plus, own_size, slots_size, line_size}
+use Rattle.writer.specs.Cited.{plus, own_size, slots_size, line_size, first_outside, sized, LineSized}
 
 filled_end : (t ns : List ℕ) → filled (t ++ (10 ∷ [])) ns ≡ filled t ns ++ (10 ∷ [])
 unfolding filled piece
@@ -46,6 +48,23 @@ slots_counted (b ∷ t) ns m =
 pub line_slots : (r : Record) → length (line r) ≡ line_size r
 unfolding line text
 line_slots r = length-append (text r) (10 ∷ []) ∙ slots_counted (template r) (numbers r) 1
+
+-- A record's numbers are in their ranges where none is outside.
+
+none_outside : (t ns : List ℕ) → is_none (first_outside t ns) ≡ in_slots t ns
+unfolding in_slots
+none_outside [] ns = refl
+none_outside (b ∷ t) ns = go (cond (is_slot b) (in_slot b (get_or ns 0 0)) true) (none_outside t (numbers_after b ns))
+  where
+    go : (s : Bool) → is_none (first_outside t (numbers_after b ns)) ≡ in_slots t (numbers_after b ns)
+        → is_none (cond s (first_outside t (numbers_after b ns)) (Some (get_or ns 0 0)))
+        ≡ (s && in_slots t (numbers_after b ns))
+    go true ih = ih
+    go false ih = refl
+
+pub line_sized : (r : Record) → LineSized r (sized r)
+unfolding in_range
+line_sized r = record { ok = none_outside (template r) (numbers r); len = refl }
 
 -- a form that was put whole
 pub puts_line : (r : Record) {d e : List ℕ} {at to : ℕ} → Put d e at to (filled (template r ++ (10 ∷ [])) (numbers r))

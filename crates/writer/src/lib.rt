@@ -19,30 +19,30 @@ use print::{Size, put, put_field};
 use refusal::Refusal;
 
 // How long the record's line is: its form's own bytes with the byte 10, and its slots, counted from the last to the
-// first. None where a number is out of its range.
-fn size_of(r: Record) -> Option<Size>
+// first. A number that is out of its range is told beside the length.
+fn size_of(r: Record) -> Size
     ensures { result ≡ sized r }
 {
     match r {
-        Record::Plan { depth, width } => Size::fixed(25).slot(Input, width)?.slot(Input, depth),
+        Record::Plan { depth, width } => Size::fixed(25).slot(Input, width).slot(Input, depth),
         Record::Campaign { price, budget } => Size::fixed(30)
-            .slot(Input, budget)?
+            .slot(Input, budget)
             .slot(Input, price),
-        Record::Start | Record::Close => Some(Size::fixed(8)),
+        Record::Start | Record::Close => Size::fixed(8),
         Record::View(set) => Size::fixed(7).slot(Names, set),
-        Record::Done => Some(Size::fixed(5)),
+        Record::Done => Size::fixed(5),
         Record::Play { campaign, paid } => Size::fixed(16)
-            .slot(Number, paid)?
+            .slot(Number, paid)
             .slot(Slot::Campaign, campaign),
-        Record::Nobody => Some(Size::fixed(9)),
+        Record::Nobody => Size::fixed(9),
         Record::Refused(number) => Size::fixed(11).slot(Question, number),
         Record::Closed {
             takings,
             claim,
             full,
         } => Size::fixed(37)
-            .slot(Money, full)?
-            .slot(Money, claim)?
+            .slot(Money, full)
+            .slot(Money, claim)
             .slot(Money, takings),
         Record::Tally {
             campaign,
@@ -51,10 +51,10 @@ fn size_of(r: Record) -> Option<Size>
             age,
             named,
         } => Size::fixed(43)
-            .slot(Number, named)?
-            .slot(Number, age)?
-            .slot(Number, turns)?
-            .slot(Number, plays)?
+            .slot(Number, named)
+            .slot(Number, age)
+            .slot(Number, turns)
+            .slot(Number, plays)
             .slot(Slot::Campaign, campaign),
         Record::Pause(campaign) => Size::fixed(9).slot(Slot::Campaign, campaign),
         Record::Resume(campaign) => Size::fixed(10).slot(Slot::Campaign, campaign),
@@ -166,7 +166,10 @@ fn put_record(r: Record, out: &mut [u8], to: usize) -> usize
 pub fn write_line(r: Record, out: &mut [u8]) -> Result<usize, Refusal>
     ensures { (result ≡ writing r out.old) × (out.new ≡ written r out.old) }
 {
-    let size = size_of(r).ok_or(Refusal::NO_FORM)?;
+    let size = size_of(r);
+    if size.outside.is_some() {
+        return Err(Refusal::NO_FORM);
+    }
     if out.len() < size.len {
         return Err(Refusal::NO_ROOM);
     }
