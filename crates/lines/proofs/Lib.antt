@@ -1,6 +1,7 @@
 pub mod Words
 pub mod Digits
 pub mod Letters
+pub mod Fields
 pub mod Numerals
 pub mod Decimal
 pub mod NameTurns

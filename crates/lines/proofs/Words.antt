@@ -16,7 +16,7 @@ pub strip_hit : (b c : ℕ) (l : List ℕ) → c ≡ b → strip b (some (c ∷ 
 unfolding strip
 strip_hit b c l e = simp (eq-eqb c b e)
 
-stripped_none : (w : List ℕ) → stripped w none ≡ none
+pub stripped_none : (w : List ℕ) → stripped w none ≡ none
 unfolding stripped strip
 stripped_none [] = refl
 stripped_none (b ∷ w) = stripped_none w

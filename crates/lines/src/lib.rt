@@ -55,35 +55,35 @@ pub enum Record {
 fn read_plan(s: &[u8]) -> Option<Record>
     ensures { ok_or result (refusal 17) ≡ held_or (Err (refusal 17)) (Record.Plan 0 0) s.now }
 {
-    let (depth, s) = field(s, b"(plan (depth ", Slot::Input)?;
-    let (width, s) = field(s, b") (width ", Slot::Input)?;
-    ended(s, b"))", Record::Plan { depth, width })
+    let (depth, s) = field(Some(s), b"(plan (depth ", Slot::Input)?;
+    let (width, s) = field(Some(s), b") (width ", Slot::Input)?;
+    ended(Some(s), b"))", Record::Plan { depth, width })
 }
 
 fn read_campaign(s: &[u8]) -> Option<Record>
     ensures { ok_or result (refusal 17) ≡ held_or (Err (refusal 17)) (Record.Campaign 0 0) s.now }
 {
-    let (price, s) = field(s, b"(campaign (price ", Slot::Input)?;
-    let (budget, s) = field(s, b") (budget ", Slot::Input)?;
-    ended(s, b"))", Record::Campaign { price, budget })
+    let (price, s) = field(Some(s), b"(campaign (price ", Slot::Input)?;
+    let (budget, s) = field(Some(s), b") (budget ", Slot::Input)?;
+    ended(Some(s), b"))", Record::Campaign { price, budget })
 }
 
 fn read_play(s: &[u8]) -> Option<Record>
     ensures { ok_or result (refusal 17) ≡ held_or (Err (refusal 17)) (Record.Play 0 0) s.now }
 {
-    let (campaign, s) = field(s, b"(play ", Slot::Campaign)?;
-    let (paid, s) = field(s, b" (paid ", Slot::Number)?;
-    ended(s, b"))", Record::Play { campaign, paid })
+    let (campaign, s) = field(Some(s), b"(play ", Slot::Campaign)?;
+    let (paid, s) = field(Some(s), b" (paid ", Slot::Number)?;
+    ended(Some(s), b"))", Record::Play { campaign, paid })
 }
 
 fn read_closed(s: &[u8]) -> Option<Record>
     ensures { ok_or result (refusal 17) ≡ held_or (Err (refusal 17)) (Record.Closed 0 0 0) s.now }
 {
-    let (takings, s) = field(s, b"(closed (takings ", Slot::Money)?;
-    let (claim, s) = field(s, b") (claim ", Slot::Money)?;
-    let (full, s) = field(s, b") (full ", Slot::Money)?;
+    let (takings, s) = field(Some(s), b"(closed (takings ", Slot::Money)?;
+    let (claim, s) = field(Some(s), b") (claim ", Slot::Money)?;
+    let (full, s) = field(Some(s), b") (full ", Slot::Money)?;
     ended(
-        s,
+        Some(s),
         b"))",
         Record::Closed {
             takings,
@@ -96,13 +96,13 @@ fn read_closed(s: &[u8]) -> Option<Record>
 fn read_tally(s: &[u8]) -> Option<Record>
     ensures { ok_or result (refusal 17) ≡ held_or (Err (refusal 17)) (Record.Tally 0 0 0 0 0) s.now }
 {
-    let (campaign, s) = field(s, b"(tally ", Slot::Campaign)?;
-    let (plays, s) = field(s, b" (plays ", Slot::Number)?;
-    let (turns, s) = field(s, b") (turns ", Slot::Number)?;
-    let (age, s) = field(s, b") (age ", Slot::Number)?;
-    let (named, s) = field(s, b") (named ", Slot::Number)?;
+    let (campaign, s) = field(Some(s), b"(tally ", Slot::Campaign)?;
+    let (plays, s) = field(Some(s), b" (plays ", Slot::Number)?;
+    let (turns, s) = field(Some(s), b") (turns ", Slot::Number)?;
+    let (age, s) = field(Some(s), b") (age ", Slot::Number)?;
+    let (named, s) = field(Some(s), b") (named ", Slot::Number)?;
     ended(
-        s,
+        Some(s),
         b"))",
         Record::Tally {
             campaign,
@@ -117,29 +117,29 @@ fn read_tally(s: &[u8]) -> Option<Record>
 fn read_view(s: &[u8]) -> Option<Record>
     ensures { ok_or result (refusal 17) ≡ held_or (Err (refusal 17)) (Record.View 0) s.now }
 {
-    let (set, s) = field(s, b"(view", Slot::Names)?;
-    ended(s, b")", Record::View(set))
+    let (set, s) = field(Some(s), b"(view", Slot::Names)?;
+    ended(Some(s), b")", Record::View(set))
 }
 
 fn read_refused(s: &[u8]) -> Option<Record>
     ensures { ok_or result (refusal 17) ≡ held_or (Err (refusal 17)) (Record.Refused 0) s.now }
 {
-    let (number, s) = field(s, b"(refused ", Slot::Question)?;
-    ended(s, b")", Record::Refused(number))
+    let (number, s) = field(Some(s), b"(refused ", Slot::Question)?;
+    ended(Some(s), b")", Record::Refused(number))
 }
 
 fn read_pause(s: &[u8]) -> Option<Record>
     ensures { ok_or result (refusal 17) ≡ held_or (Err (refusal 17)) (Record.Pause 0) s.now }
 {
-    let (campaign, s) = field(s, b"(pause ", Slot::Campaign)?;
-    ended(s, b")", Record::Pause(campaign))
+    let (campaign, s) = field(Some(s), b"(pause ", Slot::Campaign)?;
+    ended(Some(s), b")", Record::Pause(campaign))
 }
 
 fn read_resume(s: &[u8]) -> Option<Record>
     ensures { ok_or result (refusal 17) ≡ held_or (Err (refusal 17)) (Record.Resume 0) s.now }
 {
-    let (campaign, s) = field(s, b"(resume ", Slot::Campaign)?;
-    ended(s, b")", Record::Resume(campaign))
+    let (campaign, s) = field(Some(s), b"(resume ", Slot::Campaign)?;
+    ended(Some(s), b")", Record::Resume(campaign))
 }
 
 // The first bytes leave one form, and only that one is tried.
@@ -154,13 +154,13 @@ fn read_form(s: &[u8]) -> Option<Record>
             _ => read_play(s),
         },
         b'c' => match byte(s, 6) {
-            b')' => ended(s, b"(close)", Record::Close),
+            b')' => ended(Some(s), b"(close)", Record::Close),
             b'd' => read_closed(s),
             _ => read_campaign(s),
         },
-        b's' => ended(s, b"(start)", Record::Start),
-        b'o' => ended(s, b"(ok)", Record::Done),
-        b'n' => ended(s, b"(nobody)", Record::Nobody),
+        b's' => ended(Some(s), b"(start)", Record::Start),
+        b'o' => ended(Some(s), b"(ok)", Record::Done),
+        b'n' => ended(Some(s), b"(nobody)", Record::Nobody),
         b'r' => match byte(s, 3) {
             b's' => read_resume(s),
             _ => read_refused(s),

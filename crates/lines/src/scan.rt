@@ -84,23 +84,25 @@ fn behind<'a>(s: &'a [u8], word: &[u8]) -> Option<&'a [u8]>
     Some(&s[word.len()..])
 }
 
-// The word at the front, and the slot behind it. Inlined, since the word and the slot are known at each call.
+// The word at the front, and the slot behind it. s is what is left of the line, or None where what was looked for
+// before is not there. Inlined, since the word and the slot are known at each call.
 #[inline(always)]
-pub fn field<'a, S: Lettered>(s: &'a [u8], word: &[u8], slot: S) -> Option<(u64, &'a [u8])>
-    ensures { found result ≡ slot_at (S.letter slot) (stripped word.now (some s.now)) }
+pub fn field<'a, S: Lettered>(s: Option<&'a [u8]>, word: &[u8], slot: S) -> Option<(u64, &'a [u8])>
+    ensures { found result ≡ slot_at (S.letter slot) (stripped word.now (match_rest s.entry)) }
 {
     let letter = slot.letter();
-    let s = behind(s, word)?;
+    let s = behind(s?, word)?;
     if letter == b'S' {
         return names(s);
     }
     number(s, letter)
 }
 
-// The record r, where the word is all that is left.
-pub fn ended(s: &[u8], word: &[u8], r: Record) -> Option<Record>
-    ensures { ok_or result (refusal 17) ≡ ended_or (Err (refusal 17)) (stripped word.now (some s.now)) r }
+// The record r, where the word is all that is left; s as above.
+pub fn ended(s: Option<&[u8]>, word: &[u8], r: Record) -> Option<Record>
+    ensures { ok_or result (refusal 17) ≡ ended_or (Err (refusal 17)) (stripped word.now (match_rest s.entry)) r }
 {
+    let s = s?;
     if s == word { Some(r) } else { None }
 }
 

@@ -15,9 +15,10 @@ use Rattle.lines.specs.declared.Record.{Record}
 use Rattle.lines.specs.declared.Record.TheVariants.{Plan, Campaign, Start, View, Close, Done, Play, Nobody}
 use Rattle.lines.specs.declared.Record.TheVariants.{Refused, Closed, Tally, Pause, Resume}
 use Rattle.lines.specs.Form.{template}
-use Rattle.lines.specs.Reading.{forms, first_of, step, rest_of, numbers_of, made, held_or}
-use Rattle.lines.specs.Cited.{stripped}
+use Rattle.lines.specs.Reading.{forms, first_of, made, held_or}
 use Rattle.lines.proofs.Choice.{leaves, chosen, first_chosen}
+use Rattle.lines.proofs.Fields.{reads}
+use Rattle.lines.proofs.Fields.Scanned.{last_word}
 use Rattle.lines.proofs.read_form.Goals as goal
 
 -- The byte at 1 is b, and with the bytes behind it it leaves the form f: a is what f reads.
@@ -53,11 +54,11 @@ returns-in_default-byte c =
     (rw (other {k = 110} fourth (λ q. omega arith), other {k = 115} fourth (λ q. omega arith))) c.read_play.ensures
 
 pub returns-in-41 : goal.returns-in-41
-unfolding template step rest_of numbers_of made held_or stripped
+unfolding template made
 returns-in-41 c =
     answers c.args.s.now c.byte.ensures c.in-99.is Close
     (rw (sym c.byte-in-99.ensures ∙ c.in-41.is))
-    c.ended.ensures
+    (reads Close (last_word refl) c.ended.ensures)
 
 pub returns-in-100 : goal.returns-in-100
 returns-in-100 c =
@@ -71,19 +72,19 @@ returns-in_default-byte-2 c =
     (rw (other {k = 41} sixth (λ q. omega arith), other {k = 100} sixth (λ q. omega arith))) c.read_campaign.ensures
 
 pub returns-in-115 : goal.returns-in-115
-unfolding template step rest_of numbers_of made held_or stripped
+unfolding template made
 returns-in-115 c =
-    answers c.args.s.now c.byte.ensures c.in-115.is Start refl c.ended-in-115.ensures
+    answers c.args.s.now c.byte.ensures c.in-115.is Start refl (reads Start (last_word refl) c.ended-in-115.ensures)
 
 pub returns-in-111 : goal.returns-in-111
-unfolding template step rest_of numbers_of made held_or stripped
+unfolding template made
 returns-in-111 c =
-    answers c.args.s.now c.byte.ensures c.in-111.is Done refl c.ended-in-111.ensures
+    answers c.args.s.now c.byte.ensures c.in-111.is Done refl (reads Done (last_word refl) c.ended-in-111.ensures)
 
 pub returns-in-110 : goal.returns-in-110
-unfolding template step rest_of numbers_of made held_or stripped
+unfolding template made
 returns-in-110 c =
-    answers c.args.s.now c.byte.ensures c.in-110.is Nobody refl c.ended-in-110.ensures
+    answers c.args.s.now c.byte.ensures c.in-110.is Nobody refl (reads Nobody (last_word refl) c.ended-in-110.ensures)
 
 pub returns-in-115-byte-2 : goal.returns-in-115-byte-2
 returns-in-115-byte-2 c =

@@ -1,14 +1,16 @@
--- The field is read, as the template has it.
-use Rattle.std.proofs.Common.{sym, ◌∙◌}
+-- The pause form: its field is read, and by `reads` this is holding the line to the form's template.
+use mathlib.Core.Path.{refl}
+use Rattle.lines.specs.declared.Record.TheVariants.{Pause}
 use Rattle.lines.specs.Form.{template}
-use Rattle.lines.specs.Reading.{slot_at, strip, step, rest_of, numbers_of, made, ended_or, held_or}
-use Rattle.lines.specs.Cited.{stripped}
+use Rattle.lines.specs.Reading.{made, ended_or}
+use Rattle.lines.proofs.Fields.{reads}
+use Rattle.lines.proofs.Fields.Scanned.{field, last_word, missing}
 use Rattle.lines.proofs.read_pause.Goals as goal
 
 pub returns-in_err-campaign : goal.returns-in_err-campaign
-unfolding template slot_at strip step rest_of numbers_of made ended_or held_or stripped
-returns-in_err-campaign c = rw (c.from_residual.ensures, sym c.in_err-campaign.ensures)
+unfolding template ended_or
+returns-in_err-campaign c = reads (Pause 0) (field refl c.in_err-campaign.ensures missing) (rw c.from_residual.ensures)
 
 pub returns : goal.returns
-unfolding template step rest_of numbers_of made held_or stripped
-returns c = c.ended.ensures ∙ rw (sym c.in_ok-campaign.ensures)
+unfolding template made
+returns c = reads (Pause 0) (field refl c.in_ok-campaign.ensures (last_word refl)) c.ended.ensures

@@ -1,14 +1,16 @@
--- The field is read, as the template has it.
-use Rattle.std.proofs.Common.{sym, ◌∙◌}
+-- The refused form: its field is read, and by `reads` this is holding the line to the form's template.
+use mathlib.Core.Path.{refl}
+use Rattle.lines.specs.declared.Record.TheVariants.{Refused}
 use Rattle.lines.specs.Form.{template}
-use Rattle.lines.specs.Reading.{slot_at, strip, step, rest_of, numbers_of, made, ended_or, held_or}
-use Rattle.lines.specs.Cited.{stripped}
+use Rattle.lines.specs.Reading.{made, ended_or}
+use Rattle.lines.proofs.Fields.{reads}
+use Rattle.lines.proofs.Fields.Scanned.{field, last_word, missing}
 use Rattle.lines.proofs.read_refused.Goals as goal
 
 pub returns-in_err-number : goal.returns-in_err-number
-unfolding template slot_at strip step rest_of numbers_of made ended_or held_or stripped
-returns-in_err-number c = rw (c.from_residual.ensures, sym c.in_err-number.ensures)
+unfolding template ended_or
+returns-in_err-number c = reads (Refused 0) (field refl c.in_err-number.ensures missing) (rw c.from_residual.ensures)
 
 pub returns : goal.returns
-unfolding template step rest_of numbers_of made held_or stripped
-returns c = c.ended.ensures ∙ rw (sym c.in_ok-number.ensures)
+unfolding template made
+returns c = reads (Refused 0) (field refl c.in_ok-number.ensures (last_word refl)) c.ended.ensures
