@@ -1,19 +1,18 @@
 -- Laws of digits and of the slots' ranges, and two ways out of what cannot be.
 -- Each law on a test splits on that test; the ranges go by the slots' letters, one row for each.
 use mathlib.Core.Path.{◌≡◌, refl, sym, ap, ◌∙◌}
-use mathlib.Core.Bool.{Bool, true, false, cond, not, ◌||◌}
+use mathlib.Core.Bool.{Bool, true, false, cond, not, ◌&&◌, ◌||◌}
 use mathlib.Core.List.{List, [], ◌∷◌}
-use Prim.Native.Nat.{ℕ, ◌+◌, ◌*◌, ◌-◌, ◌^◌, ◌≤◌, ◌<◌}
+use Prim.Native.Nat.{ℕ, ◌+◌, ◌*◌, ◌-◌, ◌/◌, ◌%◌, ◌^◌, ◌≤◌, ◌<◌}
 use native.Mathlib.Omega.{arith}
-use lib.Dec.{leb, eqb, ltb}
+use lib.Dec.{leb, eqb}
 use lib.ListN.{length, get_or, take, drop}
-use borrow.Author.Tests.{lt-ltb, le-ltb, ltb-false, eq-eqb, leb-true, le-leb, ne_eqb}
+use borrow.Author.Tests.{eq-eqb, eqb-true, eqb-false, leb-true, leb-false, le-leb, lt-leb, ne_eqb}
 use Rattle.std.proofs.lemmas.List.{take_rest}
 use Rattle.finite.proofs.Tests.{both_left, both_right}
 use Rattle.lines.specs.Limits.{max_input, max_output, max_campaign, max_question, max_money, max_u64}
 use Rattle.lines.specs.Form.{input_slot, output_slot, campaign_slot, refusal_slot, money_slot, slot_max, in_slot}
 use Rattle.lines.specs.Reading.{Seen, seen, unseen, value, is_digit, digits, numeral_at, ranged}
-use Rattle.lines.specs.Cited.{fitting}
 
 pub clash : {A : Type 0} → ◌≡◌ {A = ℕ} 0 1 → A
 clash h = absurd (omega arith)
@@ -28,6 +27,15 @@ digit_yes b h l = simp (le-leb 48 b h, le-leb b 57 l)
 pub digit_from : (b : ℕ) → is_digit b ≡ true → (48 ≤ b) × (b ≤ 57)
 unfolding is_digit
 digit_from b e = (leb-true 48 b (both_left (leb 48 b) (leb b 57) e), leb-true b 57 (both_right (leb 48 b) (leb b 57) e))
+
+-- whether a further digit stays within m, where all but the last are at the limit or past it
+pub last_digit : (n d m : ℕ) → m / 10 ≤ n → (eqb n (m / 10) && leb d (m % 10)) ≡ leb (n * 10 + d) m
+last_digit n d m h = go (eqb n (m / 10)) (leb d (m % 10)) refl refl
+  where
+    go : (x y : Bool) → eqb n (m / 10) ≡ x → leb d (m % 10) ≡ y → (x && y) ≡ leb (n * 10 + d) m
+    go true true p q = sym (le-leb (n * 10 + d) m (omega (arith, eqb-true n (m / 10) p, leb-true d (m % 10) q)))
+    go true false p q = sym (lt-leb (n * 10 + d) m (omega (arith, eqb-true n (m / 10) p, leb-false d (m % 10) q)))
+    go false y p q = sym (lt-leb (n * 10 + d) m (omega (arith, eqb-false n (m / 10) p)))
 
 -- more digits make no smaller number
 pub digits_least : (l : List ℕ) (a : ℕ) → a ≤ value (digits a l)
@@ -57,17 +65,6 @@ digits_stop n (b ∷ l) h = go (is_digit b) refl
     go : (t : Bool) → is_digit b ≡ t → cond t (digits (n * 10 + (b - 48)) l) (seen n (b ∷ l)) ≡ seen n (b ∷ l)
     go true e = let d = digit_from b e in absurd (h (omega arith) d.0 d.1)
     go false e = refl
-
--- a number that does not fit stays one, whatever follows
-pub digits_over : (n : ℕ) (r : List ℕ) (s : Seen) → digits n r ≡ s → 2 ^ 64 ≤ n → fitting s ≡ unseen
-digits_over n r s e h = go s (omega (arith, digits_least r n, ap value e))
-  where
-    go : (s : Seen) → 2 ^ 64 ≤ value s → fitting s ≡ unseen
-    go unseen k = refl
-    go (seen m l) k = simp (le-ltb m (2 ^ 64) k)
-
-pub digits_fit : (n : ℕ) (l : List ℕ) (s : Seen) → s ≡ seen n l → n < 2 ^ 64 → fitting s ≡ seen n l
-digits_fit n l s e h = ap fitting e ∙ simp (lt-ltb n (2 ^ 64) h)
 
 -- a numeral by its first byte
 
@@ -118,6 +115,14 @@ slot_most slot n h =
 pub slot_small : (slot n : ℕ) → in_slot slot n ≡ true → n < 2 ^ 64
 slot_small slot n h = omega (arith, slot_most slot n h, max_range slot)
 
+pub slot_yes : (slot n : ℕ) → 1 ≤ n → n ≤ slot_max slot → in_slot slot n ≡ true
+unfolding in_slot
+slot_yes slot n h m = go (not (eqb slot refusal_slot))
+  where
+    go : (t : Bool) → ((t || leb 1 n) && leb n (slot_max slot)) ≡ true
+    go true = le-leb n (slot_max slot) m
+    go false = simp (le-leb 1 n h) (le-leb n (slot_max slot) m)
+
 pub ranged_yes : (slot n : ℕ) (l : List ℕ) → in_slot slot n ≡ true → ranged slot (seen n l) ≡ seen n l
 ranged_yes slot n l e = simp e
 
@@ -142,12 +147,3 @@ ranged_sound slot n m (seen k l) e = go (in_slot slot k) refl e
         → (seen k l ≡ seen n m) × (in_slot slot n ≡ true)
     go true f q = let z : k ≡ n = cc in (q, ap (in_slot slot) (sym z) ∙ f)
     go false f q = clash (cc)
-
--- what does not fit 64 bits is in no range
-pub fitting_not : (slot : ℕ) (s : Seen) → unseen ≡ fitting s → ranged slot s ≡ unseen
-fitting_not slot unseen e = refl
-fitting_not slot (seen m k) e = go (ltb m (2 ^ 64)) refl e
-  where
-    go : (t : Bool) → ltb m (2 ^ 64) ≡ t → unseen ≡ cond t (seen m k) unseen → ranged slot (seen m k) ≡ unseen
-    go true f e = clash (cc)
-    go false f e = ranged_above slot (seen m k) (omega (arith, ltb-false m (2 ^ 64) f, max_range slot))

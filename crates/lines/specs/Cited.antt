@@ -1,6 +1,6 @@
 -- How the contracts of the reader's inner functions speak of what they found. Nothing that a caller of the crate relies
 -- on is defined here.
-use Rattle.std.specs.Prelude.{ℕ, ◌^◌, cond, List, [], ◌∷◌, ltb, Option, Some, None}
+use Rattle.std.specs.Prelude.{ℕ, List, [], ◌∷◌, Option, Some, None}
 use Rattle.std.specs.Borrow.{Bor}
 use Rattle.lines.specs.Reading.{Rest, none, some, Seen, seen, unseen, strip}
 
@@ -8,11 +8,6 @@ use Rattle.lines.specs.Reading.{Rest, none, some, Seen, seen, unseen, strip}
 abbrev pub found : Option (ℕ × Bor (List ℕ)) → Seen
 found None = unseen
 found (Some p) = seen p.0 p.1.now
-
--- what was seen, where its number fits 64 bits
-abbrev pub fitting : Seen → Seen
-fitting unseen = unseen
-fitting (seen n l) = cond (ltb n (2 ^ 64)) (seen n l) unseen
 
 -- what is left of a line, where it is
 abbrev pub match_rest : Option (Bor (List ℕ)) → Rest

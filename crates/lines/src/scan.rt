@@ -1,51 +1,59 @@
 // Reading along a line: each function is given what is left of the line, and gives what is left behind what it read.
-ghost use Rattle.std.specs.Prelude.{◌≡◌, get_or, Err};
+ghost use Rattle.std.specs.Prelude.{◌≡◌, ◌+◌, ◌*◌, ◌<◌, ◌≤◌, leb, get_or, Err};
 ghost use Rattle.std.specs.Option.{ok_or};
 ghost use Rattle.refusal.specs.Refusal.{refusal};
-ghost use Rattle.lines.specs.Form.{names_slot};
+ghost use Rattle.lines.specs.Form.{names_slot, slot_max};
 ghost use Rattle.lines.specs.Reading.{some, numeral_at, digits, ranged, slot_at, ended_or};
-ghost use Rattle.lines.specs.Cited.{found, fitting, match_rest, stripped};
+ghost use Rattle.lines.specs.Cited.{found, match_rest, stripped};
 
 use crate::Record;
-use crate::slots::{Lettered, in_slot};
+use crate::slots::{Lettered, MAX_INPUT, in_slot, slot_max};
 
-// The digits at the front as a number, where it fits 64 bits.
-fn digits(s: &[u8]) -> Option<(u64, &[u8])>
-    ensures { found result ≡ fitting (digits 0 s.now) }
+// Whether n * 10 + digit is at most max. Up to the numbers of an input line one test is enough.
+#[inline(always)]
+fn has_room(n: u64, digit: u64, max: u64) -> bool
+    requires { (n ≤ max) × (digit < 10) }
+    ensures { result ≡ leb (n * 10 + digit) max }
 {
-    let mut number: u64 = 0;
+    if max <= MAX_INPUT {
+        return n * 10 + digit <= max;
+    }
+    if n < max / 10 {
+        return true;
+    }
+    (n == max / 10) & (digit <= max % 10)
+}
+
+// The numeral whose first digits, of the value first, end where s begins. A number that leaves the range ends the loop
+// by a jump: what is left behind the numeral waits for no number.
+#[inline(always)]
+fn more_digits(s: &[u8], first: u64, slot: u8) -> Option<(u64, &[u8])>
+    requires { (1 ≤ first) × (first ≤ slot_max slot) }
+    ensures { found result ≡ ranged slot (digits first s.now) }
+{
+    let mut number = first;
     let mut rest = s;
     while let [digit @ b'0'..=b'9', after @ ..] = rest {
-        // the product is tested by a constant: `checked_mul` would divide at each digit
-        if number > u64::MAX / 10 {
+        let digit = u64::from(digit - b'0');
+        if !has_room(number, digit, slot_max(slot)) {
             return None;
         }
-        number = (number * 10).checked_add(u64::from(digit - b'0'))?;
+        number = number * 10 + digit;
         rest = after;
     }
     Some((number, rest))
 }
 
-// The numeral at the front, where its number fits 64 bits. 0 has no digit behind it.
-fn numeral(s: &[u8]) -> Option<(u64, &[u8])>
-    ensures { found result ≡ fitting (numeral_at s.now) }
-{
-    match s {
-        [b'0', rest @ ..] => Some((0, rest)),
-        [b'1'..=b'9', ..] => digits(s),
-        _ => None,
-    }
-}
-
-// The numeral at the front, where its number is in the range of the slot of this letter.
+// The numeral at the front, where its number is in the range of the slot of this letter. 0 has no digit behind it.
+// Inlined, as those above are, since the letter is known at each call.
+#[inline(always)]
 fn number(s: &[u8], slot: u8) -> Option<(u64, &[u8])>
     ensures { found result ≡ ranged slot (numeral_at s.now) }
 {
-    let (number, rest) = numeral(s)?;
-    if in_slot(slot, number) {
-        Some((number, rest))
-    } else {
-        None
+    match s {
+        [b'0', rest @ ..] if in_slot(slot, 0) => Some((0, rest)),
+        [digit @ b'1'..=b'9', rest @ ..] => more_digits(rest, u64::from(digit - b'0'), slot),
+        _ => None,
     }
 }
 
@@ -98,12 +106,14 @@ pub fn field<'a, S: Lettered>(s: Option<&'a [u8]>, word: &[u8], slot: S) -> Opti
     number(s, letter)
 }
 
-// The record r, where the word is all that is left; s as above.
+// The record r, where the word is all that is left; s as above. Not by `==`, which is a call for each line's end.
+#[inline(always)]
 pub fn ended(s: Option<&[u8]>, word: &[u8], r: Record) -> Option<Record>
     ensures { ok_or result (refusal 17) ≡ ended_or (Err (refusal 17)) (stripped word.now (match_rest s.entry)) r }
 {
     let s = s?;
-    if s == word { Some(r) } else { None }
+    let rest = behind(s, word)?;
+    if rest.is_empty() { Some(r) } else { None }
 }
 
 // The byte at the place i, or 0 behind the line.
