@@ -61,11 +61,11 @@ module _ {T L : Type 0} (took : L → List ℕ → L → Type 0) {k : L} where
     }
 
     -- it gave nothing
-    pub heard_ended : v.wire.ended ≡ true → Heard took k m v
-    heard_ended e = record {
+    pub heard_ended : v.wire.ended ≡ true → {q : L} → took k (input_of a.blocks ++ take n l) q → Heard took k q v
+    heard_ended e {q} t = record {
       blocks = a.blocks;
       none_empty = a.reads.none_empty;
-      took_is = a.took_is;
+      took_is = subst (λ (b : List ℕ). took k b q) (no_more a.reads r.reads e) t;
       got_is = more_got a.reads r.reads ∙ ap (counted_on 0) (no_more a.reads r.reads e);
       ended_is = λ i. e;
       failed_ends = r.reads.failed_ends;

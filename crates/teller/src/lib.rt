@@ -4,6 +4,7 @@
 ghost use Rattle.std.specs.Prelude.{◌≡◌, ◌++◌, List, [], ℕ, ◌<◌, length};
 ghost use Rattle.wire.specs.Wires.{Reads};
 ghost use Rattle.teller.specs.Telling.{new_teller, Waits, Told, Heard};
+ghost use Rattle.teller.specs.Cited.{Taken};
 
 use wire::Wire;
 
@@ -58,19 +59,35 @@ impl<T: Copy + Text> Teller<T> {
         self.told = Some(x);
     }
 
-    // The whole input, block after block, until a read gives nothing or fails. Each block is borrowed until it is
-    // taken, so that nothing writes over it. A proved loop has to end: this one has more turns than any run uses up.
+    // One read, and what it gave, which is borrowed until it is taken, so that nothing writes over it.
+    fn hear_block<L: Listener>(
+        &mut self,
+        rt: HostRuntime,
+        listener: &mut L,
+        block: &mut [u8],
+    ) -> usize
+        requires { 0 < length block.old }
+        ensures { Taken L.took self.old listener.old block.new result listener.new self.new }
+    {
+        let n = self.read(rt, block);
+        let given = &block[..n];
+        if n > 0 {
+            listener.take(given);
+        }
+        n
+    }
+
+    // The whole input, block after block, until a read gives nothing or fails. A proved loop has to end: this one has
+    // more turns than any run uses up.
     pub fn hear<L: Listener>(rt: HostRuntime, listener: &mut L, block: &mut [u8]) -> Self
         requires { 0 < length block.old }
         ensures { Heard L.took listener.old listener.new result }
     {
         let mut teller = Teller::new();
         for _ in 0..u64::MAX {
-            let n = teller.read(rt, block);
-            if teller.ended() {
+            if teller.hear_block(rt, listener, block) == 0 {
                 return teller;
             }
-            listener.take(&block[..n]);
         }
         teller
     }
