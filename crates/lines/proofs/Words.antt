@@ -1,12 +1,13 @@
 -- A word at the front of what is left of a line: whether it stands there, and whether nothing stands behind it.
 use mathlib.Core.Path.{◌≡◌, refl, ap, ◌∙◌}
-use mathlib.Core.Bool.{Bool, true, false, cond}
+use mathlib.Core.Bool.{Bool, true, false, cond, ◌&&◌}
 use mathlib.Core.List.{List, [], ◌∷◌}
 use Prim.Native.Nat.{ℕ, zero, suc, ◌<◌}
 use native.Mathlib.Omega.{arith}
 use lib.Dec.{eqb}
 use lib.ListN.{length, drop, get_or}
 use lib.Seq.{drop-length}
+use lib.Pointwise.{pointwise}
 use borrow.Author.Tests.{eq-eqb, ne_eqb}
 use Rattle.std.specs.Bool.{◌==◌}
 use Rattle.lines.specs.Reading.{none, some, strip, is_end}
@@ -58,3 +59,16 @@ all_same w l = ap (λ (v : List ℕ). stripped v (some l)) (drop-length w)
 pub nothing_left : (l : List ℕ) → is_end (some l) ≡ (length l == 0)
 nothing_left [] = refl
 nothing_left (b ∷ l) = simp (ne_eqb (length (b ∷ l)) 0 (λ p. omega arith))
+
+-- so the word is all that is left just where the two are the same
+pub word_ends : (w l : List ℕ) → is_end (stripped w (some l)) ≡ pointwise eqb l w
+unfolding stripped strip
+word_ends [] [] = refl
+word_ends [] (c ∷ l) = refl
+word_ends (b ∷ w) [] = ap is_end (stripped_none w)
+word_ends (b ∷ w) (c ∷ l) = go (eqb c b) (word_ends w l)
+  where
+    go : (t : Bool) → is_end (stripped w (some l)) ≡ pointwise eqb l w
+        → is_end (stripped w (cond t (some l) none)) ≡ (t && pointwise eqb l w)
+    go true ih = ih
+    go false ih = ap is_end (stripped_none w)

@@ -60,9 +60,9 @@ module _ {T L : Type 0} (took : L → List ℕ → L → Type 0) {k : L} where
       none_told = r.reads.told_is ∙ a.none_told;
     }
 
-    -- it gave nothing
-    pub heard_ended : v.wire.ended ≡ true → {q : L} → took k (input_of a.blocks ++ take n l) q → Heard took k q v
-    heard_ended e {q} t = record {
+    -- it gave nothing, which was taken as any other read is
+    pub heard_last : v.wire.ended ≡ true → {q : L} → took k (input_of a.blocks ++ take n l) q → Heard took k q v
+    heard_last e {q} t = record {
       blocks = a.blocks;
       none_empty = a.reads.none_empty;
       took_is = subst (λ (b : List ℕ). took k b q) (no_more a.reads r.reads e) t;
@@ -72,3 +72,7 @@ module _ {T L : Type 0} (took : L → List ℕ → L → Type 0) {k : L} where
       told_none = r.told_same ∙ a.told_none;
       none_told = r.reads.told_is ∙ a.none_told;
     }
+
+    -- it gave nothing, and nothing more was taken
+    pub heard_ended : v.wire.ended ≡ true → Heard took k m v
+    heard_ended e = heard_last e (subst (λ (b : List ℕ). took k b m) (sym (no_more a.reads r.reads e)) a.took_is)

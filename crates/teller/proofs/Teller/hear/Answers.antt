@@ -2,7 +2,7 @@
 use Rattle.std.proofs.Common.{◌∙◌, ◌==◌, ℕ, ap, refl, arith}
 use Rattle.std.proofs.lemmas.Bool.{ne_eqb}
 use Rattle.wire.specs.Wires.{input_of}
-use Rattle.teller.proofs.Hearing.{hearing_begins, hearing_more, heard_ended, heard_spent}
+use Rattle.teller.proofs.Hearing.{hearing_begins, hearing_more, heard_last, heard_spent}
 use Rattle.teller.proofs.Teller.hear.Goals as goal
 
 pub loop-init : goal.loop-init
@@ -13,7 +13,7 @@ pub returns-then-hear_block-eq0 : goal.returns-then-hear_block-eq0
 returns-then-hear_block-eq0 g c =
     let a = c.loop.invariant.1 in
     let r = c.hear_block.ensures in
-    heard_ended g.L.Listener.took a r.waits (r.waits.reads.ended_is ∙ ap (λ (i : ℕ). i == 0) c.if-hear_block-eq0.true)
+    heard_last g.L.Listener.took a r.waits (r.waits.reads.ended_is ∙ ap (λ (i : ℕ). i == 0) c.if-hear_block-eq0.true)
     (g.met.L.Listener.took_more c.args.listener.now c.loop.listener c.hear_block.new.listener (input_of a.blocks) _
     a.took_is r.took_is)
 
