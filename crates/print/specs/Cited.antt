@@ -19,7 +19,7 @@ counted z slot n = record {
 abbrev pub within : Size → Bool
 within z = is_none z.outside
 
--- y is z with one slot more: what `Size::slot` answers for every size and number (`proofs/Sizes.counts`)
+-- y is z with one slot more, for every size that `Size::slot` takes and every number (`proofs/Sizes.counts`)
 pub record Counted (z : Size) (slot n : ℕ) (y : Size) : Type 0 where
   pub ok : within y ≡ (in_slot slot n && within z)
   pub len : y.len ≡ length (slot_text slot n) + z.len
